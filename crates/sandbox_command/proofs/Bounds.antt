@@ -17,7 +17,7 @@ use Rattle.sandbox_command.specs.declared.program.Executed.{Executed}
 use Rattle.sandbox_command.specs.Execution.{Runs}
 use Rattle.sandbox_command.specs.Status.{EndsWith, load_status, session_status, status_of, volume_status}
 
-of_session : (f : SessionFault) (n : ℕ) → n ≡ session_status f → n ≤ 124
+pub of_session : (f : SessionFault) (n : ℕ) → n ≡ session_status f → n ≤ 124
 of_session opening.Memory n is = omega (arith, is)
 of_session opening.Setting n is = omega (arith, is)
 of_session (opening.Instance f) n is = omega (arith, is)
@@ -28,7 +28,7 @@ of_volume : (f : VolumeFault) (n : ℕ) → n ≡ volume_status f → n ≤ 124
 of_volume volume.Memory n is = omega (arith, is)
 of_volume f n is = omega (arith, is)
 
-of_load : (f : LoadFault) (n : ℕ) → n ≡ load_status f → n ≤ 124
+pub of_load : (f : LoadFault) (n : ℕ) → n ≡ load_status f → n ≤ 124
 of_load loading.Memory n is = omega (arith, is)
 of_load f n is = omega (arith, is)
 

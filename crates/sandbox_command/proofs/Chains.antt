@@ -1,5 +1,5 @@
 -- What a chain of steps is made of.
-use Rattle.std.proofs.Common.{◌≡◌, ◌⊎◌, ◌<◌, ◌≤◌, ◌++◌, ℕ, ◌+◌, Bool, true, false, List, [], ◌∷◌, Option, Some, Result, Ok, Err, IfErr, IsErrAnd, MatchResult, length, take, get_or, inl, inr, refl, sym, ap, ◌∙◌, subst, add-one, true≢false}
+use Rattle.std.proofs.Common.{◌≡◌, ◌⊎◌, ◌<◌, ◌≤◌, ◌++◌, ℕ, ◌+◌, Bool, true, false, List, [], ◌∷◌, Option, Some, None, Result, Ok, Err, IfErr, IsErrAnd, MatchResult, length, take, get_or, inl, inr, refl, sym, ap, ◌∙◌, subst, add-one, true≢false}
 use Rattle.std.proofs.Math.Seq.{take-suc}
 use Rattle.std.proofs.lemmas.List.{take_all}
 use Rattle.std.specs.Borrow.{Bor}
@@ -7,7 +7,8 @@ use Rattle.std.specs.IoError.{error_kind}
 use Rattle.std.specs.declared.io.Error.{Error}
 use Rattle.std.specs.declared.io.ErrorKind.{ErrorKind}
 use Rattle.sandbox_words.specs.Request.{Text}
-use Rattle.sandbox_command.specs.Places.{Access, Reads, Chain, ChainWithFailure, IsRefusedAmong, reads_of}
+use Rattle.sandbox_words.specs.declared.request.Run.{Run}
+use Rattle.sandbox_command.specs.Places.{Access, Makes, Opens, Reads, Receives, Chain, ChainWithFailure, IsRefusedAmong, IsRefusedOfAll, medium_accesses, reads_of, run_accesses, where_named}
 use Rattle.sandbox_command.specs.internal.Tests.{AllEndAs, OneEndsAs}
 
 module _ {A P : Type 0} (step : A → P → P → Type 0) where
@@ -15,6 +16,11 @@ module _ {A P : Type 0} (step : A → P → P → Type 0) where
   pub Chain-push : (xs : List A) (p : P) (m : P) (q : P) (a : A) → Chain step xs p m → step a m q → Chain step (xs ++ (a ∷ [])) p q
   Chain-push [] p m q a is last = (q, subst (λ (s : P). step a s q) is last, refl)
   Chain-push (x ∷ xs) p m q a (n, first, more) last = (n, first, Chain-push xs n m q a more last)
+
+  -- one chain behind the other
+  pub Chain-join : (xs ys : List A) (p m q : P) → Chain step xs p m → Chain step ys m q → Chain step (xs ++ ys) p q
+  Chain-join [] ys p m q is more = subst (λ (s : P). Chain step ys s q) is more
+  Chain-join (x ∷ xs) ys p m q (n, first, rest) more = (n, first, Chain-join xs ys n m q rest more)
 
 module _ {A P : Type 0} (went failed : A → P → P → Type 0) where
   failed_after : (xs : List A) (p m q : P) (a : A) → Chain went xs p m → failed a m q → ChainWithFailure went failed (xs ++ (a ∷ [])) p q
@@ -67,14 +73,115 @@ pub passed : {X : Type 0} (Y : X → Type 0) (N : Error → Type 0) (r : Result 
 passed Y N (Ok x) e is holds = absurd is
 passed Y N (Err f) e is holds = subst N (sym is) holds
 
+pub passed_err : {X : Type 0} (N : Error → Type 0) (r : Result X Error) (e : Error) → IsErrAnd r (λ f. f ≡ e) → N e → IfErr r N
+passed_err N (Ok x) e is holds = tt
+passed_err N (Err f) e is holds = subst N (sym is) holds
+
 -- a result that isn't Ok has an error
 pub of_err : {X : Type 0} (r : Result X Error) (N : ErrorKind → Type 0) → ((x : X) → r ≡ Ok x → ⊥) → IfErr r (λ e. N (error_kind e)) → (kind : ErrorKind) × N kind
 of_err (Ok x) N never refused = absurd (never x refl)
 of_err (Err e) N never refused = (error_kind e, refused)
 
--- a file that is named and couldn't be read
-pub read_refused : {X P : Type 0} (asks : Access → P → P → Type 0) (refuses : Access → ErrorKind → P → P → Type 0) (N : Error → Type 0) (named : Option (Bor Text)) (file : Bor Text) (p q : P) (r : Result X Error)
-    → named ≡ Some file → asks (Reads file.now) p q → IfErr r (λ e. refuses (Reads file.now) (error_kind e) p q) → ((e : Error) → IsRefusedAmong asks refuses (reads_of named) (error_kind e) p q → N e) → IfErr r N
-read_refused asks refuses N named file p q (Ok x) is asked refused then = tt
-read_refused asks refuses N named file p q (Err e) is asked refused then =
-    then e (subst (λ (o : Option (Bor Text)). IsRefusedAmong asks refuses (reads_of o) (error_kind e) p q) (sym is) (inl (asked, refused)))
+-- a file that is named and couldn't be had
+pub named_refused : {X P : Type 0} (asks : Access → P → P → Type 0) (refuses : Access → ErrorKind → P → P → Type 0) (how : Text → Access) (N : Error → Type 0) (named : Option (Bor Text)) (file : Bor Text) (p q : P) (r : Result X Error)
+    → named ≡ Some file → asks (how file.now) p q → IfErr r (λ e. refuses (how file.now) (error_kind e) p q) → ((e : Error) → IsRefusedAmong asks refuses (where_named how named) (error_kind e) p q → N e) → IfErr r N
+named_refused asks refuses how N named file p q (Ok x) is asked refused then = tt
+named_refused asks refuses how N named file p q (Err e) is asked refused then =
+    then e (subst (λ (o : Option (Bor Text)). IsRefusedAmong asks refuses (where_named how o) (error_kind e) p q) (sym is) (inl (asked, refused)))
+
+pub named_asked : {P : Type 0} (asks : Access → P → P → Type 0) (how : Text → Access) (named : Option (Bor Text)) (file : Bor Text) (p q : P) → named ≡ Some file → asks (how file.now) p q → Chain asks (where_named how named) p q
+named_asked asks how named file p q is asked = subst (λ (o : Option (Bor Text)). Chain asks (where_named how o) p q) (sym is) (q, asked, refl)
+
+-- ---- all are asked for
+
+module _ {P : Type 0} (asks : Access → P → P → Type 0) (refuses : Access → ErrorKind → P → P → Type 0) where
+  pub refused-first : (xs ys : List Access) (kind : ErrorKind) (p m q : P) → IsRefusedOfAll asks refuses xs kind p m → Chain asks ys m q → IsRefusedOfAll asks refuses (xs ++ ys) kind p q
+  refused-first [] ys kind p m q none more = absurd none
+  refused-first (x ∷ xs) ys kind p m q (n, first, inl (refused, rest)) more = (n, first, inl (refused, Chain-join asks xs ys n m q rest more))
+  refused-first (x ∷ xs) ys kind p m q (n, first, inr later) more = (n, first, inr (refused-first xs ys kind n m q later more))
+
+  pub refused-later : (xs ys : List Access) (kind : ErrorKind) (p m q : P) → Chain asks xs p m → IsRefusedOfAll asks refuses ys kind m q → IsRefusedOfAll asks refuses (xs ++ ys) kind p q
+  refused-later [] ys kind p m q is refused = subst (λ (s : P). IsRefusedOfAll asks refuses ys kind s q) is refused
+  refused-later (x ∷ xs) ys kind p m q (n, first, rest) refused = (n, first, inr (refused-later xs ys kind n m q rest refused))
+
+  -- of one it is the same
+  pub one_refused : (how : Text → Access) (named : Option (Bor Text)) (kind : ErrorKind) (p q : P) → IsRefusedAmong asks refuses (where_named how named) kind p q → IsRefusedOfAll asks refuses (where_named how named) kind p q
+  one_refused how None kind p q none = none
+  one_refused how (Some file) kind p q (inl (asked, refused)) = (q, asked, inl (refused, refl))
+  one_refused how (Some file) kind p q (inr (m, asked, none)) = absurd none
+
+  medium_refused : (volume image : Option (Bor Text)) (kind : ErrorKind) (p q : P) → IsRefusedAmong asks refuses (medium_accesses volume image) kind p q → IsRefusedOfAll asks refuses (medium_accesses volume image) kind p q
+  medium_refused None image kind p q refused = one_refused Reads image kind p q refused
+  medium_refused (Some file) image kind p q (inl (asked, refused)) = (q, asked, inl (refused, refl))
+  medium_refused (Some file) image kind p q (inr (m, asked, none)) = absurd none
+
+  -- the files of a run alone, one after the other
+  module _ (run : Run) (p a b c d e f q : P)
+      (bytes : asks (Reads run.module.now) p a) (random : Chain asks (reads_of run.random) a b) (medium : Chain asks (medium_accesses run.volume run.image) b c)
+      (input : Chain asks (where_named Opens run.stdin) c d) (out : Chain asks (where_named Makes run.stdout) d e) (err : Chain asks (where_named Makes run.stderr) e f)
+      (received : Chain asks (where_named Receives run.volume_out) f q) where
+    from_err : Chain asks (where_named Makes run.stderr ++ where_named Receives run.volume_out) e q
+    from_err = Chain-join asks (where_named Makes run.stderr) (where_named Receives run.volume_out) e f q err received
+
+    from_out : Chain asks (where_named Makes run.stdout ++ (where_named Makes run.stderr ++ where_named Receives run.volume_out)) d q
+    from_out = Chain-join asks (where_named Makes run.stdout) _ d e q out from_err
+
+    from_input : Chain asks (where_named Opens run.stdin ++ (where_named Makes run.stdout ++ (where_named Makes run.stderr ++ where_named Receives run.volume_out))) c q
+    from_input = Chain-join asks (where_named Opens run.stdin) _ c d q input from_out
+
+    from_medium : Chain asks (medium_accesses run.volume run.image ++ (where_named Opens run.stdin ++ (where_named Makes run.stdout ++ (where_named Makes run.stderr ++ where_named Receives run.volume_out)))) b q
+    from_medium = Chain-join asks (medium_accesses run.volume run.image) _ b c q medium from_input
+
+    from_random : Chain asks (reads_of run.random ++ (medium_accesses run.volume run.image ++ (where_named Opens run.stdin ++ (where_named Makes run.stdout ++ (where_named Makes run.stderr ++ where_named Receives run.volume_out))))) a q
+    from_random = Chain-join asks (reads_of run.random) _ a b q random from_medium
+
+    pub all_asked : Chain asks (run_accesses run) p q
+    all_asked = (a, bytes, from_random)
+
+    pub module_lacks : (kind : ErrorKind) → refuses (Reads run.module.now) kind p a → IsRefusedOfAll asks refuses (run_accesses run) kind p q
+    module_lacks kind refused = (a, bytes, inl (refused, from_random))
+
+    pub random_lacks : (kind : ErrorKind) → IsRefusedAmong asks refuses (reads_of run.random) kind a b → IsRefusedOfAll asks refuses (run_accesses run) kind p q
+    random_lacks kind refused = (a, bytes, inr (refused-first (reads_of run.random) _ kind a b q (one_refused Reads run.random kind a b refused) from_medium))
+
+    pub medium_lacks : (kind : ErrorKind) → IsRefusedAmong asks refuses (medium_accesses run.volume run.image) kind b c → IsRefusedOfAll asks refuses (run_accesses run) kind p q
+    medium_lacks kind refused = (
+      a,
+      bytes,
+      inr (refused-later (reads_of run.random) _ kind a b q random
+          (refused-first (medium_accesses run.volume run.image) _ kind b c q (medium_refused run.volume run.image kind b c refused) from_input)),
+    )
+
+    pub input_lacks : (kind : ErrorKind) → IsRefusedAmong asks refuses (where_named Opens run.stdin) kind c d → IsRefusedOfAll asks refuses (run_accesses run) kind p q
+    input_lacks kind refused = (
+      a,
+      bytes,
+      inr (refused-later (reads_of run.random) _ kind a b q random (refused-later (medium_accesses run.volume run.image) _ kind b c q medium
+          (refused-first (where_named Opens run.stdin) _ kind c d q (one_refused Opens run.stdin kind c d refused) from_out))),
+    )
+
+    pub out_lacks : (kind : ErrorKind) → IsRefusedAmong asks refuses (where_named Makes run.stdout) kind d e → IsRefusedOfAll asks refuses (run_accesses run) kind p q
+    out_lacks kind refused = (
+      a,
+      bytes,
+      inr (refused-later (reads_of run.random) _ kind a b q random (refused-later (medium_accesses run.volume run.image) _ kind b c q medium
+          (refused-later (where_named Opens run.stdin) _ kind c d q input (refused-first (where_named Makes run.stdout) _ kind d e q (one_refused Makes run.stdout kind d e refused) from_err)))),
+    )
+
+    pub err_lacks : (kind : ErrorKind) → IsRefusedAmong asks refuses (where_named Makes run.stderr) kind e f → IsRefusedOfAll asks refuses (run_accesses run) kind p q
+    err_lacks kind refused = (
+      a,
+      bytes,
+      inr (refused-later (reads_of run.random) _ kind a b q random (refused-later (medium_accesses run.volume run.image) _ kind b c q medium
+          (refused-later (where_named Opens run.stdin) _ kind c d q input (refused-later (where_named Makes run.stdout) _ kind d e q out
+          (refused-first (where_named Makes run.stderr) _ kind e f q (one_refused Makes run.stderr kind e f refused) received))))),
+    )
+
+    pub receiver_lacks : (kind : ErrorKind) → IsRefusedAmong asks refuses (where_named Receives run.volume_out) kind f q → IsRefusedOfAll asks refuses (run_accesses run) kind p q
+    receiver_lacks kind refused = (
+      a,
+      bytes,
+      inr (refused-later (reads_of run.random) _ kind a b q random (refused-later (medium_accesses run.volume run.image) _ kind b c q medium
+          (refused-later (where_named Opens run.stdin) _ kind c d q input (refused-later (where_named Makes run.stdout) _ kind d e q out
+          (refused-later (where_named Makes run.stderr) _ kind e f q err (one_refused Receives run.volume_out kind f q refused)))))),
+    )

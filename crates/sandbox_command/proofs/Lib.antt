@@ -1,11 +1,11 @@
 mod Chains
+mod Both
 mod Given
 mod Words
-mod Listing
 mod Lines
 mod Spoken
 mod Began
 mod Bounds
-mod Performing
+mod Finishing
 mod AfterFlush
 mod Seeding

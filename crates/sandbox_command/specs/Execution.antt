@@ -13,6 +13,7 @@ use Rattle.wasm_module.specs.declared.module.Module.{Module}
 use Rattle.wasm_module.specs.Module.{Spells}
 use Rattle.wasm_valid.specs.Validity.{IsValid}
 use Rattle.wasm_valid.specs.Refusal.{IsRefusal}
+use Rattle.wasi_calls.specs.declared.host.settings.Preopen.{Preopen}
 use Rattle.wasi_calls.specs.declared.host.settings.Settings.{Settings}
 use Rattle.sandbox_core.specs.declared.fault.SessionFault.{SessionFault}
 use Rattle.sandbox_core.specs.Session.{given}
@@ -36,7 +37,7 @@ use Rattle.sandbox_command.specs.Checking.{TellsChecked, checked_damage}
 use Rattle.sandbox_command.specs.Inspecting.{Inspects}
 use Rattle.sandbox_command.specs.Status.{ended_status, export_status, failure_status, import_status, load_status, session_status, volume_status}
 use Rattle.sandbox_command.specs.Streams.{AppendsSome, IsSilent}
-use Rattle.sandbox_command.specs.Supplies.{AreSettings, IsUncut, directories_of}
+use Rattle.sandbox_command.specs.Supplies.{AreDirectories, AreSettings, IsUncut, directories_of}
 use Rattle.volume_tasks.specs.Volumes.{IsOpenFor, IsRefusedFor, LeftByOpening}
 use Rattle.sandbox_command.specs.Running.{Launches, LeftByRun}
 
@@ -47,9 +48,11 @@ pub record NotSupplied (run : Run) (status : ℕ) (summary : Option Summary) : T
   pub ends : status ≡ session_status fault
   pub summary_is : summary ≡ Some (not_run run (session_reason fault) kept.None status)
 
--- The bytes are refused: where it isn't memory that was wanting, they spell no valid module; with a fault of decoding, which
--- isn't that a module is not valid either, they spell none.
+-- The words are taken, each directory's word cut at its `=`, and then the bytes are refused: where it isn't memory that was
+-- wanting, they spell no valid module; with a fault of decoding, which isn't that a module is not valid either, they spell none.
 pub record NotLoaded (run : Run) (bytes : List ℕ) (status : ℕ) (summary : Option Summary) : Type 0 where
+  pub preopens : List Preopen
+  pub are_cut : AreDirectories (directories_of run) preopens
   pub fault : LoadFault
   pub refused : fault ≢ Memory → (m : Module) → Spells bytes m → IsValid m → ⊥
   pub spells_none : ¬ IsRefusal fault → (m : Module) → Spells bytes m → ⊥

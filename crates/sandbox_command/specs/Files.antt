@@ -1,35 +1,35 @@
--- What is done on the files that a command line names (`docs/USING.md`, "Commands"). No contract says which bytes a
--- named file has; of a volume's file it is said what a crash leaves, by the premise `KeepsItsModel`.
-use Rattle.std.specs.Prelude.{◌≡◌, ◌⊎◌, ◌≤◌, ℕ, List, Option, Some, None, IsSome, IsSomeAnd, length, min, option_map}
+-- What is done on the files that a command line names (`docs/USING.md`, "Commands"), over any `Places` and, in `IsAnswered`,
+-- over the files of the system. No contract says which bytes a named file has; of a volume's file it is said what a crash
+-- leaves, by the premise `KeepsItsModel`. All that is asked for is said, and that nothing follows on what a command had.
+use Rattle.std.specs.Prelude.{◌≡◌, ◌⊎◌, ◌≤◌, ℕ, List, [], Option, Some, None, IsSome, IsSomeAnd, length, min}
 use Rattle.std.specs.Borrow.{Bor}
 use Rattle.std.specs.declared.fs.File.{File}
-use Rattle.std.specs.Io.KnownBytes.{Keeps}
 use Rattle.std.specs.declared.io.ErrorKind.{ErrorKind as InputKind}
+use Rattle.std.specs.declared.io.Read.{Ghosts as Reader}
+use Rattle.std.specs.declared.io.Write.{Ghosts as Writer}
 use Rattle.clap.specs.declared.error.kind.ErrorKind.{ErrorKind as LineKind}
 use Rattle.clap.specs.Words.{subcommand_of}
 use Rattle.vol_sector.specs.Disk.{Disk}
 use Rattle.sandbox_device.specs.declared.file_device.FileDevice.{FileDevice}
-use Rattle.sandbox_device.specs.declared.ram_device.RamDevice.{RamDevice}
+use Rattle.sandbox_device.specs.declared.opening.Output.{Output}
 use Rattle.sandbox_device.specs.File.{kept, KeepsItsModel}
-use Rattle.run_report.specs.declared.summary.Kept.TheVariants as became
-use Rattle.run_report.specs.declared.summary.Summary.{Summary}
 use Rattle.sandbox_words.specs.declared.request.Run.{Run}
 use Rattle.sandbox_words.specs.declared.request.Invocation.{Invocation}
 use Rattle.sandbox_words.specs.declared.request.Invocation.TheVariants as asked
 use Rattle.sandbox_words.specs.Request.{Text}
 use Rattle.sandbox_words.specs.CommandLine.{AsksFor, program}
 use Rattle.sandbox_command.specs.declared.program.Executed.{Executed}
-use Rattle.sandbox_command.specs.Execution.{ExecutesSo}
-use Rattle.sandbox_command.specs.declared.streams.Source.{Source}
-use Rattle.sandbox_command.specs.declared.streams.Sink.{Sink}
-use Rattle.sandbox_command.specs.Sources.{AreStreams, sink_contents, source_remaining}
-use Rattle.sandbox_command.specs.Status.{command_line_status, words_status}
-use Rattle.sandbox_command.specs.Testing.{HasTested, RunsListed}
-pub use Rattle.sandbox_command.specs.Beginning.{IsImage, IsUnread, memory_disk}
-
--- what is known of the disk of a device in a file
-abbrev pub file_disk : FileDevice File → Disk
-file_disk d = kept d.sectors d.moments.unsynced d.moments.times
+use Rattle.sandbox_command.specs.declared.host_places.HostPlaces.{HostPlaces}
+use Rattle.sandbox_command.specs.declared.streams.Streams.{Streams}
+use Rattle.sandbox_command.specs.Alone.{RunsAlone}
+use Rattle.sandbox_command.specs.Around.{Around, EndsGiven}
+use Rattle.sandbox_command.specs.Execution.{Executes}
+use Rattle.sandbox_command.specs.Inspecting.{Inspects}
+use Rattle.sandbox_command.specs.Places.{Access, Gave, Lengthens, Locks, Reads, Took, WasEnded, WasHandedOut, WasRefused}
+use Rattle.sandbox_command.specs.Status.{command_line_status, file_status, words_status}
+use Rattle.sandbox_command.specs.Streams.{AppendsSome}
+use Rattle.sandbox_command.specs.Testing.{RunsList}
+pub use Rattle.sandbox_command.specs.Beginning.{IsImage, memory_disk}
 
 -- what each run of a list of tests has of its own, or can't have
 abbrev pub IsForOneRun : Run → Type 0
@@ -42,99 +42,100 @@ Clashes (asked.Run run) = (IsSome run.image × IsSome run.volume) ⊎ ((IsSome r
     ⊎ (IsSome run.tests × IsForOneRun run)))
 Clashes _ = ⊥
 
--- A run that names a list of tests, whose options go together, ends as the list does, with a reason where the status isn't 0.
-abbrev pub EndsAsListed : Invocation → ℕ → Type 0
-EndsAsListed (asked.Run run) status = (list : Bor Text) → run.tests ≡ Some list → (Clashes (asked.Run run) → ⊥) → RunsListed run list.now status
-EndsAsListed _ status = Unit {0}
+-- ---- over any places
 
--- a run whose volume is in memory, since it names no file for one; and inspecting a module, which has no use of one
-abbrev pub NamesNoVolume : Invocation → Type 0
-NamesNoVolume (asked.Run run) = run.volume ≡ None
-NamesNoVolume (asked.Inspect «module») = Unit {0}
-NamesNoVolume _ = ⊥
-
--- what prints nothing into a file after it has ended: a run without `--report` and `--volume-out`, and all that is
--- no run
-abbrev pub AsksNothingAfter : Invocation → Type 0
-AsksNothingAfter (asked.Run run) = (run.report ≡ None) × (run.volume_out ≡ None)
-AsksNothingAfter _ = Unit {0}
-
--- the device in memory that a run begins with, or any where there is no use of it
-abbrev pub IsNewInMemory : Invocation → RamDevice → Type 0
-IsNewInMemory (asked.Run run) device = IsImage run.image device.sectors
-IsNewInMemory (asked.Inspect «module») device = Unit {0}
-IsNewInMemory _ device = ⊥
-
--- A device on which no operation failed yet. What is to be formatted is lengthened to its sectors first, or to 65,536.
-abbrev pub IsNewInFile : Invocation → FileDevice File → Type 0
-IsNewInFile (asked.Format file sectors slots large) device = (device.failures ≡ 0) × (min sectors 65536 ≤ length device.sectors)
-IsNewInFile _ device = device.failures ≡ 0
-
--- the report of a run whose volume couldn't be handed out
-abbrev pub lost : Summary → Summary
-lost summary = record summary { status = 124; volume = became.Failed }
-
--- What follows the end of a run: nothing, or its volume was handed out; or, where that is asked for, it couldn't be: 124.
-abbrev pub IsHandedOut : Run → (before : ℕ) → Option Summary → (status : ℕ) → Option Summary → Type 0
-IsHandedOut run before said status summary =
-    ((status ≡ before) × (summary ≡ said)) ⊎ (IsSome run.volume_out × (status ≡ 124) × (summary ≡ option_map lost said))
-
-module _ {D R W1 W2 : Type 0} (is_honest : D → Type 0) (disk : D → Disk) (sectors_on failures : D → ℕ)
-    (remaining : R → Option (List ℕ)) (out_contents : W1 → Option (List ℕ)) (err_contents : W2 → Option (List ℕ)) where
-  -- The invocation was executed on a device that is new, with these streams and with some bytes of the module's file and of
-  -- that of the random bytes, and this is its status, and what the report of a run says. The lines of a run don't follow on
-  -- the side of its errors.
-  pub record IsExecuted (is_new : D → Type 0) (invocation : Invocation) (input : R) (out : W1) (err : W2) (status : ℕ) (summary : Option Summary) : Type 0 where
-    pub bytes : List ℕ
-    pub random : Text
-    pub device : D
-    pub new : is_new device
-    pub left : Executed D R W1 W2
-    pub executes : ExecutesSo is_honest disk sectors_on failures remaining out_contents err_contents Keeps invocation bytes random device input out err left
+module _ {P I O V R W1 W2 : Type 0} (on : Around P I O V R W1 W2) where
+  -- What is no run was executed on a device with the streams that were given, and this is its status; and all that it left was
+  -- given up as it was.
+  pub record HasExecuted (invocation : Invocation) (device : V) (given : Streams R W1 W2) (p q : P) (status : ℕ) : Type 0 where
+    pub left : Executed V R W1 W2
+    pub executes : Executes on.volume.honest on.volume.disk on.volume.size on.volume.failures on.input.remaining on.out.contents on.err.contents
+        invocation [] [] device given.input given.out given.err left
     pub ends : status ≡ left.status
-    pub summary_is : summary ≡ left.summary
+    pub ended : on.places.ended left p q
 
-module _ {R W1 W2 : Type 0} (remaining : R → Option (List ℕ)) (out_contents : W1 → Option (List ℕ)) (err_contents : W2 → Option (List ℕ)) where
-  -- The invocation was executed with these streams: where it names no volume, on sectors in memory, and else on those of a file.
-  abbrev pub IsExecutedOn : Invocation → Source R → Sink W1 → Sink W2 → (status : ℕ) → Option Summary → Type 0
-  IsExecutedOn invocation read written complained status summary =
-      (NamesNoVolume invocation × IsExecuted (λ d. Unit {0}) memory_disk (λ d. length d.sectors) (λ d. 0)
-      (source_remaining remaining) (sink_contents out_contents) (sink_contents err_contents)
-      (IsNewInMemory invocation) invocation read written complained status summary)
-      ⊎ ((NamesNoVolume invocation → ⊥) × IsExecuted (λ d. KeepsItsModel d.file) file_disk (λ d. length d.sectors) (λ d. d.failures)
-      (source_remaining remaining) (sink_contents out_contents) (sink_contents err_contents)
-      (IsNewInFile invocation) invocation read written complained status summary)
+  -- the device of the file of this name, on which no operation failed yet, with at least so many sectors
+  pub record IsNewDevice (name : Text) (least : ℕ) (device : V) : Type 0 where
+    pub is_its_volume : on.places.is_volume name device
+    pub unused : on.volume.failures device ≡ 0
+    pub enough : least ≤ on.volume.size device
 
-  -- The invocation was executed with the streams that were given, but where a run names files for them.
-  abbrev pub IsExecutedOnFiles : Invocation → R → W1 → W2 → (status : ℕ) → Option Summary → Type 0
-  IsExecutedOnFiles invocation input out err status summary =
-      (read : Source R) × (written : Sink W1) × (complained : Sink W2) × AreStreams invocation input out err read written complained
-      × IsExecutedOn invocation read written complained status summary
+  -- One file is asked for. It is refused, and nothing else is done; or what is asked for was executed on it.
+  abbrev pub DoesOn : Access → (name : Text) → (least : ℕ) → Invocation → Streams R W1 W2 → (p q : P) → (status : ℕ) → Type 0
+  DoesOn access name least invocation given p q status = (m : P) × on.places.asked access p m
+      × (((kind : InputKind) × on.places.refused access kind p m × (status ≡ file_status kind) × EndsGiven on given m q)
+      ⊎ ((device : V) × IsNewDevice name least device × HasExecuted invocation device given m q status))
 
-  -- A run couldn't begin with its files; or it was executed with these streams, and its volume handed out or not.
-  abbrev pub HasEndedOn : Invocation → Run → Source R → Sink W1 → Sink W2 → (status : ℕ) → Option Summary → Type 0
-  HasEndedOn invocation run read written complained status summary = IsUnread run status summary
-      ⊎ ((before : ℕ) × (said : Option Summary) × IsExecutedOn invocation read written complained before said × IsHandedOut run before said status summary)
+  -- What these bytes are as a module was printed, nothing was read, and all was given up as it was then.
+  pub record HasInspected (bytes : Text) (given : Streams R W1 W2) (p q : P) (status : ℕ) : Type 0 where
+    pub left : Executed (Unit {0}) R W1 W2
+    pub inspects : Inspects bytes (on.out.contents given.out) (on.out.contents left.out) left.flushed status
+    pub input_is : left.input ≡ given.input
+    pub lines : AppendsSome (on.err.contents given.err) (on.err.contents left.err)
+    pub ended : on.places.ended left p q
 
-  -- the same with the streams that were given, but where it names files for them
-  abbrev pub HasEnded : Invocation → Run → R → W1 → W2 → (status : ℕ) → Option Summary → Type 0
-  HasEnded invocation run input out err status summary = IsUnread run status summary
-      ⊎ ((before : ℕ) × (said : Option Summary) × IsExecutedOnFiles invocation input out err before said × IsHandedOut run before said status summary)
+  -- The file of a module is read. It is refused, and nothing else is done; or its bytes were inspected.
+  abbrev pub DoesInspect : (name : Text) → Streams R W1 W2 → (p q : P) → (status : ℕ) → Type 0
+  DoesInspect name given p q status = (m : P) × on.places.asked (Reads name) p m
+      × (((kind : InputKind) × on.places.refused (Reads name) kind p m × (status ≡ file_status kind) × EndsGiven on given m q)
+      ⊎ ((bytes : Text) × on.places.is_beginning name 67108865 bytes × HasInspected bytes given m q status))
 
-  -- A file or memory is refused before anything is executed, or what is asked for doesn't go together. Or the invocation was
-  -- executed, and this is its status. Or it asks for a report or for its volume, was executed, and that couldn't be printed.
-  -- Or it names a list of tests, and each was run.
-  abbrev pub IsPerformed : Invocation → R → W1 → W2 → ℕ → Type 0
-  IsPerformed invocation input out err status =
-      (status ≡ 122) ⊎ ((status ≡ 124)
-      ⊎ (((summary : Option Summary) × IsExecutedOnFiles invocation input out err status summary)
-      ⊎ (((AsksNothingAfter invocation → ⊥) × (status ≡ 124) × (ended : ℕ) × (summary : Option Summary) × IsExecutedOnFiles invocation input out err ended summary)
-      ⊎ ((status ≡ 0) × HasTested invocation))))
+  -- a list of tests where one is named, else one run
+  abbrev pub RunsNamed : Option (Bor Text) → Run → Streams R W1 W2 → (p q : P) → (status : ℕ) → Type 0
+  RunsNamed None run given p q status = RunsAlone on run given p q status
+  RunsNamed (Some list) run given p q status = RunsList on run list.now given p q status
+
+  -- Options that don't go together are refused, and no file is asked for. Else a run is done, alone or on the tests of a list; or
+  -- what is no run, on the one file that it names.
+  abbrev pub IsPerformed : Invocation → Streams R W1 W2 → (p q : P) → (status : ℕ) → Type 0
+  IsPerformed (asked.Run run) given p q status =
+      (Clashes (asked.Run run) × (status ≡ 124) × EndsGiven on given p q) ⊎ ((Clashes (asked.Run run) → ⊥) × RunsNamed run.tests run given p q status)
+  IsPerformed (asked.Format file sectors slots large) given p q status =
+      DoesOn (Lengthens file.now sectors) file.now (min sectors 65536) (asked.Format file sectors slots large) given p q status
+  IsPerformed (asked.Volume file task) given p q status = DoesOn (Locks file.now) file.now 0 (asked.Volume file task) given p q status
+  IsPerformed (asked.Import file path) given p q status = DoesOn (Locks file.now) file.now 0 (asked.Import file path) given p q status
+  IsPerformed (asked.Export file path) given p q status = DoesOn (Locks file.now) file.now 0 (asked.Export file path) given p q status
+  IsPerformed (asked.Inspect «module») given p q status = DoesInspect «module».now given p q status
+
+-- ---- the files of the system
+
+-- what is known of the disk of a device in a file
+abbrev pub file_disk : FileDevice File → Disk
+file_disk d = kept d.sectors d.moments.unsynced d.moments.times
+
+-- Of the bytes of files nothing is known, and what the system did with a name is known to the code alone that asked for it.
+abbrev pub system : {R W1 W2 : Type 0} → Reader R → Writer W1 → Writer W2 → Around HostPlaces File Output (FileDevice File) R W1 W2
+system input out err = record {
+  places = record {
+    asked = λ access before after. Unit {0};
+    refused = λ access kind before after. WasRefused access kind;
+    is_input = λ name file. Gave name file;
+    is_output = λ name file. Gave name file;
+    is_volume = λ name device. Gave name device;
+    is_image = λ name device. Gave name device;
+    is_text = λ name text. Gave name text;
+    is_beginning = λ name most bytes. Gave name bytes;
+    printed = λ name text before after. Took name text;
+    handed_out = λ name device before after. WasHandedOut name device;
+    ended = λ {X} it before after. WasEnded it;
+  };
+  read = record { remaining = λ file. None };
+  written = record { contents = λ file. None };
+  volume = record { honest = λ d. KeepsItsModel d.file; disk = file_disk; size = λ d. length d.sectors; failures = λ d. d.failures };
+  input = input;
+  out = out;
+  err = err;
+}
+
+module _ {R W1 W2 : Type 0} (input : Reader R) (out : Writer W1) (err : Writer W2) where
+  -- on the files that the system has under their names
+  abbrev pub IsPerformedOnSystem : Invocation → Streams R W1 W2 → (status : ℕ) → Type 0
+  IsPerformedOnSystem invocation given status = (p : HostPlaces) × (q : HostPlaces) × IsPerformed (system input out err) invocation given p q status
 
   -- The words can't be read, or the command line is refused. Or what some words ask for is performed.
-  abbrev pub IsAnswered : R → W1 → W2 → ℕ → Type 0
-  IsAnswered input out err status =
+  abbrev pub IsAnswered : Streams R W1 W2 → (status : ℕ) → Type 0
+  IsAnswered given status =
       ((kind : InputKind) × (status ≡ words_status kind))
       ⊎ (((kind : LineKind) × (status ≡ command_line_status kind))
       ⊎ ((words : List Text) × (invocation : Invocation) × IsSomeAnd (subcommand_of program words) (λ entered. AsksFor entered.0 entered.1 invocation)
-      × IsPerformed invocation input out err status × EndsAsListed invocation status))
+      × IsPerformedOnSystem invocation given status))

@@ -12,6 +12,8 @@ pub mod Inspecting
 pub mod Execution
 pub mod Beginning
 pub mod Places
+pub mod Around
+pub mod Alone
 pub mod Testing
 pub mod Files
 pub mod internal

@@ -1,21 +1,27 @@
--- What is asked of `Places`, which opens, makes, reads and prints into files by name
+-- What is asked of `Places`, through which all is done with files, by name
 -- (`crates/sandbox_command/src/places.rt`): contracts over any `Places` say by `Chain` what was asked for between two
--- of its states, in which order. `Gave`, `Took` and `WasRefused` stand for what the system did with a named file; only
--- the proofs of `HostPlaces` introduce them.
-use Rattle.std.specs.Prelude.{◌≡◌, ◌⊎◌, List, [], ◌∷◌, Option, Some, None}
+-- of its states, in which order. `Gave`, `Took`, `WasRefused`, `WasHandedOut` and `WasEnded` stand for what the system did
+-- with a named file, and for what a command gave up; only the proofs of `HostPlaces` introduce them.
+use Rattle.std.specs.Prelude.{◌≡◌, ◌⊎◌, ◌++◌, ℕ, List, [], ◌∷◌, Option, Some, None}
 use Rattle.std.specs.Borrow.{Bor}
 use Rattle.std.specs.declared.io.ErrorKind.{ErrorKind}
 use Rattle.sandbox_device.specs.declared.ram_device.RamDevice.{RamDevice}
 use Rattle.sandbox_words.specs.declared.request.Run.{Run}
 use Rattle.sandbox_words.specs.Request.{Text}
 
--- A file of this name is opened to read; or opened or made, to be written from its beginning; or read whole and not
--- written; or a report is printed into
--- the one that was made.
+-- A file of this name is opened to read; or opened or made, to be written from its beginning; or one that was made is cut
+-- to nothing; or a file is read whole and not written; or it is that of a volume, which is locked and read, or made or
+-- lengthened to these sectors before; or it is opened and locked to get a volume at the end, and gets it; or a report is
+-- printed into one that was made.
 pub data Access : Type 0 where
   Opens : Text → Access
   Makes : Text → Access
+  Cuts : Text → Access
   Reads : Text → Access
+  Locks : Text → Access
+  Lengthens : Text → ℕ → Access
+  Receives : Text → Access
+  HandsOut : Text → Access
   Prints : Text → Access
 
 -- Each of these took one state on to the next: the first from p, the last to q.
@@ -28,20 +34,52 @@ abbrev pub IsRefusedAmong : {P : Type 0} → (asks : Access → P → P → Type
 IsRefusedAmong asks refuses [] kind p q = ⊥
 IsRefusedAmong asks refuses (a ∷ rest) kind p q = (asks a p q × refuses a kind p q) ⊎ ((m : _) × asks a p m × IsRefusedAmong asks refuses rest kind m q)
 
+-- All of these were asked for in turn, whatever became of each, and one at least was refused, with an error of this kind.
+abbrev pub IsRefusedOfAll : {P : Type 0} → (asks : Access → P → P → Type 0) → (refuses : Access → ErrorKind → P → P → Type 0) → List Access → ErrorKind → P → P → Type 0
+IsRefusedOfAll asks refuses [] kind p q = ⊥
+IsRefusedOfAll asks refuses (a ∷ rest) kind p q = (m : _) × asks a p m × ((refuses a kind p m × Chain asks rest m q) ⊎ IsRefusedOfAll asks refuses rest kind m q)
+
 -- Each of these went well or failed, one after the other, and one at least failed.
 abbrev pub ChainWithFailure : {A P : Type 0} → (went failed : A → P → P → Type 0) → List A → P → P → Type 0
 ChainWithFailure went failed [] p q = ⊥
 ChainWithFailure went failed (a ∷ rest) p q =
     (m : _) × ((failed a p m × Chain (λ b r s. went b r s ⊎ failed b r s) rest m q) ⊎ (went a p m × ChainWithFailure went failed rest m q))
 
+-- this is done with a file, where one is named
+abbrev pub where_named : (Text → Access) → Option (Bor Text) → List Access
+where_named how None = []
+where_named how (Some file) = how file.now ∷ []
+
 -- a file is read whole, where one is named
 abbrev pub reads_of : Option (Bor Text) → List Access
-reads_of None = []
-reads_of (Some file) = Reads file.now ∷ []
+reads_of named = where_named Reads named
 
 -- of a run the module, and then the random bytes where a file of them is named
 abbrev pub file_accesses : Run → List Access
 file_accesses run = Reads run.module.now ∷ reads_of run.random
+
+-- the file of a volume, where one is named; else that of an image, where one is
+abbrev pub medium_accesses : (volume image : Option (Bor Text)) → List Access
+medium_accesses (Some file) image = Locks file.now ∷ []
+medium_accesses None image = reads_of image
+
+-- All files of a run alone but its report. All of them are asked for, whichever is refused, so that it is known which have a
+-- part in the run when its report is made.
+abbrev pub run_accesses : Run → List Access
+run_accesses run = (Reads run.module.now ∷ []) ++ (reads_of run.random ++ (medium_accesses run.volume run.image ++ (where_named Opens run.stdin
+    ++ (where_named Makes run.stdout ++ (where_named Makes run.stderr ++ where_named Receives run.volume_out)))))
+
+-- the file of a report is made and cut to nothing, where one is named
+abbrev pub report_accesses : Option (Bor Text) → List Access
+report_accesses None = []
+report_accesses (Some file) = Makes file.now ∷ (Cuts file.now ∷ [])
+
+-- there is one exactly where one is named, and it is that of the name
+abbrev pub IsOfName : {X : Type 0} → (Text → X → Type 0) → Option (Bor Text) → Option X → Type 0
+IsOfName is None None = Unit {0}
+IsOfName is None (Some x) = ⊥
+IsOfName is (Some file) None = ⊥
+IsOfName is (Some file) (Some x) = is file.now x
 
 -- the device has what was read of an image, where one is named
 abbrev pub IsOfImage : (Text → RamDevice → Type 0) → Option (Bor Text) → RamDevice → Type 0
@@ -53,8 +91,9 @@ abbrev pub IsOfRandom : (Text → Text → Type 0) → Option (Bor Text) → Tex
 IsOfRandom is_beginning None bytes = bytes ≡ []
 IsOfRandom is_beginning (Some file) bytes = is_beginning file.now bytes
 
--- The system gave this for the name; or took this text into the file that it gave; or refused this, and why. No contract says
--- which bytes a named file has, nor what the system refuses, so `gave`, `took` and `was_refused` show it of anything; but only
+-- The system gave this for the name; or took this text into the file that it gave; or refused this, and why; or the file of
+-- the name got this volume; or this was given up as it is. No contract says
+-- which bytes a named file has, nor what the system refuses, so `gave`, `took` and the like show it of anything; but only
 -- the proofs of `HostPlaces` cite these, and all others see relations of which they know nothing.
 pub Gave : {X : Type 0} → Text → X → Type 0
 Gave name x = Unit {0}
@@ -76,3 +115,17 @@ WasRefused access kind = Unit {0}
 pub was_refused : (access : Access) (kind : ErrorKind) → WasRefused access kind
 unfolding WasRefused
 was_refused access kind = tt
+
+pub WasHandedOut : Text → RamDevice → Type 0
+WasHandedOut name device = Unit {0}
+
+pub was_handed_out : (name : Text) (device : RamDevice) → WasHandedOut name device
+unfolding WasHandedOut
+was_handed_out name device = tt
+
+pub WasEnded : {X : Type 0} → X → Type 0
+WasEnded x = Unit {0}
+
+pub was_ended : {X : Type 0} (x : X) → WasEnded x
+unfolding WasEnded
+was_ended x = tt

@@ -1,42 +1,42 @@
--- What an execution reads and writes: the streams that the program was given, or files where a run names them. Of the
--- bytes of such a file nothing is known, so `source_remaining` and `sink_contents` give `None` for it.
-use Rattle.std.specs.Prelude.{◌≡◌, ℕ, List, Option, Some, None}
-use Rattle.sandbox_words.specs.declared.request.Invocation.{Invocation}
-use Rattle.sandbox_words.specs.declared.request.Invocation.TheVariants as asked
+-- What an execution reads and writes: the streams that the program was given, or files where a run names them. A stream
+-- that it was given and that isn't the guest's is spared; the program's own lines go there on the side of errors.
+use Rattle.std.specs.Prelude.{ℕ, List, Option, Some, None}
 use Rattle.sandbox_command.specs.declared.streams.Source.{Source}
 use Rattle.sandbox_command.specs.declared.streams.Source.TheVariants as source
 use Rattle.sandbox_command.specs.declared.streams.Sink.{Sink}
 use Rattle.sandbox_command.specs.declared.streams.Sink.TheVariants as sink
 
 -- the bytes that reads will give, where they are known
-abbrev pub source_remaining : {R : Type 0} → (R → Option (List ℕ)) → Source R → Option (List ℕ)
-source_remaining remaining (source.Given input) = remaining input
-source_remaining remaining (source.Opened file) = None
+abbrev pub source_remaining : {F R : Type 0} → (F → Option (List ℕ)) → (R → Option (List ℕ)) → Source F R → Option (List ℕ)
+source_remaining of_file remaining (source.Given input) = remaining input
+source_remaining of_file remaining (source.Opened file) = of_file file
 
 -- the bytes that were written, where they are known
-abbrev pub sink_contents : {W : Type 0} → (W → Option (List ℕ)) → Sink W → Option (List ℕ)
-sink_contents contents (sink.Given out) = contents out
-sink_contents contents (sink.Made file) = None
-
-abbrev pub IsOpened : {R : Type 0} → Source R → Type 0
-IsOpened (source.Given input) = ⊥
-IsOpened (source.Opened file) = Unit {0}
-
-abbrev pub IsMade : {W : Type 0} → Sink W → Type 0
-IsMade (sink.Given out) = ⊥
-IsMade (sink.Made file) = Unit {0}
+abbrev pub sink_contents : {F W : Type 0} → (F → Option (List ℕ)) → (W → Option (List ℕ)) → Sink F W → Option (List ℕ)
+sink_contents of_file contents (sink.Given out) = contents out
+sink_contents of_file contents (sink.Made file) = of_file file
 
 -- a guest reads the stream that the program was given, or a file where one is named
-abbrev pub IsSource : {A R : Type 0} → Option A → R → Source R → Type 0
-IsSource None input read = read ≡ source.Given input
-IsSource (Some file) input read = IsOpened read
+abbrev pub source_of : {F R : Type 0} → Option F → R → Source F R
+source_of None input = source.Given input
+source_of (Some file) input = source.Opened file
 
 -- and writes to the stream that the program was given, or a file where one is named
-abbrev pub IsSink : {A W : Type 0} → Option A → W → Sink W → Type 0
-IsSink None out written = written ≡ sink.Given out
-IsSink (Some file) out written = IsMade written
+abbrev pub sink_of : {F W : Type 0} → Option F → W → Sink F W
+sink_of None out = sink.Given out
+sink_of (Some file) out = sink.Made file
 
--- The streams of what is executed. Only a run may name files for them.
-abbrev pub AreStreams : {R W1 W2 : Type 0} → Invocation → R → W1 → W2 → Source R → Sink W1 → Sink W2 → Type 0
-AreStreams (asked.Run run) input out err read written complained = IsSource run.stdin input read × IsSink run.stdout out written × IsSink run.stderr err complained
-AreStreams _ input out err read written complained = (read ≡ source.Given input) × (written ≡ sink.Given out) × (complained ≡ sink.Given err)
+-- where there is a file, the stream that was given is spared
+abbrev pub spare_of : {F S : Type 0} → Option F → S → Option S
+spare_of None stream = None
+spare_of (Some file) stream = Some stream
+
+-- the program's own lines go to the guest's errors, or to the stream that was given where that is spared
+abbrev pub own_of : {F W : Type 0} → Sink F W → Option W → Sink F W
+own_of err None = err
+own_of err (Some lines) = sink.Given lines
+
+-- and then the guest's errors are in a file of their own
+abbrev pub guest_of : {F W : Type 0} → Sink F W → Option W → Option (Sink F W)
+guest_of err None = None
+guest_of err (Some lines) = Some err

@@ -1,7 +1,5 @@
--- What private contracts and proofs cite; public contracts do without it. The first three files are about one run (its
--- words, the files of its streams, its seed), then come the inspection of a module and the tests of a list.
+-- What private contracts and proofs cite; public contracts do without it. The first two files are about one run (its
+-- words, its seed), then come the tests of a list.
 pub mod Supplies
-pub mod Redirected
 pub mod Seeds
-pub mod Inspecting
 pub mod Tests

@@ -1,31 +1,26 @@
 //! Commands on the files that they name.
 
-ghost use Rattle.std.specs.Prelude.{◌≡◌, ◌⊎◌, ◌↔◌, ◌≤◌, [], IsTrue};
+ghost use Rattle.std.specs.Prelude.{◌≡◌, ◌≤◌, MatchResult};
 ghost use Rattle.std.specs.IoError.{error_kind};
 ghost use Rattle.std.specs.Process.{exit_status};
-ghost use Rattle.sandbox_command.specs.declared.program.Executed.{Executed};
-ghost use Rattle.sandbox_command.specs.Execution.{Executes};
-ghost use Rattle.sandbox_command.specs.declared.streams.Source.{Source as SourceValue};
-ghost use Rattle.sandbox_command.specs.declared.streams.Source.TheVariants as source;
-ghost use Rattle.sandbox_command.specs.declared.streams.Sink.{Sink as SinkValue};
-ghost use Rattle.sandbox_command.specs.declared.streams.Sink.TheVariants as sink;
-ghost use Rattle.sandbox_command.specs.Sources.{sink_contents, source_remaining};
+ghost use Rattle.sandbox_command.specs.Around.{EndsGiven, around};
+ghost use Rattle.sandbox_command.specs.Files.{HasExecuted, IsAnswered, IsPerformed, IsPerformedOnSystem, DoesInspect};
 ghost use Rattle.sandbox_command.specs.Status.{file_status};
-ghost use Rattle.sandbox_command.specs.Files.{Clashes, EndsAsListed, IsAnswered, IsForOneRun, IsPerformed};
-ghost use Rattle.sandbox_command.specs.internal.Inspecting.{IsInspecting};
 
-use crate::devices::{device_to_format, volume_device};
-use crate::possession::{is_silent, refuse_errors};
+use crate::clashing::clashes;
+use crate::host_places::HostPlaces;
+use crate::inspecting::inspect;
+use crate::opening::MODULE_READ;
+use crate::places::Places;
 use crate::program;
-use crate::runs::{perform_run, read_module};
-use crate::streams::{Sink, Source};
-use sandbox_device::RamDevice;
-use sandbox_words::{Invocation, Run, invocation};
+use crate::runs::{end_refused, run_alone};
+use crate::streams::Streams;
+use crate::testing::run_list;
+use sandbox_words::{Invocation, invocation};
 use std::alloc::Global;
-use std::io::{ErrorKind, Read, Write};
+use std::io::{Read, Write};
 use std::process::ExitCode;
 use std::{env, io};
-use vol_sector::Device;
 
 /// Does what the words of the command line ask for, with these streams, and gives the exit status.
 /// The statuses from 126 on are those of shells and of the script that builds the program, so that
@@ -36,8 +31,7 @@ pub fn exit_code<R: Read + Drop, W1: Write + Drop, W2: Write + Drop>(
     out: W1,
     err: W2,
 ) -> ExitCode
-    ensures tells { IsAnswered R.remaining W1.contents W2.contents input out err
-        (exit_status result) }
+    ensures tells { IsAnswered R.Read W1.Write W2.Write (record { input = input; out = out; err = err }) (exit_status result) }
     ensures within { exit_status result ≤ 125 }
 {
     ExitCode::from(answer(rt, input, out, err))
@@ -49,7 +43,7 @@ fn answer<R: Read + Drop, W1: Write + Drop, W2: Write + Drop>(
     out: W1,
     mut err: W2,
 ) -> u8
-    ensures tells { IsAnswered R.remaining W1.contents W2.contents input out err result }
+    ensures tells { IsAnswered R.Read W1.Write W2.Write (record { input = input; out = out; err = err }) result }
     ensures within { result ≤ 125 }
 {
     match words_given(rt) {
@@ -71,7 +65,7 @@ fn answer_words<R: Read + Drop, W1: Write + Drop, W2: Write + Drop>(
     out: W1,
     mut err: W2,
 ) -> u8
-    ensures tells { IsAnswered R.remaining W1.contents W2.contents input out err result }
+    ensures tells { IsAnswered R.Read W1.Write W2.Write (record { input = input; out = out; err = err }) result }
     ensures within { result ≤ 125 }
 {
     match invocation(rt.alloc(), words) {
@@ -80,131 +74,131 @@ fn answer_words<R: Read + Drop, W1: Write + Drop, W2: Write + Drop>(
     }
 }
 
-/// Executes the invocation on the files that it names: a module, its volume and its streams, a module and a list of tests
-/// that it is run on, a file that is made or lengthened for its sectors, or a volume. Which bytes a named file has no contract says. Where one can't be
-/// read or written, or the report of a run can't be printed, or its volume not be handed out, the status is 124, or 122
-/// where it is out of memory. Options of a run that don't go together are refused before a file is opened.
+/// Does what an invocation asks for on the files of the system, with these streams, and gives the exit status.
 pub fn perform<R: Read + Drop, W1: Write + Drop, W2: Write + Drop>(
     rt: &HostRuntime,
     invocation: &Invocation<'_>,
     input: R,
     out: W1,
-    mut err: W2,
+    err: W2,
 ) -> u8
-    ensures tells { IsPerformed R.remaining W1.contents W2.contents
-        invocation.now input out err result }
-    ensures lists { EndsAsListed invocation.now result }
-    ensures refuses { Clashes invocation.now → result ≡ 124 }
+    ensures tells { IsPerformedOnSystem R.Read W1.Write W2.Write invocation.now (record { input = input; out = out; err = err }) result }
+    ensures within { result ≤ 124 }
+{
+    let mut places = HostPlaces::of(rt, invocation);
+    perform_in(
+        rt.alloc(),
+        &mut places,
+        invocation,
+        Streams { input, out, err },
+    )
+}
+
+/// Does what an invocation asks for on the files that it names: a run of a module, alone or on a list of tests, on its volume
+/// and its streams; what is done with the volume in a file, which is made or lengthened to be formatted; or what a module is.
+/// Where a file can't be read or written, the status is 124, or 122 where it is out of memory. Options of a run that don't go
+/// together are refused before a file is asked for. All that it was given and all that it opened is given up at the end.
+pub fn perform_in<P: Places, R: Read + Drop, W1: Write + Drop, W2: Write + Drop>(
+    alloc: Global,
+    places: &mut P,
+    invocation: &Invocation<'_>,
+    given: Streams<R, W1, W2>,
+) -> u8
+    ensures tells { IsPerformed (around P.Places P.Input.Read P.Output.Write P.Volume.Device R.Read W1.Write W2.Write)
+        invocation.now given places.old places.new result }
     ensures within { result ≤ 124 }
 {
     if clashes(invocation) {
-        return program::refuse_setting(&mut err);
+        return end_clashing(places, given);
     }
-    let opened = match invocation {
-        Invocation::Run(run) => return perform_run(rt, invocation, run, input, out, err),
-        Invocation::Format { file, sectors, .. } => device_to_format(rt, file, *sectors),
-        Invocation::Inspect { module } => {
-            return inspect_file(rt, invocation, module, input, out, err);
-        }
-        Invocation::Volume { file, .. } => volume_device(rt, file),
-        Invocation::Import { file, .. } => volume_device(rt, file),
-        Invocation::Export { file, .. } => volume_device(rt, file),
-    };
-    match opened {
-        Ok(device) => status_on(rt.alloc(), invocation, b"", device, input, out, err),
-        Err(error) => refuse(&error, err),
-    }
-}
-
-/// Whether a run has what is for one run alone: files of its streams or of its report, or a volume that stays.
-fn is_for_one_run(run: &Run<'_>) -> bool
-    ensures { IsTrue result ↔ IsForOneRun run.now }
-{
-    run.stdin.is_some()
-        || run.stdout.is_some()
-        || run.stderr.is_some()
-        || run.report.is_some()
-        || run.volume.is_some()
-        || run.volume_out.is_some()
-}
-
-/// Whether a run has options that don't go together: an image beside a volume, what its volume is to be handed out into
-/// without an image, a seed beside random bytes, or a list of tests beside what is for one run.
-fn clashes(invocation: &Invocation<'_>) -> bool
-    ensures { IsTrue result ↔ Clashes invocation.now }
-{
     match invocation {
-        Invocation::Run(run) => {
-            (run.image.is_some() && run.volume.is_some())
-                || (run.volume_out.is_some() && run.image.is_none())
-                || (run.seed.is_some() && run.random.is_some())
-                || (run.tests.is_some() && is_for_one_run(run))
+        Invocation::Run(run) => match run.tests {
+            Some(list) => run_list(alloc, places, run, list, given),
+            None => run_alone(alloc, places, run, given),
+        },
+        Invocation::Inspect { module } => inspect_file(alloc, places, module, given),
+        Invocation::Format { file, sectors, .. } => {
+            let device = places.lengthen(file, *sectors);
+            execute_on(alloc, places, invocation, device, given)
         }
-        _ => false,
+        Invocation::Volume { file, .. } => {
+            let device = places.lock(file);
+            execute_on(alloc, places, invocation, device, given)
+        }
+        Invocation::Import { file, .. } => {
+            let device = places.lock(file);
+            execute_on(alloc, places, invocation, device, given)
+        }
+        Invocation::Export { file, .. } => {
+            let device = places.lock(file);
+            execute_on(alloc, places, invocation, device, given)
+        }
     }
 }
 
-/// The bytes of a module's file, and a device, which inspecting them has no use of.
-fn module_of(rt: &HostRuntime, path: &str) -> io::Result<(Vec<u8>, RamDevice)> {
-    refuse_errors(rt, path)?;
-    Ok((read_module(rt, path)?, RamDevice::new(rt.alloc(), 0)?))
+/// Says that options don't go together, and gives up the streams.
+fn end_clashing<P: Places, R: Read + Drop, W1: Write + Drop, W2: Write + Drop>(
+    places: &mut P,
+    given: Streams<R, W1, W2>,
+) -> u8
+    ensures status { result ≡ 124 }
+    ensures ends { EndsGiven (around P.Places P.Input.Read P.Output.Write P.Volume.Device R.Read W1.Write W2.Write)
+        given places.old places.new }
+{
+    let mut given = given;
+    let status = program::refuse_setting(&mut given.err);
+    places.end(given);
+    status
+}
+
+/// Executes what is no run on the device of its file, with the streams that were given.
+// A function of its own, since its pieces of files would else be on the stack below a run, too.
+#[inline(never)]
+fn execute_on<P: Places, R: Read + Drop, W1: Write + Drop, W2: Write + Drop>(
+    alloc: Global,
+    places: &mut P,
+    invocation: &Invocation<'_>,
+    device: io::Result<P::Volume>,
+    given: Streams<R, W1, W2>,
+) -> u8
+    ensures tells { MatchResult device
+        (λ device. HasExecuted (around P.Places P.Input.Read P.Output.Write P.Volume.Device R.Read W1.Write W2.Write)
+        invocation.now device given places.old places.new result)
+        (λ error. (result ≡ file_status (error_kind error))
+        × EndsGiven (around P.Places P.Input.Read P.Output.Write P.Volume.Device R.Read W1.Write W2.Write) given places.old places.new) }
+    ensures within { result ≤ 124 }
+{
+    match device {
+        Ok(device) => {
+            let Streams { input, out, err } = given;
+            let left = program::execute(alloc, invocation, b"", b"", device, input, out, err);
+            let status = left.status;
+            places.end(left);
+            status
+        }
+        Err(error) => end_refused(places, &error, given),
+    }
 }
 
 /// Tells what the module in a file is.
-fn inspect_file<R: Read + Drop, W1: Write + Drop, W2: Write + Drop>(
-    rt: &HostRuntime,
-    invocation: &Invocation<'_>,
-    path: &str,
-    input: R,
-    out: W1,
-    err: W2,
-) -> u8
-    requires { IsInspecting invocation.now }
-    ensures tells { IsPerformed R.remaining W1.contents W2.contents
-        invocation.now input out err result }
-    ensures within { result ≤ 124 }
-{
-    match module_of(rt, path) {
-        Ok((module, device)) => {
-            let bytes = module.as_slice();
-            status_on(rt.alloc(), invocation, bytes, device, input, out, err)
-        }
-        Err(error) => refuse(&error, err),
-    }
-}
-
-/// Refuses a file that can't be read or written, by a line that goes into none of the command's files.
-pub(crate) fn refuse<W: Write + Drop>(error: &io::Error, mut err: W) -> u8
-    ensures either { (result ≡ 122) ⊎ (result ≡ 124) }
-    ensures of_kind { result ≡ file_status (error_kind error.now) }
-{
-    if error.kind() == ErrorKind::OutOfMemory {
-        return program::out_of_memory(&mut err);
-    }
-    if is_silent(error) {
-        return program::FAULT;
-    }
-    program::refuse_file(&mut err)
-}
-
-/// Executes what is no run on a device, with the streams that were given, and gives its status alone.
-// A function of its own, since its pieces of files would else be on the stack below a run, too.
-#[inline(never)]
-fn status_on<D: Device + Drop, R: Read + Drop, W1: Write + Drop, W2: Write + Drop>(
+fn inspect_file<P: Places, R: Read + Drop, W1: Write + Drop, W2: Write + Drop>(
     alloc: Global,
-    invocation: &Invocation<'_>,
-    module: &[u8],
-    device: D,
-    input: R,
-    out: W1,
-    err: W2,
+    places: &mut P,
+    path: &str,
+    given: Streams<R, W1, W2>,
 ) -> u8
-    ensures tells { (left : Executed D (SourceValue R) (SinkValue W1) (SinkValue W2))
-        × Executes D.honest D.disk D.size D.failures (source_remaining R.remaining)
-        (sink_contents W1.contents) (sink_contents W2.contents) invocation.now «module».now [] device
-        (source.Given input) (sink.Given out) (sink.Given err) left × (result ≡ left.status) }
+    ensures tells { DoesInspect (around P.Places P.Input.Read P.Output.Write P.Volume.Device R.Read W1.Write W2.Write)
+        path.now given places.old places.new result }
     ensures within { result ≤ 124 }
 {
-    let (input, out, err) = (Source::Given(input), Sink::Given(out), Sink::Given(err));
-    program::execute(alloc, invocation, module, b"", device, input, out, err).status
+    match places.bytes(path, MODULE_READ) {
+        Ok(module) => {
+            let Streams { input, out, err } = given;
+            let left = inspect(alloc, module.as_slice(), (), input, out, err);
+            let status = left.status;
+            places.end(left);
+            status
+        }
+        Err(error) => end_refused(places, &error, given),
+    }
 }

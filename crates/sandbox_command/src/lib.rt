@@ -3,27 +3,29 @@
 #![tactic(auto)]
 
 mod checking;
-mod devices;
+mod clashing;
+mod closing;
 mod ending;
 mod files;
+mod host_places;
 mod inspecting;
+mod opening;
 mod output;
 mod places;
 mod possession;
 mod program;
 mod reporting;
-mod run_files;
 mod runs;
 mod streams;
 mod supplies;
 mod testing;
 
-pub use files::{exit_code, perform};
+pub use files::{exit_code, perform, perform_in};
 pub use places::Places;
 pub use program::{Executed, execute, refuse_command_line, refuse_words};
 pub use run_report::{Summary, print as print_report};
-pub use sandbox_device::{FileDevice, Output, RamDevice};
+pub use sandbox_device::{FileDevice, Hindrance, Output, RamDevice};
 pub use sandbox_words::{Change, Invocation, Limits, ListForm, Run, Task, invocation};
-pub use streams::{Sink, Source};
+pub use streams::{Sink, Source, Spare, Streams};
 pub use testing::run_list;
 pub use volume_tasks::FRESH_SECTORS;

@@ -1,23 +1,32 @@
 //! Where a guest's streams come from and go to.
 
-use sandbox_device::Output;
-use std::fs::File;
+ghost use Rattle.std.specs.Prelude.{◌≡◌, None};
+ghost use Rattle.sandbox_command.specs.Sources.{guest_of, own_of, sink_of, source_of, spare_of};
+
 use std::io;
 use std::io::{Read, Write};
 
+/// Three streams.
+#[derive(Drop)]
+pub struct Streams<R, W1, W2> {
+    pub input: R,
+    pub out: W1,
+    pub err: W2,
+}
+
 /// What a guest reads.
 #[derive(Drop)]
-pub enum Source<R> {
+pub enum Source<F, R> {
     /// What the program was given.
     Given(R),
     /// A file that was opened in its place.
-    Opened(File),
+    Opened(F),
 }
 
-impl<R: Read> Read for Source<R> {
+impl<F: Read, R: Read> Read for Source<F, R> {
     ghost use Rattle.sandbox_command.specs.Sources.{source_remaining};
 
-    ghost remaining = { source_remaining R.remaining };
+    ghost remaining = { source_remaining F.remaining R.remaining };
 
     fn read(&mut self, buf: &mut [u8]) -> io::Result<usize> {
         match self {
@@ -29,17 +38,17 @@ impl<R: Read> Read for Source<R> {
 
 /// What a guest writes to.
 #[derive(Drop)]
-pub enum Sink<W> {
+pub enum Sink<F, W> {
     /// What the program was given.
     Given(W),
     /// A file that was opened or made in its place.
-    Made(Output),
+    Made(F),
 }
 
-impl<W: Write> Write for Sink<W> {
+impl<F: Write, W: Write> Write for Sink<F, W> {
     ghost use Rattle.sandbox_command.specs.Sources.{sink_contents};
 
-    ghost contents = { sink_contents W.contents };
+    ghost contents = { sink_contents F.contents W.contents };
 
     fn write(&mut self, buf: &[u8]) -> io::Result<usize> {
         match self {
@@ -53,5 +62,49 @@ impl<W: Write> Write for Sink<W> {
             Sink::Given(out) => out.flush(),
             Sink::Made(file) => file.flush(),
         }
+    }
+}
+
+/// The streams that the program was given and that a guest doesn't have, since it has files in their place.
+#[derive(Drop)]
+pub struct Spare<R, W1, W2> {
+    pub input: Option<R>,
+    pub out: Option<W1>,
+    pub err: Option<W2>,
+}
+
+/// A file to be read, or the stream that was given; and the one that is spared.
+pub(crate) fn source_of<F: Drop, R: Drop>(file: Option<F>, input: R) -> (Source<F, R>, Option<R>)
+    ensures source { result.0 ≡ source_of file input }
+    ensures spare { result.1 ≡ spare_of file input }
+{
+    match file {
+        Some(file) => (Source::Opened(file), Some(input)),
+        None => (Source::Given(input), None),
+    }
+}
+
+/// A file to be written, or the stream that was given; and the one that is spared.
+pub(crate) fn sink_of<F: Drop, W: Drop>(file: Option<F>, out: W) -> (Sink<F, W>, Option<W>)
+    ensures sink { result.0 ≡ sink_of file out }
+    ensures spare { result.1 ≡ spare_of file out }
+{
+    match file {
+        Some(file) => (Sink::Made(file), Some(out)),
+        None => (Sink::Given(out), None),
+    }
+}
+
+/// Where the program's own lines go, and the file of a guest's errors if they don't go there.
+pub(crate) fn apart<F: Drop, W: Drop>(
+    err: Sink<F, W>,
+    spare: Option<W>,
+) -> (Sink<F, W>, Option<Sink<F, W>>)
+    ensures own { result.0 ≡ own_of err spare }
+    ensures guest { result.1 ≡ guest_of err spare }
+{
+    match spare {
+        Some(lines) => (Sink::Given(lines), Some(err)),
+        None => (err, None),
     }
 }

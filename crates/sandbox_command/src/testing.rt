@@ -3,18 +3,21 @@
 ghost use Rattle.std.specs.Prelude.{◌≡◌, ◌⊎◌, ◌↔◌, ◌++◌, ◌∷◌, IfErr, IfOk, IsTrue, MatchOption, MatchResult, string_bytes};
 ghost use Rattle.std.specs.IoError.{error_kind};
 ghost use Rattle.sandbox_core.specs.declared.fault.SessionFault.TheVariants as opening;
-ghost use Rattle.sandbox_command.specs.Places.{IsRefusedAmong, Prints};
+ghost use Rattle.sandbox_command.specs.Around.{around};
+ghost use Rattle.sandbox_command.specs.Places.{IsRefusedAmong};
 ghost use Rattle.sandbox_command.specs.Status.{session_status};
-ghost use Rattle.sandbox_command.specs.Testing.{AreRead, HasFailed, HasNoTest, HasRun, IsNoTest, IsTest, IsTestedOrUnread, IsWord, LacksFiles, Lists, RunsList, RunsListed, RunsTests, line_of, list_accesses};
+ghost use Rattle.sandbox_command.specs.Testing.{AreRead, HasFailed, HasNoTest, HasRun, IsNoTest, IsTest, IsTestedOrUnread, IsWord, LacksFiles, Lists, RunsLines, RunsList, RunsTests, line_of, list_accesses};
 ghost use Rattle.sandbox_command.specs.internal.Supplies.{AreSupplies};
-ghost use Rattle.sandbox_command.specs.internal.Tests.{AllEndAs, BeginsWithNoWord, IsPrepared, IsToldAs, OneEndsAs};
+ghost use Rattle.sandbox_command.specs.internal.Tests.{AllEndAs, BeginsWithNoWord, IsPrepared, IsTold, OneEndsAs};
+ghost use Rattle.sandbox_command.specs.Streams.{AppendsSome};
 
-use crate::files::refuse;
+use crate::closing::{refuse, unread};
+use crate::opening::{memory_of, read_files};
 use crate::output::tell_fault;
-use crate::places::{HostPlaces, Places};
+use crate::places::Places;
 use crate::program::{load_status, refuse_file, run_valid, session_status};
 use crate::reporting::session_reason;
-use crate::runs::{memory_of, read_files, unread};
+use crate::streams::Streams;
 use crate::supplies::{Supplies, supplied};
 use run_report::{End, Fault, Summary};
 use sandbox_core::{SessionFault, Valid};
@@ -22,7 +25,7 @@ use sandbox_device::RamDevice;
 use sandbox_words::Run;
 use std::alloc::Global;
 use std::io;
-use std::io::Write;
+use std::io::{Read, Write};
 
 /// The names of a test's files.
 #[derive(Clone, Copy)]
@@ -106,8 +109,8 @@ fn prepare<P: Places>(
     test: Test<'_>,
 ) -> io::Result<Prepared<P::Input, P::Output>>
     ensures { MatchResult result
-        (λ prepared. IsPrepared P.asked P.is_input P.is_output P.is_image run.now test.entry places.old places.new prepared)
-        (λ error. LacksFiles P.asked P.refused run.now test.entry (error_kind error) places.old places.new) }
+        (λ prepared. IsPrepared P.Places run.now test.entry places.old places.new prepared)
+        (λ error. LacksFiles P.Places run.now test.entry (error_kind error) places.old places.new) }
 {
     Ok(Prepared {
         input: places.open(test.input)?,
@@ -129,8 +132,7 @@ fn tested<'m, P: Places>(
 ) -> (Valid<'m>, Option<Summary>)
     requires { AreSupplies run.now supplies.now }
     ensures module { result.0 ≡ valid.entry }
-    ensures tested { IsTestedOrUnread P.Input.remaining P.Output.contents P.asked P.refused P.is_input P.is_output P.is_image
-        P.printed run.now valid.entry random.now test.entry places.old places.new result.1 }
+    ensures tested { IsTestedOrUnread P.Places P.Input.Read P.Output.Write run.now valid.entry random.now test.entry places.old places.new result.1 }
 {
     match prepare(alloc, places, run, test) {
         Ok(prepared) => {
@@ -143,25 +145,27 @@ fn tested<'m, P: Places>(
             let (valid, left) = run_valid(
                 alloc, run, valid, supplies, random, device, input, out, err,
             );
-            (valid, left.summary)
+            let summary = left.summary;
+            places.end(left);
+            (valid, summary)
         }
         Err(error) => (valid, Some(unread(run, &error))),
     }
 }
 
-/// Prints the report of a test into its file: whether that could be done, and a guest ran.
+/// Prints the report of a test into its file, and gives that up: whether it could be printed, and a guest ran.
 fn is_told_of_guest<P: Places>(
     places: &mut P,
     name: &str,
-    report: &mut P::Output,
+    report: P::Output,
     summary: &Summary,
 ) -> bool
-    requires { P.is_output name.now report.old }
-    ensures asked { P.asked (Prints name.now) places.old places.new }
-    ensures told { IsToldAs P.refused P.printed result name.now summary.now places.old places.new
-        (P.Output.contents report.old) (P.Output.contents report.new) }
+    requires { P.is_output name.now report }
+    ensures { IsTold P.Places P.Output.Write result name.now report summary.now places.old places.new }
 {
-    let is_printed = places.print(name, report, summary).is_ok();
+    let mut report = report;
+    let is_printed = places.print(name, &mut report, summary).is_ok();
+    places.end(report);
     match summary.end {
         End::Ran(_) => is_printed,
         End::Refused(_) => false,
@@ -182,20 +186,18 @@ fn run_test<'m, P: Places>(
     requires { AreSupplies run.now supplies.now }
     ensures module { result.0 ≡ valid.entry }
     ensures ends { OneEndsAs
-        (HasRun P.Input.remaining P.Output.contents P.asked P.refused P.is_input P.is_output P.is_image P.printed
-        run.now valid.entry random.now)
-        (HasFailed P.Input.remaining P.Output.contents P.asked P.refused P.is_input P.is_output P.is_image P.printed
-        run.now valid.entry random.now)
+        (HasRun P.Places P.Input.Read P.Output.Write run.now valid.entry random.now)
+        (HasFailed P.Places P.Input.Read P.Output.Write run.now valid.entry random.now)
         result.1 test.entry places.old places.new }
 {
-    let Ok(mut report) = places.make(test.report) else {
+    let Ok(report) = places.make(test.report) else {
         return (valid, false);
     };
     let (valid, said) = tested(alloc, places, run, valid, supplies, random, test);
     let Some(summary) = said else {
         return (valid, false);
     };
-    let has_run = is_told_of_guest(places, test.report, &mut report, &summary);
+    let has_run = is_told_of_guest(places, test.report, report, &summary);
     (valid, has_run)
 }
 
@@ -212,10 +214,8 @@ fn run_all<'m, P: Places>(
 ) -> bool
     requires { AreSupplies run.now supplies.now }
     ensures { AllEndAs
-        (HasRun P.Input.remaining P.Output.contents P.asked P.refused P.is_input P.is_output P.is_image P.printed
-        run.now valid.entry random.now)
-        (HasFailed P.Input.remaining P.Output.contents P.asked P.refused P.is_input P.is_output P.is_image P.printed
-        run.now valid.entry random.now)
+        (HasRun P.Places P.Input.Read P.Output.Write run.now valid.entry random.now)
+        (HasFailed P.Places P.Input.Read P.Output.Write run.now valid.entry random.now)
         result tests.now places.old places.new }
 {
     let mut valid = valid;
@@ -231,7 +231,8 @@ fn run_all<'m, P: Places>(
 
 /// Prints the line of what refuses all tests, and gives the status.
 fn refuse_all<W: Write>(err: &mut W, fault: SessionFault) -> u8
-    ensures { result ≡ session_status fault }
+    ensures status { result ≡ session_status fault }
+    ensures line { AppendsSome (W.contents err.old) (W.contents err.new) }
 {
     tell_fault(err, session_reason(fault));
     session_status(fault)
@@ -247,8 +248,8 @@ fn run_tests<P: Places, W: Write>(
     tests: &[Test<'_>],
     err: &mut W,
 ) -> u8
-    ensures { RunsTests P.Input.remaining P.Output.contents P.asked P.refused P.is_input P.is_output P.is_image P.printed
-        run.now «module».now random.now tests.now places.old places.new result }
+    ensures runs { RunsTests P.Places P.Input.Read P.Output.Write run.now «module».now random.now tests.now places.old places.new result }
+    ensures line { AppendsSome (W.contents err.old) (W.contents err.new) }
 {
     let supplies = match supplied(alloc, run) {
         Ok(supplies) => supplies,
@@ -276,8 +277,7 @@ fn list_and_files<P: Places>(
     list: &str,
 ) -> io::Result<(String, Vec<u8>, Vec<u8>)>
     ensures { MatchResult result
-        (λ it. AreRead P.asked P.is_text P.is_beginning run.now list.now places.old places.new
-        (string_bytes it.0) it.1.items it.2.items)
+        (λ it. AreRead P.Places run.now list.now places.old places.new (string_bytes it.0) it.1.items it.2.items)
         (λ error. IsRefusedAmong P.asked P.refused (list_accesses run.now list.now) (error_kind error)
         places.old places.new) }
 {
@@ -286,17 +286,17 @@ fn list_and_files<P: Places>(
     Ok((text, module, random))
 }
 
-/// Runs a module on the tests of a list, each on the files that its line names, and gives the status. Where a line is no
-/// test, nothing is run. The program's own line goes to `err`.
-pub fn run_list<P: Places, W: Write + Drop>(
+/// Runs a module on the tests of a list, each on the files that its line names. Where a line is no test, nothing is run. The
+/// program's own line goes to `err`.
+fn run_lines<P: Places, W: Write>(
     alloc: Global,
     places: &mut P,
     run: &Run<'_>,
     list: &str,
-    mut err: W,
+    err: &mut W,
 ) -> u8
-    ensures { RunsList P.Input.remaining P.Output.contents P.asked P.refused P.is_input P.is_output P.is_image P.printed
-        P.is_text P.is_beginning run.now list.now places.old places.new result }
+    ensures runs { RunsLines P.Places P.Input.Read P.Output.Write run.now list.now places.old places.new result }
+    ensures line { AppendsSome (W.contents err.old) (W.contents err.new) }
 {
     let (text, module, random) = match list_and_files(alloc, places, run, list) {
         Ok(files) => files,
@@ -310,24 +310,26 @@ pub fn run_list<P: Places, W: Write + Drop>(
             module.as_slice(),
             random.as_slice(),
             tests.as_slice(),
-            &mut err,
+            err,
         ),
-        Err(fault) => refuse_all(&mut err, fault),
+        Err(fault) => refuse_all(err, fault),
     }
 }
 
-/// Runs a module on the tests of a list in the files of the system, and gives the status.
-pub(crate) fn perform_tests<W: Write + Drop>(
-    rt: &HostRuntime,
+/// Runs a module on the tests of a list, each on the files that its line names, gives up the streams that it was given, of
+/// which it uses `err` alone, and gives the status.
+pub fn run_list<P: Places, R: Read + Drop, W1: Write + Drop, W2: Write + Drop>(
+    alloc: Global,
+    places: &mut P,
     run: &Run<'_>,
     list: &str,
-    err: W,
+    given: Streams<R, W1, W2>,
 ) -> u8
-    ensures { RunsListed run.now list.now result }
+    ensures { RunsList (around P.Places P.Input.Read P.Output.Write P.Volume.Device R.Read W1.Write W2.Write)
+        run.now list.now given places.old places.new result }
 {
-    let mut places = HostPlaces::new(rt);
-    match places.hold_list(run, list) {
-        Ok(()) => run_list(rt.alloc(), &mut places, run, list, err),
-        Err(error) => refuse(&error, err),
-    }
+    let mut given = given;
+    let status = run_lines(alloc, places, run, list, &mut given.err);
+    places.end(given);
+    status
 }

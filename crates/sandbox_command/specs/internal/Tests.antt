@@ -3,14 +3,15 @@
 use Rattle.std.specs.Prelude.{◌≡◌, ◌⊎◌, ◌++◌, ℕ, List, ◌∷◌, Bool, true, false, Option}
 use Rattle.std.specs.Io.KnownBytes.{Appends}
 use Rattle.std.specs.declared.io.ErrorKind.{ErrorKind}
+use Rattle.std.specs.declared.io.Write.{Ghosts as Writer}
 use Rattle.wasm_steps.specs.declared.pause.Outcome.{Outcome}
 use Rattle.run_report.specs.declared.end.End.TheVariants.{Ran, Refused}
 use Rattle.run_report.specs.declared.fault.Fault.{Fault}
 use Rattle.run_report.specs.declared.summary.Summary.{Summary}
 use Rattle.run_report.specs.Reporting.{report_text}
-use Rattle.sandbox_device.specs.declared.ram_device.RamDevice.{RamDevice}
 use Rattle.sandbox_words.specs.declared.request.Run.{Run}
 use Rattle.sandbox_words.specs.Request.{Text}
+use Rattle.sandbox_command.specs.declared.places.Places.{Ghosts}
 use Rattle.sandbox_command.specs.declared.testing.Prepared.{Prepared}
 use Rattle.sandbox_command.specs.declared.testing.Test.{Test}
 use Rattle.sandbox_command.specs.Beginning.{IsImage}
@@ -22,14 +23,13 @@ abbrev pub BeginsWithNoWord : Text → Type 0
 BeginsWithNoWord text = (word rest : Text) → text ≡ word ++ (32 ∷ rest) → IsWord word → ⊥
 
 -- the files of a test, which were asked for in turn
-pub record IsPrepared {P R W : Type 0} (asks : Access → P → P → Type 0) (is_input : Text → R → Type 0) (is_output : Text → W → Type 0)
-    (is_image : Text → RamDevice → Type 0) (run : Run) (t : Test) (p q : P) (prepared : Prepared R W) : Type 0 where
-  pub asked_for : Chain asks (stream_accesses run t) p q
-  pub input : is_input t.input.now prepared.input
-  pub out : is_output t.output.now prepared.out
-  pub err : is_output t.errors.now prepared.err
+pub record IsPrepared {P I O V : Type 0} (places : Ghosts P I O V) (run : Run) (t : Test) (p q : P) (prepared : Prepared I O) : Type 0 where
+  pub asked_for : Chain places.asked (stream_accesses run t) p q
+  pub input : places.is_input t.input.now prepared.input
+  pub out : places.is_output t.output.now prepared.out
+  pub err : places.is_output t.errors.now prepared.err
   pub new : IsImage run.image prepared.device.sectors
-  pub of_image : IsOfImage is_image run.image prepared.device
+  pub of_image : IsOfImage places.is_image run.image prepared.device
 
 -- A report was printed, and tells of a guest that ran; or it couldn't be printed, or tells of none.
 abbrev pub IsToldAs : {P : Type 0} → (refuses : Access → ErrorKind → P → P → Type 0) → (prints : Text → Text → P → P → Type 0) → Bool → Text → Summary → (p q : P) → (before after : Option (List ℕ)) → Type 0
@@ -37,6 +37,14 @@ IsToldAs refuses prints true name summary p q before after =
     ((outcome : Outcome) × (summary.end ≡ Ran outcome)) × prints name (report_text summary) p q × Appends before after (report_text summary)
 IsToldAs refuses prints false name summary p q before after = ((kind : ErrorKind) × refuses (Prints name) kind p q)
     ⊎ ((fault : Fault) × (summary.end ≡ Refused fault) × prints name (report_text summary) p q)
+
+-- It was printed so, and then its file was given up.
+pub record IsTold {P I O V : Type 0} (places : Ghosts P I O V) (written : Writer O) (is_told : Bool) (name : Text) (report : O) (summary : Summary) (p q : P) : Type 0 where
+  pub printed : P
+  pub asked_for : places.asked (Prints name) p printed
+  pub left : O
+  pub told : IsToldAs places.refused places.printed is_told name summary p printed (written.contents report) (written.contents left)
+  pub ended : places.ended left printed q
 
 -- this one went well, or failed
 abbrev pub OneEndsAs : {A P : Type 0} → (went failed : A → P → P → Type 0) → Bool → A → P → P → Type 0

@@ -4,7 +4,7 @@ use Rattle.sandbox_command.proofs.files.answer_words.Goals as goal
 
 -- what the words ask for was performed
 pub returns-in-Ok-clause-tells : goal.returns-in-Ok-clause-tells
-returns-in-Ok-clause-tells g c = inr (inr (map (string_bytes {Z = Global}) c.args.words.now, c.in-Ok.invocation, c.in-Ok.ensures.asks, c.perform.ensures.tells, c.perform.ensures.lists))
+returns-in-Ok-clause-tells g c = inr (inr (map (string_bytes {Z = Global}) c.args.words.now, c.in-Ok.invocation, c.in-Ok.ensures.asks, c.perform.ensures.tells))
 
 -- the command line is refused
 pub returns-in-Err-clause-tells : goal.returns-in-Err-clause-tells

@@ -7,4 +7,4 @@ returns-clause-within g c = search rules
 
 pub returns-clause-tells : goal.returns-clause-tells
 returns-clause-tells g c =
-    subst (λ (status : ℕ). IsAnswered g.R.Read.remaining g.W1.Write.contents g.W2.Write.contents c.args.input c.args.out c.args.err status) (sym c.from.ensures) c.answer.ensures.tells
+    subst (λ (status : ℕ). IsAnswered g.R.Read g.W1.Write g.W2.Write (record { input = c.args.input; out = c.args.out; err = c.args.err }) status) (sym c.from.ensures) c.answer.ensures.tells

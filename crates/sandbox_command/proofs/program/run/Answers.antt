@@ -18,6 +18,8 @@ returns g c =
     elim c.match-supplied.branch [
       | in-Ok+in-Err-load w ↦ inr (inl (
         record {
+          preopens = w.in-Ok.supplies.preopens.items;
+          are_cut = w.in-Ok.ensures.given.preopens;
           fault = w.in-Err-load.fault;
           refused = w.in-Err-load.ensures.no;
           spells_none = w.in-Err-load.ensures.refused;

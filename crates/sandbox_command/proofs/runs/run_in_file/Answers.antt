@@ -1,24 +1,16 @@
-use Rattle.std.proofs.Common.{inl, inr, refl, sym, subst, length}
-use Rattle.sandbox_device.specs.File.{KeepsItsModel}
-use Rattle.sandbox_words.specs.declared.request.Invocation.{Invocation}
-use Rattle.sandbox_command.specs.Files.{IsNewInFile, NamesNoVolume, file_disk}
-use Rattle.sandbox_command.specs.Sources.{sink_contents, source_remaining}
-use Rattle.sandbox_command.proofs.Performing.{executed}
+use Rattle.std.proofs.Common.{refl}
+use Rattle.sandbox_command.specs.Alone.{HandsNothing}
+use Rattle.sandbox_command.specs.Around.{around}
+use Rattle.sandbox_command.proofs.Finishing.{runs_with}
 use Rattle.sandbox_command.proofs.runs.run_in_file.Goals as goal
 
-pub returns-in-Ok-clause-tells : goal.returns-in-Ok-clause-tells
-returns-in-Ok-clause-tells g c =
-    let tells = c.run_on.ensures.tells in
-    let streams = c.args.streams in
-    inr (
-      _,
-      _,
-      inr (
-        (λ none. c.requires.1 (subst NamesNoVolume c.requires.0 none)),
-        executed (λ d. KeepsItsModel d.file) file_disk (λ d. length d.sectors) (λ d. d.failures) (source_remaining g.R.Read.remaining) (sink_contents g.W1.Write.contents) (sink_contents g.W2.Write.contents)
-            (IsNewInFile c.args.invocation.now) c.args.invocation.now c.args.run.now c.requires.0 c.args.module.now c.args.random.now c.in-Ok.device
-            (subst (λ (i : Invocation). IsNewInFile i c.in-Ok.device) (sym c.requires.0) c.in-Ok.ensures.unused)
-            streams.input streams.out streams.err tells.0 tells.1 _ _ tells.2 tells.3,
-      ),
-      inl (refl, refl),
-    )
+pub returns : goal.returns
+returns g c =
+    let finished = c.finished-left.ensures in
+    runs_with (around g.P.Places g.P.Input.Read g.P.Output.Write g.P.Volume.Device g.R.Read g.W1.Write g.W2.Write) g.P.Volume.Device
+    (λ left before said p q status summary. HandsNothing g.P.Places before said p q status summary)
+    c.args.run.now c.args.device c.args.wired.streams c.args.wired.spare c.args.report
+    _ _ _ _ c.as_slice.ensures.value c.as_slice-2.ensures.value c.run_on-ended.result c.run_on-ended.ensures
+    finished.left.0 finished.left.1 c.finished-left.result.1 finished.left.2 c.told-status.new.err c.told-status.ensures.lines
+    c.finished-left.result.0.status c.finished-left.result.0.summary c.args.places.now c.args.places.now c.told-status.new.places c.end.new.self c.told-status.result
+    (refl, finished.ending.0, finished.ending.1) c.told-status.ensures.tells c.end.ensures

@@ -1,23 +1,29 @@
-use Rattle.std.proofs.Common.{inl, inr, sym, subst, length}
-use Rattle.sandbox_words.specs.declared.request.Invocation.{Invocation}
-use Rattle.sandbox_command.specs.Files.{IsNewInMemory, NamesNoVolume, memory_disk}
-use Rattle.sandbox_command.specs.Sources.{sink_contents, source_remaining}
-use Rattle.sandbox_command.proofs.Performing.{executed}
+use Rattle.std.proofs.Common.{ℕ, Option, ap, subst}
+use Rattle.run_report.specs.declared.summary.Summary.{Summary}
+use Rattle.sandbox_device.specs.declared.ram_device.RamDevice.{RamDevice}
+use Rattle.sandbox_command.specs.Alone.{Hands}
+use Rattle.sandbox_command.specs.Around.{around, in_memory}
+use Rattle.sandbox_command.proofs.Finishing.{runs_with}
+use Rattle.sandbox_command.proofs.Lines.{lines_then}
 use Rattle.sandbox_command.proofs.runs.run_in_memory.Goals as goal
 
-pub returns-clause-tells : goal.returns-clause-tells
-returns-clause-tells g c =
-    let tells = c.run_on-ended.ensures.tells in
-    let streams = c.args.streams in
-    inr (
-      _,
-      _,
-      inl (
-        subst NamesNoVolume (sym c.requires.run.0) c.requires.run.1,
-        executed (λ d. Unit {0}) memory_disk (λ d. length d.sectors) (λ d. 0) (source_remaining g.R.Read.remaining) (sink_contents g.W1.Write.contents) (sink_contents g.W2.Write.contents)
-            (IsNewInMemory c.args.invocation.now) c.args.invocation.now c.args.run.now c.requires.run.0 c.args.module.now c.args.random.now c.args.device
-            (subst (λ (i : Invocation). IsNewInMemory i c.args.device) (sym c.requires.run.0) c.requires.device)
-            streams.input streams.out streams.err tells.0 tells.1 _ _ tells.2 tells.3,
-      ),
-      c.handed_out.ensures,
-    )
+pub returns : goal.returns
+returns g c =
+    let finished = c.finished-left.ensures in
+    let ended = c.run_on-ended.result in
+    let out = c.args.run.now.volume_out in
+    let p = c.args.places.now in
+    let handed = c.handed_out-ending.new.places in
+    let said = c.handed_out-ending.result in
+    runs_with (around g.P.Places g.P.Input.Read g.P.Output.Write g.P.Volume.Device g.R.Read g.W1.Write g.W2.Write) in_memory
+    (λ left before said p q status summary. Hands g.P.Places out left before said p q status summary)
+    c.args.run.now c.args.device c.args.wired.streams c.args.wired.spare c.args.report
+    _ _ _ _ c.as_slice.ensures.value c.as_slice-2.ensures.value ended c.run_on-ended.ensures
+    finished.left.0 finished.left.1 c.finished-left.result.1 finished.left.2 c.told-status.new.err
+    (lines_then _ _ _ c.handed_out-ending.ensures.lines c.told-status.ensures.lines)
+    said.status said.summary p handed c.told-status.new.places c.end.new.self c.told-status.result
+    (subst (λ (d : RamDevice). Hands g.P.Places out d ended.status ended.summary p handed said.status said.summary) (ap (λ l. l.device) finished.left.2)
+    (subst (λ (n : ℕ). Hands g.P.Places out c.finished-left.result.1.device n ended.summary p handed said.status said.summary) finished.ending.0
+    (subst (λ (s : Option Summary). Hands g.P.Places out c.finished-left.result.1.device c.finished-left.result.0.status s p handed said.status said.summary) finished.ending.1
+    c.handed_out-ending.ensures.hands)))
+    c.told-status.ensures.tells c.end.ensures

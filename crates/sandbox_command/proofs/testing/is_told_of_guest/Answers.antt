@@ -31,14 +31,20 @@ module _ {P : Type 0} (refuses : Access → ErrorKind → P → P → Type 0) (p
 
 pub returns-in-Ran : goal.returns-in-Ran
 returns-in-Ran g c = record {
-  asked = c.print.ensures.asked;
+  printed = c.print.new.self;
+  asked_for = c.print.ensures.asked;
+  left = c.print.new.file;
   told = told_of_guest g.P.Places.refused g.P.Places.printed c.args.name.now c.args.summary.now _ _ _ _ c.print.result c.print.ensures.refused c.print.ensures.printed c.print.ensures.tells
       c.is_ok-is_printed.result c.in-Ran.field-0 c.is_ok-is_printed.ensures.value c.in-Ran.is;
+  ended = c.end.ensures;
 }
 
 pub returns-in-Refused : goal.returns-in-Refused
 returns-in-Refused g c = record {
-  asked = c.print.ensures.asked;
+  printed = c.print.new.self;
+  asked_for = c.print.ensures.asked;
+  left = c.print.new.file;
   told = told_of_none g.P.Places.refused g.P.Places.printed c.args.name.now c.args.summary.now _ _ _ _ c.print.result c.print.ensures.refused c.print.ensures.printed c.print.ensures.tells
       c.in-Refused.field-0 c.in-Refused.is;
+  ended = c.end.ensures;
 }

@@ -8,7 +8,7 @@ abbrev pub invariant-loop-test : goal.invariant-loop-test
 invariant-loop-test g l = record {
   valid : l.valid ≡ l.initial.valid;
   ends : AllEndAs
-      (HasRun g.P.Input.Read.remaining g.P.Output.Write.contents g.P.Places.asked g.P.Places.refused g.P.Places.is_input g.P.Places.is_output g.P.Places.is_image g.P.Places.printed l.run l.initial.valid l.random)
-      (HasFailed g.P.Input.Read.remaining g.P.Output.Write.contents g.P.Places.asked g.P.Places.refused g.P.Places.is_input g.P.Places.is_output g.P.Places.is_image g.P.Places.printed l.run l.initial.valid l.random)
+      (HasRun g.P.Places g.P.Input.Read g.P.Output.Write l.run l.initial.valid l.random)
+      (HasFailed g.P.Places g.P.Input.Read g.P.Output.Write l.run l.initial.valid l.random)
       l.have_run (take l.test-index l.tests) l.initial.places l.places;
 }

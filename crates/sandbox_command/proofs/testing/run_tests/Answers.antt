@@ -7,17 +7,17 @@ use Rattle.sandbox_command.proofs.Chains.{failed_some, went_all}
 use Rattle.sandbox_command.proofs.testing.run_tests.Goals as goal
 
 -- the words are refused
-pub returns-in-Err : goal.returns-in-Err
-returns-in-Err g c =
+pub returns-in-Err-clause-runs : goal.returns-in-Err-clause-runs
+returns-in-Err-clause-runs g c =
     inl (
       Some (not_run c.args.run.now (session_reason c.in-Err.fault) kept.None c.refuse_all.result),
-      record { fault = c.in-Err.fault; uncut = c.in-Err.ensures.refused; ends = c.refuse_all.ensures; summary_is = refl },
+      record { fault = c.in-Err.fault; uncut = c.in-Err.ensures.refused; ends = c.refuse_all.ensures.status; summary_is = refl },
       refl,
     )
 
 -- a guest ran in each test
-pub returns-then-run_all : goal.returns-then-run_all
-returns-then-run_all g c =
+pub returns-then-run_all-clause-runs : goal.returns-then-run_all-clause-runs
+returns-then-run_all-clause-runs g c =
     let found = c.in-Ok-load.ensures.found in
     inr (inr (
       c.in-Ok-load.valid,
@@ -26,15 +26,15 @@ returns-then-run_all g c =
       inl (
         refl,
         went_all
-            (HasRun g.P.Input.Read.remaining g.P.Output.Write.contents g.P.Places.asked g.P.Places.refused g.P.Places.is_input g.P.Places.is_output g.P.Places.is_image g.P.Places.printed c.args.run.now c.in-Ok-load.valid c.args.random.now)
-            (HasFailed g.P.Input.Read.remaining g.P.Output.Write.contents g.P.Places.asked g.P.Places.refused g.P.Places.is_input g.P.Places.is_output g.P.Places.is_image g.P.Places.printed c.args.run.now c.in-Ok-load.valid c.args.random.now)
+            (HasRun g.P.Places g.P.Input.Read g.P.Output.Write c.args.run.now c.in-Ok-load.valid c.args.random.now)
+            (HasFailed g.P.Places g.P.Input.Read g.P.Output.Write c.args.run.now c.in-Ok-load.valid c.args.random.now)
             c.run_all.result c.args.tests.now _ _ c.if-run_all.true c.run_all.ensures,
       ),
     ))
 
 -- or not in each
-pub returns-in-Ok-load : goal.returns-in-Ok-load
-returns-in-Ok-load g c =
+pub returns-in-Ok-load-clause-runs : goal.returns-in-Ok-load-clause-runs
+returns-in-Ok-load-clause-runs g c =
     let found = c.in-Ok-load.ensures.found in
     inr (inr (
       c.in-Ok-load.valid,
@@ -43,17 +43,17 @@ returns-in-Ok-load g c =
       inr (
         c.refuse_file.ensures.status,
         failed_some
-            (HasRun g.P.Input.Read.remaining g.P.Output.Write.contents g.P.Places.asked g.P.Places.refused g.P.Places.is_input g.P.Places.is_output g.P.Places.is_image g.P.Places.printed c.args.run.now c.in-Ok-load.valid c.args.random.now)
-            (HasFailed g.P.Input.Read.remaining g.P.Output.Write.contents g.P.Places.asked g.P.Places.refused g.P.Places.is_input g.P.Places.is_output g.P.Places.is_image g.P.Places.printed c.args.run.now c.in-Ok-load.valid c.args.random.now)
+            (HasRun g.P.Places g.P.Input.Read g.P.Output.Write c.args.run.now c.in-Ok-load.valid c.args.random.now)
+            (HasFailed g.P.Places g.P.Input.Read g.P.Output.Write c.args.run.now c.in-Ok-load.valid c.args.random.now)
             c.run_all.result c.args.tests.now _ _ c.if-run_all.false c.run_all.ensures,
       ),
     ))
 
 -- the bytes are refused
-pub returns : goal.returns
-returns g c =
+pub returns-clause-runs : goal.returns-clause-runs
+returns-clause-runs g c =
     inr (inl (
       Some (not_run c.args.run.now (reason.Module c.in-Err-load.fault) kept.None c.load_status.result),
-      record { fault = c.in-Err-load.fault; refused = c.in-Err-load.ensures.no; spells_none = c.in-Err-load.ensures.refused; ends = c.load_status.ensures; summary_is = refl },
+      record { preopens = c.in-Ok.supplies.preopens.items; are_cut = c.in-Ok.ensures.given.preopens; fault = c.in-Err-load.fault; refused = c.in-Err-load.ensures.no; spells_none = c.in-Err-load.ensures.refused; ends = c.load_status.ensures; summary_is = refl },
       refl,
     ))

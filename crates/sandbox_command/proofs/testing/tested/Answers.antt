@@ -7,6 +7,7 @@ returns-in-Ok g c =
     record {
       «module» = c.run_valid-valid.ensures.«module»;
       tested = inr (record {
+        prepared = c.prepare.new.places;
         asked_for = files.asked_for;
         input = c.in-Ok.prepared.input;
         is_its_input = files.input;
@@ -20,8 +21,9 @@ returns-in-Ok g c =
         left = c.run_valid-valid.result.1;
         runs = c.run_valid-valid.ensures.runs;
         summary_is = refl;
+        ended = c.end.ensures;
       });
     }
 
 pub returns-in-Err : goal.returns-in-Err
-returns-in-Err g c = record { «module» = refl; tested = inl (_, c.in-Err.ensures, ap Some c.unread.ensures.of_kind) }
+returns-in-Err g c = record { «module» = refl; tested = inl (_, c.in-Err.ensures, ap Some c.unread.ensures) }

@@ -1,0 +1,152 @@
+-- A run alone that has ended: what it had is given up, and its status is none above 124.
+use Rattle.std.proofs.Common.{◌≡◌, ◌≤◌, ℕ, List, Option, Some, None, inl, inr, refl, sym, subst, arith}
+use Rattle.std.specs.Borrow.{Bor}
+use Rattle.std.specs.Io.KnownBytes.{Keeps}
+use Rattle.std.specs.declared.io.ErrorKind.{ErrorKind}
+use Rattle.std.specs.declared.io.ErrorKind.TheVariants.{OutOfMemory}
+use Rattle.std.specs.declared.io.Read.{Ghosts as Reader}
+use Rattle.std.specs.declared.io.Write.{Ghosts as Writer}
+use Rattle.vol_sector.specs.declared.device.Device.{Ghosts as Known}
+use Rattle.run_report.specs.declared.summary.Summary.{Summary}
+use Rattle.sandbox_device.specs.declared.ram_device.RamDevice.{RamDevice}
+use Rattle.sandbox_words.specs.declared.request.Run.{Run}
+use Rattle.sandbox_words.specs.declared.request.Invocation.{Invocation}
+use Rattle.sandbox_words.specs.declared.request.Invocation.TheVariants as asked
+use Rattle.sandbox_words.specs.Request.{Text}
+use Rattle.sandbox_command.specs.declared.places.Places.{Ghosts}
+use Rattle.sandbox_command.specs.declared.program.Executed.{Executed}
+use Rattle.sandbox_command.specs.declared.closing.Left.{Left}
+use Rattle.sandbox_command.specs.declared.opening.Opened.{Opened}
+use Rattle.sandbox_command.specs.declared.opening.Medium.{Medium}
+use Rattle.sandbox_command.specs.declared.opening.Medium.TheVariants as medium
+use Rattle.sandbox_command.specs.declared.streams.Source.{Source}
+use Rattle.sandbox_command.specs.declared.streams.Sink.{Sink}
+use Rattle.sandbox_command.specs.declared.streams.Spare.{Spare}
+use Rattle.sandbox_command.specs.declared.streams.Streams.{Streams}
+use Rattle.sandbox_command.specs.Alone.{Hands, HandsNothing, IsTold, RunsAlone, RunsOnMedium, RunsWith, left_of}
+use Rattle.sandbox_command.specs.Around.{Around, in_memory}
+use Rattle.sandbox_command.specs.Execution.{Runs}
+use Rattle.sandbox_command.specs.Files.{Clashes, IsPerformed, RunsNamed}
+use Rattle.sandbox_command.specs.Sources.{own_of, sink_contents, source_remaining}
+use Rattle.sandbox_command.specs.Status.{file_status}
+use Rattle.sandbox_command.specs.Streams.{AppendsSome}
+use Rattle.sandbox_command.specs.Testing.{RunsLines}
+use Rattle.sandbox_command.proofs.Bounds.{of_load, of_session, runs_within}
+use Rattle.sandbox_command.proofs.Lines.{lines_then}
+
+-- ---- what it had
+
+module _ {P I O V R W1 W2 : Type 0} (on : Around P I O V R W1 W2) {D : Type 0} (known : Known D)
+    (HandsIt : D → (before : ℕ) → Option Summary → P → P → (status : ℕ) → Option Summary → Type 0)
+    (run : Run) (device : D) (streams : Streams (Source I R) (Sink O W1) (Sink O W2)) (spare : Spare R W1 W2) (report : Option O) where
+  abbrev Ended : (bytes random : List ℕ) → Executed D (Source I R) (Sink O W1) (Sink O W2) → Type 0
+  Ended bytes random left = Runs known.honest known.disk known.size known.failures (source_remaining on.read.remaining on.input.remaining)
+      (sink_contents on.written.contents on.out.contents) (sink_contents on.written.contents on.err.contents) Keeps
+      run bytes random device streams.input streams.out streams.err left
+
+  abbrev told_in : Sink O W2 → Option (List ℕ)
+  told_in own = sink_contents on.written.contents on.err.contents own
+
+  pub runs_with : (bytes items random rest : List ℕ) → bytes ≡ items → random ≡ rest → (left : Executed D (Source I R) (Sink O W1) (Sink O W2)) → Ended bytes random left
+      → (own : Sink O W2) → AppendsSome (told_in (own_of left.err spare.err)) (told_in own) → (all : Left D I O R W1 W2) → all ≡ left_of left spare own
+      → (last : Sink O W2) → AppendsSome (told_in all.own) (told_in last)
+      → (before : ℕ) (summary : Option Summary) (p handed told q : P) (status : ℕ) → HandsIt left.device left.status left.summary p handed before summary
+      → IsTold on.places on.written run.report report summary before handed told status → on.places.ended (record all { own = last }) told q
+      → RunsWith on known HandsIt run items rest device streams spare report p q status
+  runs_with bytes items random rest first second left runs own lines all same last more before summary p handed told q status hands tells ended = record {
+    left = left;
+    runs = subst (λ (b : List ℕ). Ended b rest left) first (subst (λ (b : List ℕ). Ended bytes b left) second runs);
+    before = before;
+    summary = summary;
+    handed = handed;
+    hands = hands;
+    told = told;
+    tells = tells;
+    own = last;
+    lines = lines_then (told_in (own_of left.err spare.err)) (told_in own) (told_in last) lines (subst (λ (l : Left D I O R W1 W2). AppendsSome (told_in l.own) (told_in last)) same more);
+    ended = subst (λ (l : Left D I O R W1 W2). on.places.ended (record l { own = last }) told q) same ended;
+  }
+
+-- its streams
+pub rewired : {A B C R W1 W2 : Type 0} (X : Streams A B C → Spare R W1 W2 → Type 0) (a x : A) → a ≡ x → (b y : B) → b ≡ y → (c z : C) → c ≡ z
+    → (i j : Option R) → i ≡ j → (k l : Option W1) → k ≡ l → (m n : Option W2) → m ≡ n
+    → X (record { input = a; out = b; err = c }) (record { input = i; out = k; err = m }) → X (record { input = x; out = y; err = z }) (record { input = j; out = l; err = n })
+rewired {A = A} {B = B} {C = C} {R = R} {W1 = W1} {W2 = W2} X a x ax b y by c z cz i j ij k l kl m n mn holds =
+    subst (λ (s : A). X (record { input = s; out = y; err = z }) (record { input = j; out = l; err = n })) ax
+    (subst (λ (s : B). X (record { input = a; out = s; err = z }) (record { input = j; out = l; err = n })) by
+    (subst (λ (s : C). X (record { input = a; out = b; err = s }) (record { input = j; out = l; err = n })) cz
+    (subst (λ (s : Option R). X (record { input = a; out = b; err = c }) (record { input = s; out = l; err = n })) ij
+    (subst (λ (s : Option W1). X (record { input = a; out = b; err = c }) (record { input = i; out = s; err = n })) kl
+    (subst (λ (s : Option W2). X (record { input = a; out = b; err = c }) (record { input = i; out = k; err = s })) mn holds)))))
+
+-- ---- its status
+
+within : (n m : ℕ) → n ≡ m → m ≤ 124 → n ≤ 124
+within n m is most = omega (arith, is, most)
+
+pub file_within : (kind : ErrorKind) (n : ℕ) → n ≡ file_status kind → n ≤ 124
+file_within OutOfMemory n is = omega (arith, is)
+file_within kind n is = omega (arith, is)
+
+module _ {P I O V : Type 0} (places : Ghosts P I O V) where
+  told_within : (written : Writer O) (name : Option (Bor Text)) (report : Option O) (summary : Option Summary) (before : ℕ) (p q : P) (status : ℕ) → IsTold places written name report summary before p q status → before ≤ 124 → status ≤ 124
+  told_within written None report summary before p q status is most = within status before is.1 most
+  told_within written (Some name) None summary before p q status is most = absurd is
+  told_within written (Some name) (Some report) None before p q status is most = within status before is.1 most
+  told_within written (Some name) (Some report) (Some summary) before p q status is most = elim is.why [
+    | inl printed ↦ within status before printed.2 most
+    | inr (kind, refused, fault) ↦ omega (arith, fault)
+  ]
+
+  hands_within : (name : Option (Bor Text)) (device : RamDevice) (before : ℕ) (said : Option Summary) (p q : P) (status : ℕ) (summary : Option Summary) → Hands places name device before said p q status summary → before ≤ 124 → status ≤ 124
+  hands_within None device before said p q status summary is most = within status before is.1 most
+  hands_within (Some name) device before said p q status summary (inl (none, is)) most = within status before is.1 most
+  hands_within (Some name) device before said p q status summary (inr (asked, inl (handed, is, same))) most = within status before is most
+  hands_within (Some name) device before said p q status summary (inr (asked, inr (kind, refused, fault, same))) most = omega (arith, fault)
+
+module _ {P I O V R W1 W2 : Type 0} (on : Around P I O V R W1 W2) where
+  with_within : {D : Type 0} (known : Known D) (HandsIt : D → (before : ℕ) → Option Summary → P → P → (status : ℕ) → Option Summary → Type 0)
+      → ((device : D) (before : ℕ) (said : Option Summary) (p q : P) (status : ℕ) (summary : Option Summary) → HandsIt device before said p q status summary → before ≤ 124 → status ≤ 124)
+      → (run : Run) (bytes : List ℕ) (random : Text) (device : D) (streams : Streams (Source I R) (Sink O W1) (Sink O W2)) (spare : Spare R W1 W2) (report : Option O) (p q : P) (status : ℕ)
+      → RunsWith on known HandsIt run bytes random device streams spare report p q status → status ≤ 124
+  with_within known HandsIt keeps run bytes random device streams spare report p q status it =
+      told_within on.places on.written run.report report it.summary it.before it.handed it.told status it.tells
+      (keeps it.left.device it.left.status it.left.summary p it.handed it.before it.summary it.hands
+      (runs_within known.honest known.disk known.size known.failures (source_remaining on.read.remaining on.input.remaining)
+      (sink_contents on.written.contents on.out.contents) (sink_contents on.written.contents on.err.contents) run bytes random device streams.input streams.out streams.err it.left it.runs))
+
+  medium_within : (m : Medium V) (run : Run) (opened : Opened I O V) (given : Streams R W1 W2) (report : Option O) (p q : P) (status : ℕ) → RunsOnMedium on m run opened given report p q status → status ≤ 124
+  medium_within (medium.File device) run opened given report p q status it =
+      with_within on.volume (λ left before said p q status summary. HandsNothing on.places before said p q status summary) (λ left before said p q status summary is most. within status before is.1 most)
+      run _ _ device _ _ report p q status it
+  medium_within (medium.Memory device) run opened given report p q status it =
+      with_within in_memory (λ left before said p q status summary. Hands on.places run.volume_out left before said p q status summary)
+      (λ left before said p q status summary is most. hands_within on.places run.volume_out left before said p q status summary is most)
+      run _ _ device _ _ report p q status it
+
+  pub alone_within : (run : Run) (given : Streams R W1 W2) (p q : P) (status : ℕ) → RunsAlone on run given p q status → status ≤ 124
+  alone_within run given p q status (inl untold) = elim untold.why [
+    | inl (asked, is) ↦ file_within untold.kind status is
+    | inr (first, lacks, is) ↦ file_within first status is
+  ]
+  alone_within run given p q status (inr (inl it)) =
+      told_within on.places on.written run.report it.report _ (file_status it.kind) it.begun it.told status it.tells (file_within it.kind (file_status it.kind) refl)
+  alone_within run given p q status (inr (inr it)) = medium_within it.opened.medium run it.opened given it.report it.begun q status it.runs
+
+  -- ---- what was performed
+
+  pub run_performed : (i : Invocation) (run : Run) (given : Streams R W1 W2) (p q : P) (status : ℕ) → i ≡ asked.Run run → (Clashes i → ⊥) → RunsNamed on run.tests run given p q status → IsPerformed on i given p q status
+  run_performed i run given p q status is never runs =
+      subst (λ (j : Invocation). IsPerformed on j given p q status) (sym is) (inr (subst (λ (j : Invocation). Clashes j → ⊥) is never, runs))
+
+module _ {P I O V : Type 0} (places : Ghosts P I O V) where
+  pub lines_within : (read : Reader I) (written : Writer O) (run : Run) (list : Text) (p q : P) (status : ℕ) → RunsLines places read written run list p q status → status ≤ 124
+  lines_within read written run list p q status (inl (kind, ends, refused)) = file_within kind status ends
+  lines_within read written run list p q status (inr it) = elim it.runs [
+    | inl none ↦ (let is = none.0 in omega (arith, is))
+    | inr (inl memory) ↦ (let is = memory.0 in omega (arith, is))
+    | inr (inr (tests, lists, inl (summary, refused, same))) ↦ of_session refused.fault status refused.ends
+    | inr (inr (tests, lists, inr (inl (summary, refused, same)))) ↦ of_load refused.fault status refused.ends
+    | inr (inr (tests, lists, inr (inr (m, spells, valid, inl (zero, ran))))) ↦ omega (arith, zero)
+    | inr (inr (tests, lists, inr (inr (m, spells, valid, inr (fault, failed))))) ↦ omega (arith, fault)
+  ]

@@ -1,0 +1,27 @@
+use Rattle.std.proofs.Common.{Option, sym, subst, true≢false, ◌∙◌}
+use Rattle.std.specs.Borrow.{Bor}
+use Rattle.sandbox_words.specs.Request.{Text}
+use Rattle.sandbox_command.specs.Around.{around}
+use Rattle.sandbox_command.specs.Files.{RunsNamed}
+use Rattle.sandbox_command.proofs.Finishing.{alone_within, run_performed}
+use Rattle.sandbox_command.proofs.files.perform_in.Goals as goal
+
+-- a list of tests
+pub returns-in-Some-clause-tells : goal.returns-in-Some-clause-tells
+returns-in-Some-clause-tells g c =
+    let on = around g.P.Places g.P.Input.Read g.P.Output.Write g.P.Volume.Device g.R.Read g.W1.Write g.W2.Write in
+    run_performed on c.args.invocation.now c.in-Run.run' c.args.given c.args.places.now c.run_list.new.places c.run_list.result c.in-Run.is
+    (λ clash. true≢false (sym (c.clashes.ensures.1 clash) ∙ c.if-clashes.false))
+    (subst (λ (named : Option (Bor Text)). RunsNamed on named c.in-Run.run' c.args.given c.args.places.now c.run_list.new.places c.run_list.result) (sym c.in-Some.is) c.run_list.ensures)
+
+-- or a run alone
+pub returns-in-None-clause-tells : goal.returns-in-None-clause-tells
+returns-in-None-clause-tells g c =
+    let on = around g.P.Places g.P.Input.Read g.P.Output.Write g.P.Volume.Device g.R.Read g.W1.Write g.W2.Write in
+    run_performed on c.args.invocation.now c.in-Run.run' c.args.given c.args.places.now c.run_alone.new.places c.run_alone.result c.in-Run.is
+    (λ clash. true≢false (sym (c.clashes.ensures.1 clash) ∙ c.if-clashes.false))
+    (subst (λ (named : Option (Bor Text)). RunsNamed on named c.in-Run.run' c.args.given c.args.places.now c.run_alone.new.places c.run_alone.result) (sym c.in-None.is) c.run_alone.ensures)
+
+pub returns-in-None-clause-within : goal.returns-in-None-clause-within
+returns-in-None-clause-within g c =
+    alone_within (around g.P.Places g.P.Input.Read g.P.Output.Write g.P.Volume.Device g.R.Read g.W1.Write g.W2.Write) c.in-Run.run' c.args.given c.args.places.now c.run_alone.new.places c.run_alone.result c.run_alone.ensures

@@ -1,6 +1,0 @@
-use Rattle.sandbox_command.specs.Places.{Reads}
-use Rattle.sandbox_command.proofs.Given.{given, refused}
-use Rattle.sandbox_command.proofs.places.HostPlacesPlaces.bytes.Goals as goal
-
-pub returns : goal.returns
-returns c = record { asked = tt; refused = refused (Reads c.args.name.now) c.bytes_of.result; bytes = given c.args.name.now (λ v. v.items) c.bytes_of.result }

@@ -1,6 +1,0 @@
-use Rattle.sandbox_command.specs.Places.{Makes}
-use Rattle.sandbox_command.proofs.Given.{given, refused}
-use Rattle.sandbox_command.proofs.places.HostPlacesPlaces.make.Goals as goal
-
-pub returns : goal.returns
-returns c = record { asked = tt; refused = refused (Makes c.args.name.now) c.made.result; output = given c.args.name.now (λ x. x) c.made.result }

@@ -1,6 +1,0 @@
-use Rattle.sandbox_command.specs.Places.{Opens}
-use Rattle.sandbox_command.proofs.Given.{given, refused}
-use Rattle.sandbox_command.proofs.places.HostPlacesPlaces.open.Goals as goal
-
-pub returns : goal.returns
-returns c = record { asked = tt; refused = refused (Opens c.args.name.now) c.opened.result; input = given c.args.name.now (λ x. x) c.opened.result }

@@ -1,0 +1,16 @@
+use Rattle.std.proofs.Common.{ℕ, Some, subst}
+use Rattle.std.specs.IoError.{error_kind}
+use Rattle.run_report.specs.declared.summary.Summary.{Summary}
+use Rattle.sandbox_command.specs.Alone.{IsTold}
+use Rattle.sandbox_command.specs.Beginning.{unread}
+use Rattle.sandbox_command.proofs.Lines.{lines_then}
+use Rattle.sandbox_command.proofs.runs.end_unread.Goals as goal
+
+pub returns : goal.returns
+returns g c =
+    let run = c.args.run.now in (
+      c.told-status.new.places,
+      subst (λ (before : ℕ). IsTold g.P.Places g.P.Output.Write run.report c.args.report (Some (unread run (error_kind c.args.error.now))) before c.args.places.now c.told-status.new.places c.told-status.result) c.refuse.ensures.status
+          (subst (λ (said : Summary). IsTold g.P.Places g.P.Output.Write run.report c.args.report (Some said) c.refuse.result c.args.places.now c.told-status.new.places c.told-status.result) c.unread.ensures c.told-status.ensures.tells),
+      (c.told-status.new.err, lines_then _ _ _ c.refuse.ensures.line c.told-status.ensures.lines, c.end.ensures),
+    )

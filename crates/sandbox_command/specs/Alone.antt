@@ -1,0 +1,187 @@
+-- A run alone, on the files that its words name (`docs/USING.md`, "The command `run`"), over any `Places`: what is asked for in
+-- turn, what the run begins with, how it ends, and that nothing follows on what it had.
+use Rattle.std.specs.Prelude.{◌≡◌, ◌⊎◌, ℕ, List, Option, Some, None, option_map}
+use Rattle.std.specs.Borrow.{Bor}
+use Rattle.std.specs.Io.KnownBytes.{Appends, Keeps}
+use Rattle.std.specs.declared.io.ErrorKind.{ErrorKind}
+use Rattle.std.specs.declared.io.ErrorKind.TheVariants.{OutOfMemory}
+use Rattle.std.specs.declared.io.Write.{Ghosts as Writer}
+use Rattle.vol_sector.specs.declared.device.Device.{Ghosts as Known}
+use Rattle.wasm_steps.specs.declared.pause.Outcome.{Outcome}
+use Rattle.run_report.specs.declared.end.End.TheVariants.{Ran}
+use Rattle.run_report.specs.declared.summary.Kept.TheVariants as became
+use Rattle.run_report.specs.declared.summary.Summary.{Summary}
+use Rattle.run_report.specs.Reporting.{report_text}
+use Rattle.sandbox_device.specs.declared.ram_device.RamDevice.{RamDevice}
+use Rattle.sandbox_words.specs.declared.request.Run.{Run}
+use Rattle.sandbox_words.specs.Request.{Text}
+use Rattle.sandbox_command.specs.declared.program.Executed.{Executed}
+use Rattle.sandbox_command.specs.declared.streams.Source.{Source}
+use Rattle.sandbox_command.specs.declared.streams.Sink.{Sink}
+use Rattle.sandbox_command.specs.declared.streams.Spare.{Spare}
+use Rattle.sandbox_command.specs.declared.streams.Streams.{Streams}
+use Rattle.sandbox_command.specs.declared.places.Places.{Ghosts}
+use Rattle.sandbox_command.specs.declared.opening.Opened.{Opened}
+use Rattle.sandbox_command.specs.declared.opening.Medium.{Medium}
+use Rattle.sandbox_command.specs.declared.opening.Medium.TheVariants as medium
+use Rattle.sandbox_command.specs.declared.closing.Left.{Left}
+use Rattle.sandbox_command.specs.Around.{Around, EndsGiven, in_memory}
+use Rattle.sandbox_command.specs.Beginning.{IsImage, unread}
+use Rattle.sandbox_command.specs.Execution.{Runs}
+use Rattle.sandbox_command.specs.Places.{Chain, HandsOut, IsOfImage, IsOfName, IsOfRandom, IsRefusedAmong, IsRefusedOfAll, Prints, report_accesses, run_accesses}
+use Rattle.sandbox_command.specs.Sources.{guest_of, own_of, sink_contents, sink_of, source_of, source_remaining, spare_of}
+use Rattle.sandbox_command.specs.Status.{file_status}
+use Rattle.sandbox_command.specs.Streams.{AppendsSome}
+
+-- the report of a run whose volume couldn't be handed out
+abbrev pub lost : Summary → Summary
+lost summary = record summary { status = 124; volume = became.Failed }
+
+module _ {P I O V : Type 0} (places : Ghosts P I O V) where
+  -- ---- the files of a run
+
+  -- its volume is that of its file; or it is in memory, with the sectors of its image, or zeros
+  abbrev pub IsMedium : Known V → (volume image : Option (Bor Text)) → Medium V → Type 0
+  IsMedium known (Some file) image (medium.File device) = places.is_volume file.now device × (known.failures device ≡ 0)
+  IsMedium known (Some file) image (medium.Memory device) = ⊥
+  IsMedium known None image (medium.File device) = ⊥
+  IsMedium known None image (medium.Memory device) = IsImage image device.sectors × IsOfImage places.is_image image device
+
+  -- what the files of these names gave
+  pub record AreOpened (known : Known V) (run : Run) (opened : Opened I O V) : Type 0 where
+    pub its_module : places.is_beginning run.module.now 67108865 opened.module.items
+    pub its_random : IsOfRandom (λ name. places.is_beginning name 67108864) run.random opened.random.items
+    pub its_medium : IsMedium known run.volume run.image opened.medium
+    pub its_input : IsOfName places.is_input run.stdin opened.stdin
+    pub its_out : IsOfName places.is_output run.stdout opened.stdout
+    pub its_err : IsOfName places.is_output run.stderr opened.stderr
+
+  -- All were asked for, and one was refused; or memory was wanting for the sectors of a run that names none.
+  abbrev pub Lacks : Run → ErrorKind → P → P → Type 0
+  Lacks run kind p q = IsRefusedOfAll places.asked places.refused (run_accesses run) kind p q
+      ⊎ ((run.volume ≡ None) × (run.image ≡ None) × (kind ≡ OutOfMemory) × Chain places.asked (run_accesses run) p q)
+
+  -- ---- its report
+
+  -- The file of its report was made and cut, where one is named.
+  abbrev pub HasReport : Option (Bor Text) → P → P → Option O → Type 0
+  HasReport name p q report = Chain places.asked (report_accesses name) p q × IsOfName places.is_output name report
+
+  -- ---- its volume
+
+  -- nothing is handed out
+  abbrev pub HandsNothing : (before : ℕ) → Option Summary → P → P → (status : ℕ) → Option Summary → Type 0
+  HandsNothing before said p q status summary = (q ≡ p) × (status ≡ before) × (summary ≡ said)
+
+  -- The volume of a guest that ran is handed out where that is asked for; where it couldn't be, the status is 124.
+  abbrev pub Hands : Option (Bor Text) → RamDevice → (before : ℕ) → Option Summary → P → P → (status : ℕ) → Option Summary → Type 0
+  Hands None device before said p q status summary = HandsNothing before said p q status summary
+  Hands (Some name) device before said p q status summary =
+      (((outcome : Outcome) (s : Summary) → said ≡ Some s → s.end ≡ Ran outcome → ⊥) × HandsNothing before said p q status summary)
+      ⊎ (places.asked (HandsOut name.now) p q
+      × ((places.handed_out name.now device p q × (status ≡ before) × (summary ≡ said))
+      ⊎ ((kind : ErrorKind) × places.refused (HandsOut name.now) kind p q × (status ≡ 124) × (summary ≡ option_map lost said))))
+
+module _ {P I O V : Type 0} (places : Ghosts P I O V) (written : Writer O) where
+  -- It was printed into its file, which is at its end then; or that was refused, and the status is 124.
+  pub record IsPrinted (name : Text) (report : O) (summary : Summary) (before : ℕ) (p q : P) (status : ℕ) : Type 0 where
+    pub printed : P
+    pub asked_for : places.asked (Prints name) p printed
+    pub left : O
+    pub why : (places.printed name (report_text summary) p printed × Appends (written.contents report) (written.contents left) (report_text summary) × (status ≡ before))
+        ⊎ ((kind : ErrorKind) × places.refused (Prints name) kind p printed × (status ≡ 124))
+    pub ended : places.ended left printed q
+
+  -- the same, where there is one
+  abbrev pub IsTold : Option (Bor Text) → Option O → Option Summary → (before : ℕ) → P → P → (status : ℕ) → Type 0
+  IsTold None report summary before p q status = (q ≡ p) × (status ≡ before)
+  IsTold (Some name) None summary before p q status = ⊥
+  IsTold (Some name) (Some report) None before p q status = (q ≡ p) × (status ≡ before)
+  IsTold (Some name) (Some report) (Some summary) before p q status = IsPrinted name.now report summary before p q status
+
+-- ---- its end
+
+-- what a run had when it ended, with lines of the program's own behind the errors
+abbrev pub left_of : {D I O R W1 W2 : Type 0} → Executed D (Source I R) (Sink O W1) (Sink O W2) → Spare R W1 W2 → Sink O W2 → Left D I O R W1 W2
+left_of ended spare own = record {
+  device = ended.device;
+  input = ended.input;
+  out = ended.out;
+  guest = guest_of ended.err spare.err;
+  own = own;
+  spare_input = spare.input;
+  spare_out = spare.out;
+}
+
+module _ {P I O V R W1 W2 : Type 0} (on : Around P I O V R W1 W2) where
+  -- A module was run on a device with these files and streams, and so it ended. Its volume was handed out where that is said, its
+  -- report was printed, and all that it had was given up as it was then, but for lines of the program's own.
+  pub record RunsWith {D : Type 0} (known : Known D) (HandsIt : D → (before : ℕ) → Option Summary → P → P → (status : ℕ) → Option Summary → Type 0)
+      (run : Run) (bytes : List ℕ) (random : Text) (device : D) (streams : Streams (Source I R) (Sink O W1) (Sink O W2)) (spare : Spare R W1 W2)
+      (report : Option O) (p q : P) (status : ℕ) : Type 0 where
+    pub left : Executed D (Source I R) (Sink O W1) (Sink O W2)
+    pub runs : Runs known.honest known.disk known.size known.failures (source_remaining on.read.remaining on.input.remaining)
+        (sink_contents on.written.contents on.out.contents) (sink_contents on.written.contents on.err.contents) Keeps
+        run bytes random device streams.input streams.out streams.err left
+    pub before : ℕ
+    pub summary : Option Summary
+    pub handed : P
+    pub hands : HandsIt left.device left.status left.summary p handed before summary
+    pub told : P
+    pub tells : IsTold on.places on.written run.report report summary before handed told status
+    pub own : Sink O W2
+    pub lines : AppendsSome (sink_contents on.written.contents on.err.contents (own_of left.err spare.err))
+        (sink_contents on.written.contents on.err.contents own)
+    pub ended : on.places.ended (left_of left spare own) told q
+
+  -- its streams are those that were given, but where it names files for them
+  abbrev pub streams_of : Opened I O V → Streams R W1 W2 → Streams (Source I R) (Sink O W1) (Sink O W2)
+  streams_of opened given = record { input = source_of opened.stdin given.input; out = sink_of opened.stdout given.out; err = sink_of opened.stderr given.err }
+
+  abbrev pub spare_streams : Opened I O V → Streams R W1 W2 → Spare R W1 W2
+  spare_streams opened given = record { input = spare_of opened.stdin given.input; out = spare_of opened.stdout given.out; err = spare_of opened.stderr given.err }
+
+  -- on the file of its volume, or in memory
+  abbrev pub RunsOnMedium : Medium V → Run → Opened I O V → Streams R W1 W2 → Option O → P → P → (status : ℕ) → Type 0
+  RunsOnMedium (medium.File device) run opened given report p q status = RunsWith on.volume (λ left before said p q status summary. HandsNothing on.places before said p q status summary)
+      run opened.module.items opened.random.items device (streams_of opened given) (spare_streams opened given) report p q status
+  RunsOnMedium (medium.Memory device) run opened given report p q status = RunsWith in_memory (λ left before said p q status summary. Hands on.places run.volume_out left before said p q status summary)
+      run opened.module.items opened.random.items device (streams_of opened given) (spare_streams opened given) report p q status
+
+  -- ---- a run alone
+
+  -- All its files could be opened, and it was run on them.
+  pub record RunsOpened (run : Run) (given : Streams R W1 W2) (p q : P) (status : ℕ) : Type 0 where
+    pub opened : Opened I O V
+    pub between : P
+    pub asked_for : Chain on.places.asked (run_accesses run) p between
+    pub are_opened : AreOpened on.places on.volume run opened
+    pub report : Option O
+    pub begun : P
+    pub has_report : HasReport on.places run.report between begun report
+    pub runs : RunsOnMedium opened.medium run opened given report begun q status
+
+  -- One of its files is refused, and its report says so.
+  pub record IsLacking (run : Run) (given : Streams R W1 W2) (p q : P) (status : ℕ) : Type 0 where
+    pub kind : ErrorKind
+    pub between : P
+    pub lacks : Lacks on.places run kind p between
+    pub report : Option O
+    pub begun : P
+    pub has_report : HasReport on.places run.report between begun report
+    pub told : P
+    pub tells : IsTold on.places on.written run.report report (Some (unread run kind)) (file_status kind) begun told status
+    pub ends : EndsGiven on given told q
+
+  -- Its report can't be made. The status is that of this, or of one of its files that is refused before.
+  pub record IsUntold (run : Run) (given : Streams R W1 W2) (p q : P) (status : ℕ) : Type 0 where
+    pub kind : ErrorKind
+    pub between : P
+    pub begun : P
+    pub refused : IsRefusedAmong on.places.asked on.places.refused (report_accesses run.report) kind between begun
+    pub why : (Chain on.places.asked (run_accesses run) p between × (status ≡ file_status kind))
+        ⊎ ((first : ErrorKind) × Lacks on.places run first p between × (status ≡ file_status first))
+    pub ends : EndsGiven on given begun q
+
+  abbrev pub RunsAlone : Run → Streams R W1 W2 → P → P → (status : ℕ) → Type 0
+  RunsAlone run given p q status = IsUntold run given p q status ⊎ (IsLacking run given p q status ⊎ RunsOpened run given p q status)

@@ -1,0 +1,34 @@
+-- What the traits `Places`, `Device`, `Read` and `Write` let contracts say of the files that a command names and of the
+-- streams that it was given, in one record. A definition takes it as `on`, and a clause makes it of the traits' ghost
+-- members: `around P.Places P.Input.Read P.Output.Write P.Volume.Device R.Read W1.Write W2.Write`.
+use Rattle.std.specs.Prelude.{length}
+use Rattle.std.specs.declared.io.Read.{Ghosts as Reader}
+use Rattle.std.specs.declared.io.Write.{Ghosts as Writer}
+use Rattle.vol_sector.specs.declared.device.Device.{Ghosts as Known}
+use Rattle.sandbox_device.specs.declared.ram_device.RamDevice.{RamDevice}
+use Rattle.sandbox_command.specs.declared.places.Places.{Ghosts}
+use Rattle.sandbox_command.specs.declared.streams.Streams.{Streams}
+use Rattle.sandbox_command.specs.Beginning.{memory_disk}
+use Rattle.sandbox_command.specs.Streams.{AppendsSome}
+
+pub record Around (P I O V R W1 W2 : Type 0) : Type 1 where
+  pub places : Ghosts P I O V
+  pub read : Reader I
+  pub written : Writer O
+  pub volume : Known V
+  pub input : Reader R
+  pub out : Writer W1
+  pub err : Writer W2
+
+-- what is known of a device in memory
+abbrev pub in_memory : Known RamDevice
+in_memory = record { honest = λ d. Unit {0}; disk = memory_disk; size = λ d. length d.sectors; failures = λ d. 0 }
+
+module _ {P I O V R W1 W2 : Type 0} where
+  abbrev pub around : Ghosts P I O V → Reader I → Writer O → Known V → Reader R → Writer W1 → Writer W2 → Around P I O V R W1 W2
+  around places read written volume input out err = record { places = places; read = read; written = written; volume = volume; input = input; out = out; err = err }
+
+  -- The streams that were given are given up: nothing was read of them or printed on the output, and on the side of errors
+  -- some lines of the program's own follow.
+  abbrev pub EndsGiven : Around P I O V R W1 W2 → Streams R W1 W2 → P → P → Type 0
+  EndsGiven on given p q = (err : W2) × AppendsSome (on.err.contents given.err) (on.err.contents err) × on.places.ended (record given { err = err }) p q

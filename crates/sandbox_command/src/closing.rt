@@ -1,0 +1,205 @@
+//! The end of a run alone: the program's own lines, its volume handed out, its report, and all that it had given up.
+
+ghost use Rattle.std.specs.Prelude.{◌≡◌, Some, false, option_map};
+ghost use Rattle.std.specs.IoError.{error_kind};
+ghost use Rattle.run_report.specs.declared.end.End.TheVariants.{Ran};
+ghost use Rattle.sandbox_command.specs.declared.streams.Sink.{Sink as SinkValue};
+ghost use Rattle.run_report.specs.declared.summary.Summary.{Summary as SummaryValue};
+ghost use Rattle.wasm_steps.specs.declared.pause.Outcome.{Outcome};
+ghost use Rattle.sandbox_command.specs.Alone.{Hands, IsTold, left_of, lost};
+ghost use Rattle.sandbox_command.specs.Beginning.{unread};
+ghost use Rattle.sandbox_command.specs.Places.{IsOfName};
+ghost use Rattle.sandbox_command.specs.Sources.{own_of, sink_contents};
+ghost use Rattle.sandbox_command.specs.Status.{file_status};
+ghost use Rattle.sandbox_command.specs.Streams.{AppendsSome};
+
+use crate::output::tell_of_file;
+use crate::places::Places;
+use crate::possession::is_silent;
+use crate::program;
+use crate::program::Executed;
+use crate::reporting::not_run;
+use crate::streams::{Sink, Source, Spare, apart};
+use run_report::{End, Fault, Kept, Summary};
+use sandbox_device::{Hindrance, RamDevice};
+use sandbox_words::Run;
+use std::io;
+use std::io::{ErrorKind, Write};
+
+/// All that a run had, when nothing more is done with it.
+#[derive(Drop)]
+pub(crate) struct Left<D, I, O, R, W1, W2> {
+    pub(crate) device: D,
+    pub(crate) input: Source<I, R>,
+    pub(crate) out: Sink<O, W1>,
+    /// The file of the guest's errors, where the program's own lines go elsewhere.
+    pub(crate) guest: Option<Sink<O, W2>>,
+    /// Where the program's own lines go.
+    pub(crate) own: Sink<O, W2>,
+    pub(crate) spare_input: Option<R>,
+    pub(crate) spare_out: Option<W1>,
+}
+
+/// How a run ended: its status, and what its report says.
+#[derive(Clone, Copy)]
+pub(crate) struct Ending {
+    pub(crate) status: u8,
+    pub(crate) summary: Option<Summary>,
+}
+
+/// Prints the lines of how a run ended, if that is said.
+fn tell_ending<W: Write>(err: &mut W, summary: &Option<Summary>)
+    ensures { AppendsSome (W.contents err.old) (W.contents err.new) }
+{
+    if let Some(summary) = summary {
+        program::tell_end(err, summary);
+    }
+}
+
+/// Prints the lines of how a run ended, and gives that and all that the run had.
+pub(crate) fn finished<D: Drop, I: Drop, O: Write + Drop, R: Drop, W1: Drop, W2: Write + Drop>(
+    ended: Executed<D, Source<I, R>, Sink<O, W1>, Sink<O, W2>>,
+    spare: Spare<R, W1, W2>,
+) -> (Ending, Left<D, I, O, R, W1, W2>)
+    ensures ending { (result.0.status ≡ ended.status) × (result.0.summary ≡ ended.summary) }
+    ensures left { (own : SinkValue O W2)
+        × AppendsSome (sink_contents O.contents W2.contents (own_of ended.err spare.err)) (sink_contents O.contents W2.contents own)
+        × (result.1 ≡ left_of ended spare own) }
+{
+    let Executed {
+        status,
+        summary,
+        device,
+        input,
+        out,
+        err,
+        ..
+    } = ended;
+    let (mut own, guest) = apart(err, spare.err);
+    tell_ending(&mut own, &summary);
+    let left = Left {
+        device,
+        input,
+        out,
+        guest,
+        own,
+        spare_input: spare.input,
+        spare_out: spare.out,
+    };
+    (Ending { status, summary }, left)
+}
+
+/// Whether a guest ran.
+fn has_begun(summary: &Option<Summary>) -> bool
+    ensures { result ≡ false → (outcome : Outcome) (s : SummaryValue) → summary.now ≡ Some s → s.end ≡ Ran outcome → ⊥ }
+{
+    match summary {
+        Some(summary) => matches!(summary.end, End::Ran(_)),
+        None => false,
+    }
+}
+
+/// Says that a file was written in place, and why, where it was.
+fn tell_hindrance<W: Write>(err: &mut W, path: &str, hindrance: Option<Hindrance>)
+    ensures { AppendsSome (W.contents err.old) (W.contents err.new) }
+{
+    match hindrance {
+        Some(Hindrance::Names) => {
+            tell_of_file(err, path, "written in place, since it has several names");
+        }
+        Some(Hindrance::Folder) => tell_of_file(
+            err,
+            path,
+            "written in place, since no file like it can be made beside it",
+        ),
+        None => {}
+    }
+}
+
+/// What is said of a run whose volume couldn't be handed out.
+fn not_kept(summary: Option<Summary>) -> Option<Summary>
+    ensures { result ≡ option_map lost summary }
+{
+    let summary = summary?;
+    Some(Summary {
+        status: program::FAULT,
+        volume: Kept::Failed,
+        ..summary
+    })
+}
+
+/// Hands out the volume of a run that began, as it has ended, where that is asked for.
+pub(crate) fn handed_out<P: Places, W: Write>(
+    places: &mut P,
+    name: Option<&str>,
+    device: &RamDevice,
+    ending: Ending,
+    err: &mut W,
+) -> Ending
+    ensures hands { Hands P.Places name.entry device.now ending.status ending.summary places.old places.new result.status result.summary }
+    ensures lines { AppendsSome (W.contents err.old) (W.contents err.new) }
+{
+    let Some(path) = name else {
+        return ending;
+    };
+    if !has_begun(&ending.summary) {
+        return ending;
+    }
+    match places.hand_out(path, device) {
+        Ok(hindrance) => {
+            tell_hindrance(err, path, hindrance);
+            ending
+        }
+        Err(_) => Ending {
+            status: program::refuse_file(err),
+            summary: not_kept(ending.summary),
+        },
+    }
+}
+
+/// Prints the report of a run into its file, and gives the status: that of the run, or 124 where the report can't be printed.
+pub(crate) fn told<P: Places, W: Write>(
+    places: &mut P,
+    name: Option<&str>,
+    report: Option<P::Output>,
+    ending: Ending,
+    err: &mut W,
+) -> u8
+    requires { IsOfName P.is_output name report }
+    ensures tells { IsTold P.Places P.Output.Write name.entry report ending.summary ending.status places.old places.new result }
+    ensures lines { AppendsSome (W.contents err.old) (W.contents err.new) }
+{
+    let (Some(name), Some(mut report), Some(summary)) = (name, report, ending.summary) else {
+        return ending.status;
+    };
+    let printed = places.print(name, &mut report, &summary);
+    places.end(report);
+    match printed {
+        Ok(()) => ending.status,
+        Err(_) => program::refuse_file(err),
+    }
+}
+
+/// What the report says of a run one of whose files can't be read or made.
+pub(crate) fn unread(run: &Run<'_>, error: &io::Error) -> Summary
+    ensures { result ≡ unread run.now (error_kind error.now) }
+{
+    if error.kind() == ErrorKind::OutOfMemory {
+        return not_run(run, Fault::Memory, Kept::None, program::OUT_OF_MEMORY);
+    }
+    not_run(run, Fault::File, Kept::None, program::FAULT)
+}
+
+/// Refuses a file that can't be read or written, by a line that goes into none of the command's files.
+pub(crate) fn refuse<W: Write>(error: &io::Error, err: &mut W) -> u8
+    ensures status { result ≡ file_status (error_kind error.now) }
+    ensures line { AppendsSome (W.contents err.old) (W.contents err.new) }
+{
+    if error.kind() == ErrorKind::OutOfMemory {
+        return program::out_of_memory(err);
+    }
+    if is_silent(error) {
+        return program::FAULT;
+    }
+    program::refuse_file(err)
+}

@@ -1,0 +1,296 @@
+//! The files of the system, as a command holds them.
+
+ghost use Rattle.std.specs.Prelude.{◌≡◌, ◌≤◌, IfOk, length, min};
+ghost use Rattle.sandbox_command.specs.Places.{Gave, Took, WasEnded, WasHandedOut, WasRefused};
+
+use crate::clashing::clashes;
+use crate::places::Places;
+use crate::possession::{Held, refuse_errors, refuse_errors_of};
+use run_report::Summary;
+use sandbox_device::{
+    FileDevice, Hindrance, Identity, Output, RamDevice, Replacement, open_image, open_to_read,
+};
+use sandbox_words::{Invocation, Run};
+use std::fs::File;
+use std::io::{ErrorKind, Read};
+use std::{fs, io};
+
+/// The most bytes of a list of tests.
+const LIST_READ: u64 = 67_108_864;
+
+/// The files of the system, and which of them are held.
+#[derive(Drop)]
+pub(crate) struct HostPlaces<'a> {
+    rt: &'a HostRuntime,
+    held: Held,
+    /// Files that are read later, held open until then.
+    ahead: Vec<File>,
+    /// What gets a volume at the end.
+    receiver: Option<Replacement>,
+    /// Why the first file that is asked for is refused, whatever it is.
+    refused: Option<ErrorKind>,
+}
+
+impl<'a> HostPlaces<'a> {
+    /// The files of the system for an invocation, none of which is open but an image that all tests of a list read.
+    pub(crate) fn of(rt: &'a HostRuntime, invocation: &Invocation<'_>) -> HostPlaces<'a> {
+        let held = match invocation {
+            Invocation::Run(run) => Held::for_run(rt, run),
+            _ => Held::new(rt),
+        };
+        let mut places = HostPlaces {
+            rt,
+            held,
+            ahead: Vec::new(rt.alloc()),
+            receiver: None,
+            refused: None,
+        };
+        if let Err(error) = places.look_ahead(invocation) {
+            places.refused = Some(error.kind());
+        }
+        places
+    }
+
+    /// Refuses names that the command's own lines would go into. Words that don't go together open no file.
+    fn look_ahead(&mut self, invocation: &Invocation<'_>) -> io::Result<()> {
+        if clashes(invocation) {
+            return Ok(());
+        }
+        match invocation {
+            Invocation::Run(run) => self.look_ahead_of(run),
+            Invocation::Inspect { module } => refuse_errors(self.rt, module),
+            Invocation::Format { file, .. } => refuse_errors(self.rt, file),
+            Invocation::Volume { file, .. } => refuse_errors(self.rt, file),
+            Invocation::Import { file, .. } => refuse_errors(self.rt, file),
+            Invocation::Export { file, .. } => refuse_errors(self.rt, file),
+        }
+    }
+
+    fn look_ahead_of(&mut self, run: &Run<'_>) -> io::Result<()> {
+        refuse_errors_of(self.rt, run)?;
+        match (run.tests, run.image) {
+            (Some(_), Some(image)) => self.hold(image),
+            _ => Ok(()),
+        }
+    }
+
+    /// Holds a regular file that will be read. What can't be opened is refused when it is read.
+    fn hold(&mut self, name: &str) -> io::Result<()> {
+        if Identity::of_path(self.rt, name).is_none() {
+            return Ok(());
+        }
+        if let Ok(file) = open_to_read(self.rt, name) {
+            self.held.take_source(&file)?;
+            self.ahead.push(file)?;
+        }
+        Ok(())
+    }
+
+    /// Refuses what is asked for first, if so.
+    fn go_on(&mut self) -> io::Result<()> {
+        match self.refused.take() {
+            Some(kind) => Err(io::Error::from(kind)),
+            None => Ok(()),
+        }
+    }
+
+    fn locked(&mut self, name: &str) -> io::Result<FileDevice>
+        ensures { IfOk result (λ d. d.failures ≡ 0) }
+    {
+        self.go_on()?;
+        let file = FileDevice::lock(self.rt, name)?;
+        self.held.take_volume(Identity::of(&file)?)?;
+        FileDevice::of(self.rt.alloc(), file)
+    }
+
+    fn lengthened(&mut self, name: &str, sectors: u32) -> io::Result<FileDevice>
+        ensures unused { IfOk result (λ d. d.failures ≡ 0) }
+        ensures enough { IfOk result (λ d. min sectors 65536 ≤ length d.sectors) }
+    {
+        self.go_on()?;
+        let file = FileDevice::lock_or_make(self.rt, name)?;
+        self.held.take_volume(Identity::of(&file)?)?;
+        FileDevice::lengthened(self.rt.alloc(), file, sectors)
+    }
+
+    /// Opens what gets a volume at the end, which may be the image.
+    fn received(&mut self, name: &str) -> io::Result<()> {
+        let it = Replacement::open(self.rt, name)?;
+        self.held.take_volume(it.identity()?)?;
+        self.receiver = Some(it);
+        Ok(())
+    }
+
+    /// Replaces what was opened so.
+    fn replaced(&mut self, device: &RamDevice) -> io::Result<Option<Hindrance>> {
+        match self.receiver.take() {
+            Some(it) => it.fill(self.rt, device),
+            None => Err(io::Error::from(ErrorKind::NotFound)),
+        }
+    }
+
+    fn opened(&mut self, name: &str) -> io::Result<File> {
+        let file = open_to_read(self.rt, name)?;
+        self.held.take_input(&file)?;
+        Ok(file)
+    }
+
+    fn made(&mut self, name: &str) -> io::Result<Output> {
+        self.held.contest(Identity::of_path(self.rt, name))?;
+        let file = Output::open(self.rt, name)?;
+        self.held.take_output(&file)?;
+        Ok(file)
+    }
+
+    /// Whether a file that was made last is what gets the volume at the end.
+    fn is_receiver(&self, file: &Output) -> bool {
+        match &self.receiver {
+            Some(receiver) => {
+                let it = receiver.identity_now(self.rt);
+                match file.identity() {
+                    Ok(found) => it.is_some() && it == found,
+                    Err(_) => true,
+                }
+            }
+            None => false,
+        }
+    }
+
+    /// Cuts a file that was made last. One that gets the volume is refused, and goes if it is new.
+    fn cut_apart(&mut self, name: &str, file: Output) -> io::Result<Output> {
+        let mut file = file;
+        if self.is_receiver(&file) {
+            if file.is_new() {
+                let _ = fs::remove_file(self.rt, name);
+            }
+            return Err(io::Error::from(ErrorKind::ResourceBusy));
+        }
+        file.cut()?;
+        Ok(file)
+    }
+
+    fn sectors_of(&mut self, name: &str) -> io::Result<RamDevice>
+        ensures { IfOk result (λ device. length device.sectors ≤ 65536) }
+    {
+        let file = open_image(self.rt, name)?;
+        self.held.take_image(&file)?;
+        RamDevice::of_file(self.rt.alloc(), &file)
+    }
+
+    /// A file that is read whole. It has a part in what is done, even where all is refused.
+    fn source(&mut self, name: &str) -> io::Result<File> {
+        let file = open_to_read(self.rt, name);
+        if let Ok(file) = &file {
+            self.held.take_source(file)?;
+        }
+        self.go_on()?;
+        file
+    }
+
+    /// The text of a file. One that has too many bytes is refused.
+    fn text_of(&mut self, name: &str) -> io::Result<String> {
+        let file = self.source(name)?.take(LIST_READ + 1);
+        let text = io::read_to_string(self.rt.alloc(), file)?;
+        if text.len() as u64 > LIST_READ {
+            return Err(io::Error::from(ErrorKind::FileTooLarge));
+        }
+        Ok(text)
+    }
+
+    fn bytes_of(&mut self, name: &str, most: u64) -> io::Result<Vec<u8>> {
+        let mut bytes = Vec::new(self.rt.alloc());
+        self.source(name)?.take(most).read_to_end(&mut bytes)?;
+        Ok(bytes)
+    }
+
+    /// Prints a report into a file that has no other part in its line, and ends the line.
+    fn print_apart(&mut self, file: &mut Output, summary: &Summary) -> io::Result<()> {
+        let report = match file.identity() {
+            Ok(it) if self.held.is_apart(it) => it,
+            _ => {
+                self.held.end_line(None, summary)?;
+                return Err(io::Error::from(ErrorKind::ResourceBusy));
+            }
+        };
+        self.held.end_line(report, summary)?;
+        run_report::print(file, summary)
+    }
+}
+
+impl<'a> Places for HostPlaces<'a> {
+    type Input = File;
+
+    type Output = Output;
+
+    type Volume = FileDevice;
+
+    ghost asked = { λ access before after. Unit {0} };
+
+    ghost refused = { λ access kind before after. WasRefused access kind };
+
+    ghost is_input = { λ name file. Gave name file };
+
+    ghost is_output = { λ name file. Gave name file };
+
+    ghost is_volume = { λ name device. Gave name device };
+
+    ghost is_image = { λ name device. Gave name device };
+
+    ghost is_text = { λ name text. Gave name text };
+
+    ghost is_beginning = { λ name most bytes. Gave name bytes };
+
+    ghost printed = { λ name text before after. Took name text };
+
+    ghost handed_out = { λ name device before after. WasHandedOut name device };
+
+    ghost ended = { λ {X} it before after. WasEnded it };
+
+    fn open(&mut self, name: &str) -> io::Result<File> {
+        self.opened(name)
+    }
+
+    fn make(&mut self, name: &str) -> io::Result<Output> {
+        self.made(name)
+    }
+
+    fn cut(&mut self, name: &str, file: Output) -> io::Result<Output> {
+        self.cut_apart(name, file)
+    }
+
+    fn lock(&mut self, name: &str) -> io::Result<FileDevice> {
+        self.locked(name)
+    }
+
+    fn lengthen(&mut self, name: &str, sectors: u32) -> io::Result<FileDevice> {
+        self.lengthened(name, sectors)
+    }
+
+    fn image(&mut self, name: &str) -> io::Result<RamDevice> {
+        self.sectors_of(name)
+    }
+
+    fn text(&mut self, name: &str) -> io::Result<String> {
+        self.text_of(name)
+    }
+
+    fn bytes(&mut self, name: &str, most: u64) -> io::Result<Vec<u8>> {
+        self.bytes_of(name, most)
+    }
+
+    fn receive(&mut self, name: &str) -> io::Result<()> {
+        self.received(name)
+    }
+
+    fn hand_out(&mut self, _name: &str, device: &RamDevice) -> io::Result<Option<Hindrance>> {
+        self.replaced(device)
+    }
+
+    fn print(&mut self, _name: &str, file: &mut Output, summary: &Summary) -> io::Result<()> {
+        self.print_apart(file, summary)
+    }
+
+    fn end<X: Drop>(&mut self, it: X) {
+        drop(it);
+    }
+}
