@@ -10,8 +10,10 @@ ghost use Rattle.vol_inode.specs.Spelling.{spelling, unused};
 ghost use Rattle.vol_inode.specs.declared.version.Version.{Version};
 ghost use Rattle.vol_dirs.specs.Slots.{CanStageSlot, StagesSlot};
 ghost use Rattle.vol_dirs.specs.internal.Listing.{IsListing, AreMarked};
+ghost use Rattle.vol_dirs.specs.NameOrder.{keys_of, room_of};
 
 use crate::keys::key_of;
+use crate::name_order::NameOrder;
 use crate::seat::{Seat, seat_of};
 use crate::slots::slot_sector;
 use crate::sorted::{insert, least_over, remove};
@@ -26,21 +28,21 @@ const MOST_SLOTS: u32 = u32::MAX - FIRST_AFTER_LOG;
 /// The names of a volume's entries.
 ///
 /// The slot of an entry is the sector that `slot_sector` gives for its serial: it holds the entry, or
-/// zeros where it isn't used. What the slots hold is kept in memory too, in two sorted vectors
-/// with room for all slots: the keys of the names with their serials, and the parents with their
+/// zeros where it isn't used. What the slots hold is kept in memory too, with room for all slots: the
+/// keys of the names with their serials, in order, and a sorted vector of the parents with their
 /// serials. A flag for each slot says whether it is used, and its seat what else a walk needs.
 #[derive(Drop)]
 pub struct Dirs {
     slots: u32,
-    keys: Vec<([u8; 259], u32)>,
+    keys: NameOrder,
     children: Vec<(u32, u32)>,
     used: Vec<bool>,
     seats: Vec<Seat>,
     ghost few: { slots ≤ 4294967173 },
-    ghost listing: { IsListing slots keys.items children.items },
-    ghost keys_room: { slots ≤ vec_capacity keys },
+    ghost listing: { IsListing slots (keys_of keys) children.items },
+    ghost keys_room: { slots ≡ room_of keys },
     ghost children_room: { slots ≤ vec_capacity children },
-    ghost marked: { AreMarked slots keys.items used.items },
+    ghost marked: { AreMarked slots (keys_of keys) used.items },
     ghost seated: { vec_len seats ≡ slots },
 }
 
@@ -221,9 +223,8 @@ impl Dirs {
         ensures least { IfSome result (λ s. IsLeastOf self.now parent name.now s) }
     {
         let key = key_of(parent.number(), name);
-        let bound = (key, 0);
-        let (found, serial) = least_over(&self.keys, &bound)?;
-        (*found == bound.0).then_some(Serial::new(*serial))
+        let serial = self.keys.least_over(&key, 0)?;
+        (*self.keys.key(serial) == key).then_some(Serial::new(serial))
     }
 
     /// The least serial over the number `after` that is held with a directory.
@@ -245,7 +246,7 @@ impl Dirs {
         }
         Ok(Dirs {
             slots,
-            keys: Vec::with_capacity(alloc, slots as usize)?,
+            keys: NameOrder::reserve(alloc, slots)?,
             children: Vec::with_capacity(alloc, slots as usize)?,
             used: vec![in alloc; false; slots as usize]?,
             seats: vec![in alloc; Seat {
@@ -287,7 +288,7 @@ impl Dirs {
     {
         let key = key_of(entry.parent, &entry.name[..entry.name_length as usize]);
         let number = serial.number();
-        insert(&mut self.keys, (key, number));
+        self.keys.insert(&key, number);
         insert(&mut self.children, (entry.parent, number));
         self.used[(number - 1) as usize] = true;
         self.seats[(number - 1) as usize] = seat_of(entry);
@@ -301,9 +302,8 @@ impl Dirs {
         ensures seats { KeepSeats self.old self.new }
         ensures slots { slots_of self.new ≡ slots_of self.old }
     {
-        let key = key_of(entry.parent, &entry.name[..entry.name_length as usize]);
         let number = serial.number();
-        remove(&mut self.keys, &(key, number));
+        self.keys.remove(number);
         remove(&mut self.children, &(entry.parent, number));
         self.used[(number - 1) as usize] = false;
     }

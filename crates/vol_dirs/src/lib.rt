@@ -4,6 +4,7 @@
 mod dirs;
 mod keys;
 mod laws;
+mod name_order;
 mod rooted;
 mod seat;
 mod slots;
