@@ -1,6 +1,6 @@
 -- Names by their serials: what a search among them finds, and what one more or less does.
-use Rattle.std.proofs.Common.{◌≡◌, ◌≢◌, inl, inr, ℕ, ◌+◌, ◌-◌, ◌≤◌, ◌<◌, Bool, true, false, List, [], ◌∷◌, ◌++◌, suc, length, take, drop, map, set, get_or, refl, sym, ◌∙◌, ap, ap₂, subst, arith}
-use Rattle.std.specs.List.{Contains, HoldsAt, insert, remove}
+use Rattle.std.proofs.Common.{◌≡◌, ◌≢◌, inl, inr, ℕ, ◌+◌, ◌-◌, ◌≤◌, ◌<◌, true, false, List, [], ◌∷◌, ◌++◌, suc, length, take, drop, map, set, get_or, refl, sym, ◌∙◌, ap, ap₂, subst, arith}
+use Rattle.std.specs.List.{Contains, insert, remove}
 use Rattle.std.specs.List.Sorted.{IsPartitionPoint}
 use Rattle.std.specs.Cmp.{IsTotalOrder}
 use Rattle.std.specs.Ordering.{is_lt}
@@ -10,7 +10,7 @@ use Rattle.std.proofs.lemmas.Bool.{cases_lt, cases_eq}
 use Rattle.std.proofs.lemmas.Cmp.{tied_itself}
 use Rattle.std.proofs.lemmas.List.Edits.{get_or-remove_below, get_or-remove_above, length-remove}
 use Rattle.std.proofs.lemmas.List.{length-map, get_or-map, get_or_default, get_or-set_same, get_or-set_other, map-append, take-map, drop-map, ext_get_or}
-use Rattle.vol_dirs.specs.internal.Rising.{Rises, TiesAreEqual, IsFirstOver, Drops}
+use Rattle.vol_dirs.specs.internal.Rising.{Rises, IsFirstOver, Drops}
 use Rattle.vol_dirs.specs.internal.Listing.{key_order}
 use Rattle.vol_dirs.specs.Serials.{key_at, keys_in, AreSerials, IsAbsentIn}
 use Rattle.vol_dirs.proofs.Orders.{key_ties}

@@ -11,10 +11,12 @@ ghost use Rattle.vol_inode.specs.declared.version.Version.{Version};
 ghost use Rattle.vol_dirs.specs.Slots.{CanStageSlot, StagesSlot};
 ghost use Rattle.vol_dirs.specs.internal.Listing.{IsListing, AreMarked};
 ghost use Rattle.vol_dirs.specs.NameOrder.{keys_of, room_of};
+ghost use Rattle.vol_dirs.specs.SlotMarks.{flags_of};
 
 use crate::keys::key_of;
 use crate::name_order::NameOrder;
 use crate::seat::{Seat, seat_of};
+use crate::slot_marks::SlotMarks;
 use crate::slots::slot_sector;
 use crate::sorted::{insert, least_over, remove};
 use std::alloc::{AllocError, Global};
@@ -30,19 +32,19 @@ const MOST_SLOTS: u32 = u32::MAX - FIRST_AFTER_LOG;
 /// The slot of an entry is the sector that `slot_sector` gives for its serial: it holds the entry, or
 /// zeros where it isn't used. What the slots hold is kept in memory too, with room for all slots: the
 /// keys of the names with their serials, in order, and a sorted vector of the parents with their
-/// serials. A flag for each slot says whether it is used, and its seat what else a walk needs.
+/// serials. A mark for each slot says whether it is used, and its seat what else a walk needs.
 #[derive(Drop)]
 pub struct Dirs {
     slots: u32,
     keys: NameOrder,
     children: Vec<(u32, u32)>,
-    used: Vec<bool>,
+    used: SlotMarks,
     seats: Vec<Seat>,
     ghost few: { slots ≤ 4294967173 },
     ghost listing: { IsListing slots (keys_of keys) children.items },
     ghost keys_room: { slots ≡ room_of keys },
     ghost children_room: { slots ≤ vec_capacity children },
-    ghost marked: { AreMarked slots (keys_of keys) used.items },
+    ghost marked: { AreMarked slots (keys_of keys) (flags_of used) },
     ghost seated: { vec_len seats ≡ slots },
 }
 
@@ -132,7 +134,7 @@ impl Dirs {
         ensures used { IsTrue result → IsFree self.now serial → ⊥ }
         ensures free { result ≡ false → IsFree self.now serial }
     {
-        self.used[(serial.number() - 1) as usize]
+        self.used.is_marked((serial.number() - 1) as usize)
     }
 
     /// The directory of the entry with this serial, and whether it is one, from memory.
@@ -148,12 +150,8 @@ impl Dirs {
     pub fn least_free(&self) -> Option<Serial>
         ensures { MatchOption result (NoneIsFree self.now) (λ s. IsLeastFree self.now s) }
     {
-        for slot in 0..self.slots {
-            if !self.used[slot as usize] {
-                return Some(Serial::new(slot + 1));
-            }
-        }
-        None
+        let slot = self.used.least_unmarked()?;
+        Some(Serial::new(slot as u32 + 1))
     }
 
     /// Stages an entry in an unused slot.
@@ -248,7 +246,7 @@ impl Dirs {
             slots,
             keys: NameOrder::reserve(alloc, slots)?,
             children: Vec::with_capacity(alloc, slots as usize)?,
-            used: vec![in alloc; false; slots as usize]?,
+            used: SlotMarks::reserve(alloc, slots)?,
             seats: vec![in alloc; Seat {
                 parent: 0,
                 directory: false
@@ -290,7 +288,7 @@ impl Dirs {
         let number = serial.number();
         self.keys.insert(&key, number);
         insert(&mut self.children, (entry.parent, number));
-        self.used[(number - 1) as usize] = true;
+        self.used.mark((number - 1) as usize);
         self.seats[(number - 1) as usize] = seat_of(entry);
     }
 
@@ -305,6 +303,6 @@ impl Dirs {
         let number = serial.number();
         self.keys.remove(number);
         remove(&mut self.children, &(entry.parent, number));
-        self.used[(number - 1) as usize] = false;
+        self.used.unmark((number - 1) as usize);
     }
 }

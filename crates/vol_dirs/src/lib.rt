@@ -7,6 +7,7 @@ mod laws;
 mod name_order;
 mod rooted;
 mod seat;
+mod slot_marks;
 mod slots;
 mod sorted;
 

@@ -1,4 +1,4 @@
-use Rattle.std.proofs.Common.{◌≡◌, ◌≤◌, ◌<◌, ◌-◌, ℕ, [], length, get_or}
+use Rattle.std.proofs.Common.{◌≡◌, ◌≤◌, ◌<◌, ◌-◌, ℕ, [], get_or}
 use Rattle.std.specs.Prelude.{vec_len, vec_capacity}
 use Rattle.vol_dirs.proofs.name_order.lengthen.Given as goal
 

@@ -2,6 +2,8 @@ use Rattle.std.proofs.Common.{◌≡◌, ◌∙◌, List, ℕ, sym, subst, arith
 use Rattle.vol_inode.specs.Entry.{name_of}
 use Rattle.vol_dirs.specs.Key.{key_of}
 use Rattle.vol_dirs.specs.Serials.{key_at}
+use Rattle.vol_dirs.specs.internal.Listing.{AreMarked}
+use Rattle.vol_dirs.specs.SlotMarks.{flags_of}
 use Rattle.vol_dirs.specs.NameOrder.{keys_of}
 use Rattle.vol_dirs.specs.internal.Rising.{Drops}
 use Rattle.vol_dirs.specs.declared.dirs.Dirs.{Dirs}
@@ -50,8 +52,8 @@ overflow_sub-number c =
     let bounds = c.args.self.now.listing.numbered (key_of c.args.entry.now.parent (name_of c.args.entry.now)) c.args.serial c.requires.held.held in
     omega (arith, bounds.0)
 
-pub index_mut-requires : goal.index_mut-requires
-index_mut-requires c =
+pub unmark-requires : goal.unmark-requires
+unmark-requires c =
     let old = c.args.self.now in
     let bounds = old.listing.numbered (key_of c.args.entry.now.parent (name_of c.args.entry.now)) c.args.serial c.requires.held.held in
     omega (arith, bounds.0, bounds.1, old.marked.count)
@@ -63,5 +65,6 @@ invariant_of-self-clause-marked c =
     let held = c.requires.held in
     let less = own_less old c.remove.new.self e.parent c.args.serial c.number-number.result (name_of e) c.number-number.ensures held c.remove.ensures.drops in
     let bounds = old.listing.numbered (key_of e.parent (name_of e)) c.args.serial held.held in
-    rw c.number-number.ensures (marks_less old.slots (keys_of old.keys) old.used.items old.marked c.args.serial bounds.0 bounds.1 (key_of e.parent (name_of e)) (keys_of c.remove.new.self)
+    let is = rw c.number-number.ensures at c.unmark.ensures in
+    subst (AreMarked old.slots (keys_of c.remove.new.self)) (sym is) (marks_less old.slots (keys_of old.keys) (flags_of old.used) old.marked c.args.serial bounds.0 bounds.1 (key_of e.parent (name_of e)) (keys_of c.remove.new.self)
     (λ key t has. (old.listing.numbered key t has).0) old.listing.one_each held.held less)

@@ -1,5 +1,7 @@
-use Rattle.std.proofs.Common.{◌<◌, ◌^◌, ◌∙◌, inl, inr, arith}
+use Rattle.std.proofs.Common.{◌<◌, ◌^◌, ◌∙◌, inl, inr, sym, subst, arith}
 use Rattle.vol_inode.specs.Entry.{name_of}
+use Rattle.vol_dirs.specs.internal.Listing.{AreMarked}
+use Rattle.vol_dirs.specs.SlotMarks.{flags_of}
 use Rattle.vol_dirs.specs.NameOrder.{keys_of}
 use Rattle.vol_dirs.specs.Key.{key_of}
 use Rattle.vol_dirs.proofs.Marks.{marks_more}
@@ -55,7 +57,8 @@ invariant_of-self-clause-marked c =
     let old = c.args.self.now in
     let e = c.args.entry.now in
     let more = rw (c.key_of-key.ensures, c.number-number.ensures) at c.insert.ensures.adds in
-    rw c.number-number.ensures (marks_more old.slots (keys_of old.keys) old.used.items old.marked c.args.serial c.requires.first c.requires.last (key_of e.parent (name_of e)) (keys_of c.insert.new.self)
+    let is = rw c.number-number.ensures at c.mark.ensures in
+    subst (AreMarked old.slots (keys_of c.insert.new.self)) (sym is) (marks_more old.slots (keys_of old.keys) (flags_of old.used) old.marked c.args.serial c.requires.first c.requires.last (key_of e.parent (name_of e)) (keys_of c.insert.new.self)
     (λ key t has. (old.listing.numbered key t has).0) more)
 
 pub returns-clause-seats : goal.returns-clause-seats

@@ -1,4 +1,4 @@
-use Rattle.std.proofs.Common.{◌≡◌, ◌∙◌, ◌+◌, ◌-◌, ◌/◌, ◌<◌, ℕ, List, [], length, sym, arith}
+use Rattle.std.proofs.Common.{◌∙◌, ◌+◌, ◌-◌, ◌/◌, ◌<◌, ℕ, [], length, sym, arith}
 use Rattle.vol_dirs.specs.NameOrder.{keys_of}
 use Rattle.vol_dirs.proofs.Orders.{key_total}
 use Rattle.vol_dirs.proofs.Places.{less_is, less_not, over_after, none_before}

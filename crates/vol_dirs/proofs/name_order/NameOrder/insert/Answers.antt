@@ -1,4 +1,4 @@
-use Rattle.std.proofs.Common.{◌≡◌, ◌∙◌, ◌+◌, ◌-◌, ◌<◌, ◌≤◌, ℕ, List, length, get_or, set, Result, Ok, Err, IsOk, is_ok, if◌then◌else◌, refl, sym, ap, subst, arith}
+use Rattle.std.proofs.Common.{◌≡◌, ◌∙◌, ◌-◌, ◌<◌, ◌≤◌, ℕ, List, length, set, Result, Ok, Err, IsOk, is_ok, if◌then◌else◌, refl, sym, ap, subst, arith}
 use Rattle.std.specs.List.{insert}
 use Rattle.vol_dirs.specs.internal.Rising.{Rises, AddsItem}
 use Rattle.vol_dirs.specs.internal.Listing.{key_order}

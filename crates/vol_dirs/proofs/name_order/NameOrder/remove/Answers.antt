@@ -1,4 +1,4 @@
-use Rattle.std.proofs.Common.{◌≡◌, ◌∙◌, ◌+◌, ◌-◌, ◌<◌, ◌≤◌, ℕ, List, length, sym, subst, ap, arith}
+use Rattle.std.proofs.Common.{◌≡◌, ◌∙◌, ◌+◌, ◌-◌, ◌≤◌, ℕ, List, length, sym, subst, ap, arith}
 use Rattle.std.specs.List.{remove}
 use Rattle.vol_dirs.specs.internal.Rising.{Drops, Rises}
 use Rattle.vol_dirs.specs.internal.Listing.{key_order}
