@@ -1,6 +1,7 @@
 pub mod Search
 pub mod Edits
 pub mod Orders
+pub mod Places
 pub mod Spelled
 pub mod Room
 pub mod Listings

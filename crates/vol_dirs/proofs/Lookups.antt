@@ -10,6 +10,7 @@ use Rattle.std.proofs.lemmas.Bool.{cases_lt}
 use Rattle.std.proofs.lemmas.Bool.Decides.{nat_tests}
 use Rattle.std.proofs.lemmas.Cmp.{tied_itself, nat_list_cmp_total}
 use Rattle.std.proofs.lemmas.List.Folds.{Any-from_list_any, list_any_at}
+use Rattle.vol_dirs.specs.NameOrder.{keys_of}
 use Rattle.vol_dirs.specs.internal.Rising.{IsLeastOver, NoneIsOver}
 use Rattle.vol_dirs.specs.Key.{key_of}
 use Rattle.vol_dirs.specs.internal.Key.{parent_in, name_in}
@@ -165,13 +166,13 @@ pub next_child_is : (dirs : Dirs) (p after q s : ℕ) → IsLeastOver child_orde
 next_child_is dirs p after q s least same =
     let own : IsLeastOver child_order dirs.children.items (p, after) (p, s) = subst (λ (x : ℕ). IsLeastOver child_order dirs.children.items (p, after) (x, s)) same least in
     record {
-      over = over_after dirs.slots dirs.keys.items dirs.children.items dirs.listing p after s own;
-      child = child_name dirs.slots dirs.keys.items dirs.children.items dirs.listing p s own.there;
-      least = λ t child more. least_after dirs.slots dirs.keys.items dirs.children.items dirs.listing p after s t child.0 own child.1 more;
+      over = over_after dirs.slots (keys_of dirs.keys) dirs.children.items dirs.listing p after s own;
+      child = child_name dirs.slots (keys_of dirs.keys) dirs.children.items dirs.listing p s own.there;
+      least = λ t child more. least_after dirs.slots (keys_of dirs.keys) dirs.children.items dirs.listing p after s t child.0 own child.1 more;
     }
 
 pub no_child_is : (dirs : Dirs) (p after q s : ℕ) → IsLeastOver child_order dirs.children.items (p, after) (q, s) → q ≢ p → NoChildOver dirs p after
-no_child_is dirs p after q s least differ t child = none_before dirs.slots dirs.keys.items dirs.children.items dirs.listing p after q s t child.0 least differ child.1
+no_child_is dirs p after q s least differ t child = none_before dirs.slots (keys_of dirs.keys) dirs.children.items dirs.listing p after q s t child.0 least differ child.1
 
 pub no_child_over : (dirs : Dirs) (p after : ℕ) → NoneIsOver child_order dirs.children.items (p, after) → NoChildOver dirs p after
-no_child_over dirs p after none t child = none_over dirs.slots dirs.keys.items dirs.children.items dirs.listing p after t child.0 none child.1
+no_child_over dirs p after none t child = none_over dirs.slots (keys_of dirs.keys) dirs.children.items dirs.listing p after t child.0 none child.1

@@ -9,6 +9,7 @@ use Rattle.vol_inode.specs.Entry.{IsEntry, name_of}
 use Rattle.vol_inode.specs.Spelling.{spelling}
 use Rattle.vol_dirs.specs.Slots.{slot_sector}
 use Rattle.vol_dirs.specs.Listing.{HoldsEntry}
+use Rattle.vol_dirs.specs.NameOrder.{keys_of}
 use Rattle.vol_dirs.specs.Seats.{seat_of, seat_at}
 use Rattle.vol_dirs.specs.declared.dirs.Dirs.{Dirs}
 
@@ -18,7 +19,7 @@ slots_of dirs = dirs.slots
 
 -- an entry with this parent, name and serial is held
 abbrev pub Names : Dirs → ℕ → List ℕ → ℕ → Type 0
-Names dirs parent name serial = HoldsEntry dirs.keys.items parent name serial
+Names dirs parent name serial = HoldsEntry (keys_of dirs.keys) parent name serial
 
 -- no lesser serial is held with this name in the directory
 abbrev pub IsLeastOf : Dirs → ℕ → List ℕ → ℕ → Type 0

@@ -10,9 +10,13 @@ ghost use Rattle.vol_inode.specs.Spelling.{spelling, unused};
 ghost use Rattle.vol_inode.specs.declared.version.Version.{Version};
 ghost use Rattle.vol_dirs.specs.Slots.{CanStageSlot, StagesSlot};
 ghost use Rattle.vol_dirs.specs.internal.Listing.{IsListing, AreMarked};
+ghost use Rattle.vol_dirs.specs.NameOrder.{keys_of, room_of};
+ghost use Rattle.vol_dirs.specs.SlotMarks.{flags_of};
 
 use crate::keys::key_of;
+use crate::name_order::NameOrder;
 use crate::seat::{Seat, seat_of};
+use crate::slot_marks::SlotMarks;
 use crate::slots::slot_sector;
 use crate::sorted::{insert, least_over, remove};
 use std::alloc::{AllocError, Global};
@@ -26,21 +30,21 @@ const MOST_SLOTS: u32 = u32::MAX - FIRST_AFTER_LOG;
 /// The names of a volume's entries.
 ///
 /// The slot of an entry is the sector that `slot_sector` gives for its serial: it holds the entry, or
-/// zeros where it isn't used. What the slots hold is kept in memory too, in two sorted vectors
-/// with room for all slots: the keys of the names with their serials, and the parents with their
-/// serials. A flag for each slot says whether it is used, and its seat what else a walk needs.
+/// zeros where it isn't used. What the slots hold is kept in memory too, with room for all slots: the
+/// keys of the names with their serials, in order, and a sorted vector of the parents with their
+/// serials. A mark for each slot says whether it is used, and its seat what else a walk needs.
 #[derive(Drop)]
 pub struct Dirs {
     slots: u32,
-    keys: Vec<([u8; 259], u32)>,
+    keys: NameOrder,
     children: Vec<(u32, u32)>,
-    used: Vec<bool>,
+    used: SlotMarks,
     seats: Vec<Seat>,
     ghost few: { slots ≤ 4294967173 },
-    ghost listing: { IsListing slots keys.items children.items },
-    ghost keys_room: { slots ≤ vec_capacity keys },
+    ghost listing: { IsListing slots (keys_of keys) children.items },
+    ghost keys_room: { slots ≡ room_of keys },
     ghost children_room: { slots ≤ vec_capacity children },
-    ghost marked: { AreMarked slots keys.items used.items },
+    ghost marked: { AreMarked slots (keys_of keys) (flags_of used) },
     ghost seated: { vec_len seats ≡ slots },
 }
 
@@ -130,7 +134,7 @@ impl Dirs {
         ensures used { IsTrue result → IsFree self.now serial → ⊥ }
         ensures free { result ≡ false → IsFree self.now serial }
     {
-        self.used[(serial.number() - 1) as usize]
+        self.used.is_marked((serial.number() - 1) as usize)
     }
 
     /// The directory of the entry with this serial, and whether it is one, from memory.
@@ -146,12 +150,8 @@ impl Dirs {
     pub fn least_free(&self) -> Option<Serial>
         ensures { MatchOption result (NoneIsFree self.now) (λ s. IsLeastFree self.now s) }
     {
-        for slot in 0..self.slots {
-            if !self.used[slot as usize] {
-                return Some(Serial::new(slot + 1));
-            }
-        }
-        None
+        let slot = self.used.least_unmarked()?;
+        Some(Serial::new(slot as u32 + 1))
     }
 
     /// Stages an entry in an unused slot.
@@ -221,9 +221,8 @@ impl Dirs {
         ensures least { IfSome result (λ s. IsLeastOf self.now parent name.now s) }
     {
         let key = key_of(parent.number(), name);
-        let bound = (key, 0);
-        let (found, serial) = least_over(&self.keys, &bound)?;
-        (*found == bound.0).then_some(Serial::new(*serial))
+        let serial = self.keys.least_over(&key, 0)?;
+        (*self.keys.key(serial) == key).then_some(Serial::new(serial))
     }
 
     /// The least serial over the number `after` that is held with a directory.
@@ -245,9 +244,9 @@ impl Dirs {
         }
         Ok(Dirs {
             slots,
-            keys: Vec::with_capacity(alloc, slots as usize)?,
+            keys: NameOrder::reserve(alloc, slots)?,
             children: Vec::with_capacity(alloc, slots as usize)?,
-            used: vec![in alloc; false; slots as usize]?,
+            used: SlotMarks::reserve(alloc, slots)?,
             seats: vec![in alloc; Seat {
                 parent: 0,
                 directory: false
@@ -287,9 +286,9 @@ impl Dirs {
     {
         let key = key_of(entry.parent, &entry.name[..entry.name_length as usize]);
         let number = serial.number();
-        insert(&mut self.keys, (key, number));
+        self.keys.insert(&key, number);
         insert(&mut self.children, (entry.parent, number));
-        self.used[(number - 1) as usize] = true;
+        self.used.mark((number - 1) as usize);
         self.seats[(number - 1) as usize] = seat_of(entry);
     }
 
@@ -301,10 +300,9 @@ impl Dirs {
         ensures seats { KeepSeats self.old self.new }
         ensures slots { slots_of self.new ≡ slots_of self.old }
     {
-        let key = key_of(entry.parent, &entry.name[..entry.name_length as usize]);
         let number = serial.number();
-        remove(&mut self.keys, &(key, number));
+        self.keys.remove(number);
         remove(&mut self.children, &(entry.parent, number));
-        self.used[(number - 1) as usize] = false;
+        self.used.unmark((number - 1) as usize);
     }
 }

@@ -4,8 +4,10 @@
 mod dirs;
 mod keys;
 mod laws;
+mod name_order;
 mod rooted;
 mod seat;
+mod slot_marks;
 mod slots;
 mod sorted;
 

@@ -3,36 +3,38 @@ use Rattle.std.specs.List.{Contains}
 use Rattle.std.proofs.lemmas.Bool.{false≢true}
 use Rattle.std.proofs.lemmas.Slice.Eq.{bytes_eq-Decides}
 use Rattle.vol_dirs.specs.Key.{key_of}
+use Rattle.vol_dirs.specs.NameOrder.{keys_of}
 use Rattle.vol_dirs.specs.internal.Listing.{key_order}
 use Rattle.vol_dirs.specs.internal.Rising.{IsLeastOver}
 use Rattle.vol_dirs.proofs.Spelled.{plain_name}
 use Rattle.vol_dirs.proofs.Lookups.{one_or_none, none_at_all, no_key, no_key_before, least_key}
 use Rattle.vol_dirs.proofs.dirs.Dirs.serial_of.Goals as goal
 
-pub returns-in_err-found-clause-found : goal.returns-in_err-found-clause-found
-returns-in_err-found-clause-found c = none_at_all _ _ _ c.from_residual.ensures (λ s held.
+pub returns-in_err-serial-clause-found : goal.returns-in_err-serial-clause-found
+returns-in_err-serial-clause-found c = none_at_all _ _ _ c.from_residual.ensures (λ s held.
     let dirs = c.args.self.now in
     let key_is : c.key_of-key.result ≡ key_of c.args.parent c.args.name.now = c.key_of-key.ensures ∙ ap (λ (k : ℕ). key_of k c.args.name.now) c.number.ensures in
-    let none = rw (c.deref.ensures.value, key_is) at c.in_err-found.ensures.none in
+    let none = rw key_is at c.in_err-serial.ensures.none in
     let bounds = dirs.listing.numbered (key_of c.args.parent c.args.name.now) s held.held in
-    no_key dirs.keys.items (key_of c.args.parent c.args.name.now) s none bounds.0 held.held)
+    no_key (keys_of dirs.keys) (key_of c.args.parent c.args.name.now) s none bounds.0 held.held)
 
-pub returns-in_err-found-clause-least : goal.returns-in_err-found-clause-least
-returns-in_err-found-clause-least c = none_at_all _ _ _ c.from_residual.ensures tt
+pub returns-in_err-serial-clause-least : goal.returns-in_err-serial-clause-least
+returns-in_err-serial-clause-least c = none_at_all _ _ _ c.from_residual.ensures tt
 
 pub returns-clause-least : goal.returns-clause-least
 returns-clause-least c =
     let dirs = c.args.self.now in
     let key_is : c.key_of-key.result ≡ key_of c.args.parent c.args.name.now = c.key_of-key.ensures ∙ ap (λ (k : ℕ). key_of k c.args.name.now) c.number.ensures in
     let key = key_of c.args.parent c.args.name.now in
-    let serial = c.in_ok-found.field-0.now.1 in
-    let least = rw (c.deref.ensures.value, key_is) at c.in_ok-found.ensures.found in
-    let tells = bytes_eq-Decides c.in_ok-found.field-0.now.0 c.key_of-key.result in
+    let serial = c.in_ok-serial.serial in
+    let found = rw (sym c.key.ensures) at c.in_ok-serial.ensures.found in
+    let least = rw key_is at found in
+    let tells = bytes_eq-Decides c.key.result.now c.key_of-key.result in
     one_or_none _ _ _ _ _ (rw c.new.ensures at c.then_some.ensures)
     (λ test t held.
-    let same : c.in_ok-found.field-0.now.0 ≡ key = tells.0 (sym c.eq.ensures ∙ test) ∙ key_is in
+    let same : c.key.result.now ≡ key = tells.0 (sym c.eq.ensures ∙ test) ∙ key_is in
     let bounds = dirs.listing.numbered key t held.held in
-    least_key dirs.keys.items key serial t (subst (λ (k : List ℕ). IsLeastOver key_order dirs.keys.items (key, 0) (k, serial)) same least) bounds.0 held.held)
+    least_key (keys_of dirs.keys) key serial t (subst (λ (k : List ℕ). IsLeastOver key_order (keys_of dirs.keys) (key, 0) (k, serial)) same least) bounds.0 held.held)
     (λ test. tt)
 
 pub returns-clause-found : goal.returns-clause-found
@@ -40,14 +42,15 @@ returns-clause-found c =
     let dirs = c.args.self.now in
     let key_is : c.key_of-key.result ≡ key_of c.args.parent c.args.name.now = c.key_of-key.ensures ∙ ap (λ (k : ℕ). key_of k c.args.name.now) c.number.ensures in
     let key = key_of c.args.parent c.args.name.now in
-    let least = rw (c.deref.ensures.value, key_is) at c.in_ok-found.ensures.found in
-    let tells = bytes_eq-Decides c.in_ok-found.field-0.now.0 c.key_of-key.result in
+    let found = rw (sym c.key.ensures) at c.in_ok-serial.ensures.found in
+    let least = rw key_is at found in
+    let tells = bytes_eq-Decides c.key.result.now c.key_of-key.result in
     let narrow : c.args.parent < 2 ^ 32 = omega arith in
     one_or_none _ _ _ _ _ (rw c.new.ensures at c.then_some.ensures)
     (λ test.
-    let same : c.in_ok-found.field-0.now.0 ≡ key = tells.0 (sym c.eq.ensures ∙ test) ∙ key_is in
-    record { narrow = narrow; plain = plain_name c.args.name.now c.requires; held = subst (λ (k : List ℕ). Contains dirs.keys.items (k, c.in_ok-found.field-0.now.1)) same least.there })
+    let same : c.key.result.now ≡ key = tells.0 (sym c.eq.ensures ∙ test) ∙ key_is in
+    record { narrow = narrow; plain = plain_name c.args.name.now c.requires; held = subst (λ (k : List ℕ). Contains (keys_of dirs.keys) (k, c.in_ok-serial.serial)) same least.there })
     (λ test s held.
-    let differ : c.in_ok-found.field-0.now.0 ≢ key = λ same. false≢true (sym test ∙ c.eq.ensures ∙ tells.1 (same ∙ sym key_is)) in
+    let differ : c.key.result.now ≢ key = λ same. false≢true (sym test ∙ c.eq.ensures ∙ tells.1 (same ∙ sym key_is)) in
     let bounds = dirs.listing.numbered key s held.held in
-    no_key_before dirs.keys.items key c.in_ok-found.field-0.now.0 c.in_ok-found.field-0.now.1 s least differ bounds.0 held.held)
+    no_key_before (keys_of dirs.keys) key c.key.result.now c.in_ok-serial.serial s least differ bounds.0 held.held)
