@@ -34,6 +34,8 @@ def refused(name, call, bits, no_numbers=NO_NUMBERS):
 def main():
     with open(HI, "rb") as it:
         module = sandbox.Module(it.read())
+    refused("pages", lambda value: sandbox.Prepared(module._bytes, value), 32)
+    refused("function", module.function_name, 32)
     for name, bits in (("pages", 32), ("values", 32), ("output", 64), ("moment", 64)):
         refused(name, lambda value: module.session(**{name: value}), bits)
     with module.session(args=["hi"]) as session:  # the module is there still
@@ -43,6 +45,7 @@ def main():
         refused("descriptor", session.full, 32)
         refused("start", lambda value: session.output(start=value), 64)
         refused("descriptor", session.settle, 31)
+        refused("most", session.frames, 64)
         for value in (0, 1, 2):
             try:
                 session.settle(value)
