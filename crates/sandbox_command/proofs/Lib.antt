@@ -9,3 +9,4 @@ mod Bounds
 mod Finishing
 mod AfterFlush
 mod Seeding
+mod Upheld

@@ -10,6 +10,7 @@ pub mod Reporting
 pub mod Running
 pub mod Inspecting
 pub mod Execution
+pub mod Upheld
 pub mod Beginning
 pub mod Places
 pub mod Around

@@ -9,6 +9,7 @@ mod ending;
 mod files;
 mod host_places;
 mod inspecting;
+pub mod laws;
 mod opening;
 mod output;
 mod places;
