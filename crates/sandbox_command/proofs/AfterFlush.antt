@@ -28,7 +28,7 @@ directory_flushed T path before printed after (Err (Stopped why)) (directory, na
 directory_flushed T path before printed after (Err (Stopped why)) (directory, named, inr (places, are, p), refuses) kept =
     (directory, named, inr (places, are, record { part = p.part; rest = p.rest; parts = p.parts; appended = Appends-kept before printed after p.part p.appended kept }), refuses)
 
-module _ {D : Type 0} (is_honest : D → Type 0) (disk : D → Disk) (sectors_on failures : D → ℕ) (path : Text) (device : D) (before printed after : Option (List ℕ)) (left : D) (done : Result (Unit {0}) ExportFailure) (kept : Keeps printed after) where
+module _ {D : Type 0} (is_honest : D → Type 0) (disk : D → Disk) (sectors_on failures : D → ℕ) (goes_on : ℕ → D → D → Type 0) (path : Text) (device : D) (before printed after : Option (List ℕ)) (left : D) (done : Result (Unit {0}) ExportFailure) (kept : Keeps printed after) where
   ends_flushed : WasExported is_honest disk sectors_on failures path device before printed left done ⊎ ExportsNothing is_honest disk sectors_on failures path device before printed left done
       → WasExported is_honest disk sectors_on failures path device before after left done ⊎ ExportsNothing is_honest disk sectors_on failures path device before after left done
   ends_flushed (inl w) = inl (record { numbers = w.numbers; tree = w.tree; stands = w.stands; prints = directory_flushed w.tree path before printed after done w.prints kept; crash = w.crash })

@@ -61,7 +61,7 @@ device_back v (Err r) same = same.0
 
 -- ---- from the opening of the volume on
 
-module _ {D : Type 0} (is_honest : D → Type 0) (disk : D → Disk) (sectors_on failures : D → ℕ) where
+module _ {D : Type 0} (is_honest : D → Type 0) (disk : D → Disk) (sectors_on failures : D → ℕ) (goes_on : ℕ → D → D → Type 0) where
   pub opening_crash : (file : Option (Bor Text)) (device : D) (v : Opened D) → IsOpenFor is_honest disk sectors_on failures file device v → is_honest device → Leaves (disk device) (disk v.device) (LeftByOpening is_honest disk sectors_on failures file v)
   opening_crash (Some file) device v opened h = opened.crash h
   opening_crash None device v opened h = opened.crash h
@@ -75,14 +75,14 @@ module _ {D : Type 0} (is_honest : D → Type 0) (disk : D → Disk) (sectors_on
   opened_honest None device v opened h = opened.working.honest.0 h
 
   -- what was only read leaves nothing new
-  kept_crash : (f : SessionFault) (old new : Opened D) → KeepsVolume (known_of is_honest disk sectors_on failures) f old new → is_honest old.device → Leaves (disk old.device) (disk new.device) (λ m. ⊥)
+  kept_crash : (f : SessionFault) (old new : Opened D) → KeepsVolume (known_of is_honest disk sectors_on failures goes_on) f old new → is_honest old.device → Leaves (disk old.device) (disk new.device) (λ m. ⊥)
   kept_crash Setting old new same h = subst (λ (v : Opened D). Leaves (disk old.device) (disk v.device) (λ m. ⊥)) (sym same) (leaves_same (disk old.device) (λ m. ⊥))
   kept_crash (NoInstance f) old new same h = subst (λ (v : Opened D). Leaves (disk old.device) (disk v.device) (λ m. ⊥)) (sym same) (leaves_same (disk old.device) (λ m. ⊥))
   kept_crash Device old new reads h = reads.crash h
   kept_crash Preopen old new reads h = reads.crash h
   kept_crash Memory old new same h = subst (λ (v : Opened D). Leaves (disk old.device) (disk v.device) (λ m. ⊥)) (sym same) (leaves_same (disk old.device) (λ m. ⊥))
 
-  kept_honest : (f : SessionFault) (old new : Opened D) → KeepsVolume (known_of is_honest disk sectors_on failures) f old new → is_honest old.device → is_honest new.device
+  kept_honest : (f : SessionFault) (old new : Opened D) → KeepsVolume (known_of is_honest disk sectors_on failures goes_on) f old new → is_honest old.device → is_honest new.device
   kept_honest Setting old new same h = subst (λ (v : Opened D). is_honest v.device) (sym same) h
   kept_honest (NoInstance f) old new same h = subst (λ (v : Opened D). is_honest v.device) (sym same) h
   kept_honest Device old new reads h = reads.kept.honest.0 h
@@ -90,23 +90,23 @@ module _ {D : Type 0} (is_honest : D → Type 0) (disk : D → Disk) (sectors_on
   kept_honest Memory old new same h = subst (λ (v : Opened D). is_honest v.device) (sym same) h
 
   module _ {R W1 W2 : Type 0} (remaining : R → Option (List ℕ)) (outs : W1 → Option (List ℕ)) (errs : W2 → Option (List ℕ)) (Follows : Option (List ℕ) → Option (List ℕ) → Type 0) (m : Module) (run : Run) (parts : HostParts D R W1 W2) (left : Executed D R W1 W2) where
-    pub launch_crash : (launched : Launches is_honest disk sectors_on failures remaining outs errs Follows m run parts left) → is_honest parts.volume.device → ((c : Image) → (disk parts.volume.device).may_leave c → StandsAs c parts.volume.numbers parts.volume.tree)
-        → Leaves (disk parts.volume.device) (disk left.device) (LeftByRun is_honest disk sectors_on failures remaining outs errs Follows m run parts left launched)
+    pub launch_crash : (launched : Launches is_honest disk sectors_on failures goes_on remaining outs errs Follows m run parts left) → is_honest parts.volume.device → ((c : Image) → (disk parts.volume.device).may_leave c → StandsAs c parts.volume.numbers parts.volume.tree)
+        → Leaves (disk parts.volume.device) (disk left.device) (LeftByRun is_honest disk sectors_on failures goes_on remaining outs errs Follows m run parts left launched)
     launch_crash (inl refused) h lasts =
         subst (λ (d : D). Leaves (disk parts.volume.device) (disk d) (λ c. ⊥)) (sym refused.device) (kept_crash refused.fault parts.volume refused.volume refused.kept h)
     launch_crash (inr ran) h lasts = ran.crash h lasts
 
-    pub launch_honest : Launches is_honest disk sectors_on failures remaining outs errs Follows m run parts left → is_honest parts.volume.device → is_honest left.device
+    pub launch_honest : Launches is_honest disk sectors_on failures goes_on remaining outs errs Follows m run parts left → is_honest parts.volume.device → is_honest left.device
     launch_honest (inl refused) h = subst is_honest (sym refused.device) (kept_honest refused.fault parts.volume refused.volume refused.kept h)
     launch_honest (inr ran) h =
         let back = ran.device ∙ device_back ran.counted.reports.volume.new ran.report.volume ran.counted.reports.volume.handed_back in
         subst is_honest (sym back) (ran.counted.reports.volume.kept.honest.0 (ran.counted.reports.honest_after (ran.shares.reads.kept.honest.0 h)))
 
-    pub whole_crash : (file : Option (Bor Text)) (device : D) → IsOpenFor is_honest disk sectors_on failures file device parts.volume → (launched : Launches is_honest disk sectors_on failures remaining outs errs Follows m run parts left) → is_honest device
-        → Leaves (disk device) (disk left.device) (λ c. LeftByOpening is_honest disk sectors_on failures file parts.volume c ⊎ LeftByRun is_honest disk sectors_on failures remaining outs errs Follows m run parts left launched c)
+    pub whole_crash : (file : Option (Bor Text)) (device : D) → IsOpenFor is_honest disk sectors_on failures file device parts.volume → (launched : Launches is_honest disk sectors_on failures goes_on remaining outs errs Follows m run parts left) → is_honest device
+        → Leaves (disk device) (disk left.device) (λ c. LeftByOpening is_honest disk sectors_on failures file parts.volume c ⊎ LeftByRun is_honest disk sectors_on failures goes_on remaining outs errs Follows m run parts left launched c)
     whole_crash file device opened launched h =
         let now = opened_honest file device parts.volume opened h in
         leaves_then (disk device) (disk parts.volume.device) (disk left.device) (LeftByOpening is_honest disk sectors_on failures file parts.volume)
-        (LeftByRun is_honest disk sectors_on failures remaining outs errs Follows m run parts left launched)
-        (λ c. LeftByOpening is_honest disk sectors_on failures file parts.volume c ⊎ LeftByRun is_honest disk sectors_on failures remaining outs errs Follows m run parts left launched c)
+        (LeftByRun is_honest disk sectors_on failures goes_on remaining outs errs Follows m run parts left launched)
+        (λ c. LeftByOpening is_honest disk sectors_on failures file parts.volume c ⊎ LeftByRun is_honest disk sectors_on failures goes_on remaining outs errs Follows m run parts left launched c)
         (opening_crash file device parts.volume opened h) (launch_crash launched now (opened_lasts file device parts.volume opened h)) (λ c p. inl p) (λ c p. inr p)

@@ -46,10 +46,10 @@ of_end outcome (Ok v) true n is = of_outcome outcome n is
 of_end outcome (Ok v) false n is = omega (arith, is)
 of_end outcome (Err r) flushed n is = omega (arith, is)
 
-module _ {D R W1 W2 : Type 0} (is_honest : D → Type 0) (disk : D → Disk) (sectors_on failures : D → ℕ)
+module _ {D R W1 W2 : Type 0} (is_honest : D → Type 0) (disk : D → Disk) (sectors_on failures : D → ℕ) (goes_on : ℕ → D → D → Type 0)
     (remaining : R → Option (List ℕ)) (outs : W1 → Option (List ℕ)) (errs : W2 → Option (List ℕ)) where
   pub runs_within : (run : Run) (bytes : List ℕ) (random : Text) (device : D) (input : R) (out : W1) (err : W2) (left : Executed D R W1 W2)
-      → Runs is_honest disk sectors_on failures remaining outs errs Keeps run bytes random device input out err left → left.status ≤ 124
+      → Runs is_honest disk sectors_on failures goes_on remaining outs errs Keeps run bytes random device input out err left → left.status ≤ 124
   runs_within run bytes random device input out err left (inl (refused, same)) = of_session refused.fault left.status refused.ends
   runs_within run bytes random device input out err left (inr (inl (refused, same))) = of_load refused.fault left.status refused.ends
   runs_within run bytes random device input out err left (inr (inr (m, spells, valid, inl none))) = of_volume none.refused.fault left.status none.ends

@@ -40,7 +40,7 @@ module _ {P I O V R W1 W2 : Type 0} (on : Around P I O V R W1 W2) {D : Type 0} (
     (HandsIt : D → (before : ℕ) → Option Summary → P → P → (status : ℕ) → Option Summary → Type 0)
     (run : Run) (device : D) (streams : Streams (Source I R) (Sink O W1) (Sink O W2)) (spare : Spare R W1 W2) (report : Option O) where
   abbrev Ended : (bytes random : List ℕ) → Executed D (Source I R) (Sink O W1) (Sink O W2) → Type 0
-  Ended bytes random left = Runs known.honest known.disk known.size known.failures (source_remaining on.read.remaining on.input.remaining)
+  Ended bytes random left = Runs known.honest known.disk known.size known.failures known.goes_on (source_remaining on.read.remaining on.input.remaining)
       (sink_contents on.written.contents on.out.contents) (sink_contents on.written.contents on.err.contents) Keeps
       run bytes random device streams.input streams.out streams.err left
 
@@ -112,7 +112,7 @@ module _ {P I O V R W1 W2 : Type 0} (on : Around P I O V R W1 W2) where
   with_within known HandsIt keeps run bytes random device streams spare report p q status it =
       told_within on.places on.written run.report report it.summary it.before it.handed it.told status it.tells
       (keeps it.left.device it.left.status it.left.summary p it.handed it.before it.summary it.hands
-      (runs_within known.honest known.disk known.size known.failures (source_remaining on.read.remaining on.input.remaining)
+      (runs_within known.honest known.disk known.size known.failures known.goes_on (source_remaining on.read.remaining on.input.remaining)
       (sink_contents on.written.contents on.out.contents) (sink_contents on.written.contents on.err.contents) run bytes random device streams.input streams.out streams.err it.left it.runs))
 
   medium_within : (m : Medium V) (run : Run) (opened : Opened I O V) (given : Streams R W1 W2) (report : Option O) (p q : P) (status : ℕ) → RunsOnMedium on m run opened given report p q status → status ≤ 124

@@ -120,7 +120,7 @@ module _ {P I O V R W1 W2 : Type 0} (on : Around P I O V R W1 W2) where
       (run : Run) (bytes : List ℕ) (random : Text) (device : D) (streams : Streams (Source I R) (Sink O W1) (Sink O W2)) (spare : Spare R W1 W2)
       (report : Option O) (p q : P) (status : ℕ) : Type 0 where
     pub left : Executed D (Source I R) (Sink O W1) (Sink O W2)
-    pub runs : Runs known.honest known.disk known.size known.failures (source_remaining on.read.remaining on.input.remaining)
+    pub runs : Runs known.honest known.disk known.size known.failures known.goes_on (source_remaining on.read.remaining on.input.remaining)
         (sink_contents on.written.contents on.out.contents) (sink_contents on.written.contents on.err.contents) Keeps
         run bytes random device streams.input streams.out streams.err left
     pub before : ℕ

@@ -5,6 +5,7 @@ use Rattle.std.specs.Prelude.{length}
 use Rattle.std.specs.declared.io.Read.{Ghosts as Reader}
 use Rattle.std.specs.declared.io.Write.{Ghosts as Writer}
 use Rattle.vol_sector.specs.declared.device.Device.{Ghosts as Known}
+use Rattle.vol_sector.specs.Past.{LeavesPast}
 use Rattle.sandbox_device.specs.declared.ram_device.RamDevice.{RamDevice}
 use Rattle.sandbox_command.specs.declared.places.Places.{Ghosts}
 use Rattle.sandbox_command.specs.declared.streams.Streams.{Streams}
@@ -22,7 +23,7 @@ pub record Around (P I O V R W1 W2 : Type 0) : Type 1 where
 
 -- what is known of a device in memory
 abbrev pub in_memory : Known RamDevice
-in_memory = record { honest = λ d. Unit {0}; disk = memory_disk; size = λ d. length d.sectors; failures = λ d. 0 }
+in_memory = record { honest = λ d. Unit {0}; disk = memory_disk; size = λ d. length d.sectors; failures = λ d. 0; goes_on = λ end first later. LeavesPast end (memory_disk first) (memory_disk later) }
 
 module _ {P I O V R W1 W2 : Type 0} where
   abbrev pub around : Ghosts P I O V → Reader I → Writer O → Known V → Reader R → Writer W1 → Writer W2 → Around P I O V R W1 W2

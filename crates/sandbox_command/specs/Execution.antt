@@ -59,7 +59,7 @@ pub record NotLoaded (run : Run) (bytes : List ℕ) (status : ℕ) (summary : Op
   pub ends : status ≡ load_status fault
   pub summary_is : summary ≡ Some (not_run run (reason.Module fault) kept.None status)
 
-module _ {D R W1 W2 : Type 0} (is_honest : D → Type 0) (disk : D → Disk) (sectors_on failures : D → ℕ)
+module _ {D R W1 W2 : Type 0} (is_honest : D → Type 0) (disk : D → Disk) (sectors_on failures : D → ℕ) (goes_on : ℕ → D → D → Type 0)
     (remaining : R → Option (List ℕ)) (out_contents : W1 → Option (List ℕ)) (err_contents : W2 → Option (List ℕ)) where
   -- The volume is refused.
   pub record NoVolume (Follows : Option (List ℕ) → Option (List ℕ) → Type 0) (run : Run) (device : D) (input : R) (out : W1) (err : W2) (left : Executed D R W1 W2) : Type 0 where
@@ -77,10 +77,10 @@ module _ {D R W1 W2 : Type 0} (is_honest : D → Type 0) (disk : D → Disk) (se
     pub opened : IsOpenFor is_honest disk sectors_on failures (volume_of run) device volume
     pub settings : Settings
     pub are_settings : AreSettings run random settings
-    pub launched : Launches is_honest disk sectors_on failures remaining out_contents err_contents Follows m run (given settings volume input out err) left
+    pub launched : Launches is_honest disk sectors_on failures goes_on remaining out_contents err_contents Follows m run (given settings volume input out err) left
     -- At any moment a crash leaves what it could leave before, what opening leaves, or the tree of a host that the run comes by.
     pub crash : is_honest device → Leaves (disk device) (disk left.device)
-        (λ c. LeftByOpening is_honest disk sectors_on failures (volume_of run) volume c ⊎ LeftByRun is_honest disk sectors_on failures remaining out_contents err_contents Follows m run (given settings volume input out err) left launched c)
+        (λ c. LeftByOpening is_honest disk sectors_on failures (volume_of run) volume c ⊎ LeftByRun is_honest disk sectors_on failures goes_on remaining out_contents err_contents Follows m run (given settings volume input out err) left launched c)
     pub honest : is_honest device → is_honest left.device
 
   -- the volume is refused, or the module is launched with it

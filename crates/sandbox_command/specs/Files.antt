@@ -10,6 +10,7 @@ use Rattle.std.specs.declared.io.Write.{Ghosts as Writer}
 use Rattle.clap.specs.declared.error.kind.ErrorKind.{ErrorKind as LineKind}
 use Rattle.clap.specs.Words.{subcommand_of}
 use Rattle.vol_sector.specs.Disk.{Disk}
+use Rattle.vol_sector.specs.Past.{LeavesPast}
 use Rattle.sandbox_device.specs.declared.file_device.FileDevice.{FileDevice}
 use Rattle.sandbox_device.specs.declared.opening.Output.{Output}
 use Rattle.sandbox_device.specs.File.{kept, KeepsItsModel}
@@ -49,7 +50,7 @@ module _ {P I O V R W1 W2 : Type 0} (on : Around P I O V R W1 W2) where
   -- given up as it was.
   pub record HasExecuted (invocation : Invocation) (device : V) (given : Streams R W1 W2) (p q : P) (status : ℕ) : Type 0 where
     pub left : Executed V R W1 W2
-    pub executes : Executes on.volume.honest on.volume.disk on.volume.size on.volume.failures on.input.remaining on.out.contents on.err.contents
+    pub executes : Executes on.volume.honest on.volume.disk on.volume.size on.volume.failures on.volume.goes_on on.input.remaining on.out.contents on.err.contents
         invocation [] [] device given.input given.out given.err left
     pub ends : status ≡ left.status
     pub ended : on.places.ended left p q
@@ -121,7 +122,7 @@ system input out err = record {
   };
   read = record { remaining = λ file. None };
   written = record { contents = λ file. None };
-  volume = record { honest = λ d. KeepsItsModel d.file; disk = file_disk; size = λ d. length d.sectors; failures = λ d. d.failures };
+  volume = record { honest = λ d. KeepsItsModel d.file; disk = file_disk; size = λ d. length d.sectors; failures = λ d. d.failures; goes_on = λ end first later. LeavesPast end (file_disk first) (file_disk later) };
   input = input;
   out = out;
   err = err;

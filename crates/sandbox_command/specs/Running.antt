@@ -36,11 +36,11 @@ returned_device (Ok v) = v.device
 returned_device (Err refused) = refused.device
 
 -- what is known of a device, as one record
-abbrev pub known_of : {D : Type 0} → (D → Type 0) → (D → Disk) → (D → ℕ) → (D → ℕ) → Ghosts D
-known_of is_honest disk sectors_on failures =
-    record { honest = is_honest; disk = disk; size = sectors_on; failures = failures }
+abbrev pub known_of : {D : Type 0} → (D → Type 0) → (D → Disk) → (D → ℕ) → (D → ℕ) → (ℕ → D → D → Type 0) → Ghosts D
+known_of is_honest disk sectors_on failures goes_on =
+    record { honest = is_honest; disk = disk; size = sectors_on; failures = failures; goes_on = goes_on }
 
-module _ {D R W1 W2 : Type 0} (is_honest : D → Type 0) (disk : D → Disk) (sectors_on failures : D → ℕ)
+module _ {D R W1 W2 : Type 0} (is_honest : D → Type 0) (disk : D → Disk) (sectors_on failures : D → ℕ) (goes_on : ℕ → D → D → Type 0)
     (remaining : R → Option (List ℕ)) (out_contents : W1 → Option (List ℕ)) (err_contents : W2 → Option (List ℕ)) where
   -- a host whose streams are counted
   abbrev pub Host : Type 0
@@ -49,7 +49,7 @@ module _ {D R W1 W2 : Type 0} (is_honest : D → Type 0) (disk : D → Disk) (se
   -- and what is known of its device and of these streams
   abbrev pub counted_devices : Devices D (Counted R) (Counted W1) (Counted W2)
   counted_devices = record {
-    device = known_of is_honest disk sectors_on failures;
+    device = known_of is_honest disk sectors_on failures goes_on;
     input = record { remaining = counted_bytes remaining };
     out = record { contents = counted_bytes out_contents };
     err = record { contents = counted_bytes err_contents };

@@ -11,8 +11,8 @@ use vol_sector::Device;
 
 /// Where `execute` says that a guest ran, the headline holds of its run.
 pub fn run_upholds<D: Device, R: Read, W1: Write, W2: Write>()
-    ensures told { RunUpholds D.honest D.disk D.size D.failures R.remaining W1.contents W2.contents AppendsSome }
-    ensures kept { RunUpholds D.honest D.disk D.size D.failures R.remaining W1.contents W2.contents Keeps }
+    ensures told { RunUpholds D.honest D.disk D.size D.failures D.goes_on R.remaining W1.contents W2.contents AppendsSome }
+    ensures kept { RunUpholds D.honest D.disk D.size D.failures D.goes_on R.remaining W1.contents W2.contents Keeps }
 {
     headline::<D, Counted<R>, Counted<W1>, Counted<W2>>();
     headline_seeded::<D, Counted<R>, Counted<W1>, Counted<W2>>();

@@ -370,7 +370,7 @@ fn launch<'a, D: Device + Drop, R: Read + Drop, W1: Write + Drop, W2: Write + Dr
     parts: HostParts<'_, '_, D, R, W1, W2>,
 ) -> (Valid<'a>, Executed<D, R, W1, W2>)
     ensures module { result.0 ≡ valid.entry }
-    ensures launches { Launches D.honest D.disk D.size D.failures R.remaining W1.contents W2.contents Keeps
+    ensures launches { Launches D.honest D.disk D.size D.failures D.goes_on R.remaining W1.contents W2.contents Keeps
         valid.entry run.now parts.entry result.1 }
 {
     let HostParts {
@@ -413,7 +413,7 @@ pub(crate) fn run_valid<'a, D: Device + Drop, R: Read + Drop, W1: Write + Drop, 
 ) -> (Valid<'a>, Executed<D, R, W1, W2>)
     requires { AreSupplies run.now supplies.now }
     ensures module { result.0 ≡ valid.entry }
-    ensures runs { RunsOn D.honest D.disk D.size D.failures R.remaining W1.contents W2.contents Keeps
+    ensures runs { RunsOn D.honest D.disk D.size D.failures D.goes_on R.remaining W1.contents W2.contents Keeps
         run.now valid.entry random.now device input out err result.1 }
 {
     let volume = match open_for_run(alloc, volume_of(run), device) {
@@ -455,7 +455,7 @@ pub(crate) fn run<D: Device + Drop, R: Read + Drop, W1: Write + Drop, W2: Write 
     out: W1,
     err: W2,
 ) -> Executed<D, R, W1, W2>
-    ensures { Runs D.honest D.disk D.size D.failures R.remaining W1.contents W2.contents Keeps
+    ensures { Runs D.honest D.disk D.size D.failures D.goes_on R.remaining W1.contents W2.contents Keeps
         run.now «module».now random.now device input out err result }
 {
     let (status, fault) = match supplied(alloc, run) {
@@ -493,7 +493,7 @@ fn run_and_tell<D: Device + Drop, R: Read + Drop, W1: Write + Drop, W2: Write + 
     out: W1,
     err: W2,
 ) -> Executed<D, R, W1, W2>
-    ensures tells { Runs D.honest D.disk D.size D.failures R.remaining W1.contents W2.contents AppendsSome
+    ensures tells { Runs D.honest D.disk D.size D.failures D.goes_on R.remaining W1.contents W2.contents AppendsSome
         it.now «module».now random.now device input out err result }
     ensures within { result.status ≤ 124 }
 {
@@ -519,7 +519,7 @@ pub fn execute<D: Device + Drop, R: Read + Drop, W1: Write + Drop, W2: Write + D
     mut out: W1,
     err: W2,
 ) -> Executed<D, R, W1, W2>
-    ensures tells { Executes D.honest D.disk D.size D.failures R.remaining W1.contents W2.contents
+    ensures tells { Executes D.honest D.disk D.size D.failures D.goes_on R.remaining W1.contents W2.contents
         invocation.now «module».now random.now device input out err result }
     ensures within { result.status ≤ 124 }
 {

@@ -215,7 +215,7 @@ fn run_on<D: Device + Drop, R: Read + Drop, W1: Write + Drop, W2: Write + Drop>(
     device: D,
     streams: Streams<R, W1, W2>,
 ) -> Executed<D, R, W1, W2>
-    ensures { Runs D.honest D.disk D.size D.failures R.remaining W1.contents W2.contents Keeps
+    ensures { Runs D.honest D.disk D.size D.failures D.goes_on R.remaining W1.contents W2.contents Keeps
         run.now «module».now random.now device streams.input streams.out streams.err result }
 {
     let Streams { input, out, err } = streams;

@@ -14,6 +14,7 @@ returns-in-Volume-clause-tells g c =
     let disk = g.D.Device.disk in
     let size = g.D.Device.size in
     let failures = g.D.Device.failures in
+    let goes_on = g.D.Device.goes_on in
     let remaining = g.R.Read.remaining in
     let outs = g.W1.Write.contents in
     let task = c.in-Volume.task in
@@ -24,7 +25,7 @@ returns-in-Volume-clause-tells g c =
     c.perform-done.result.1 done c.perform-done.ensures ended.out in
     let at_input = subst (λ (r : g.row.R.Denot). Performs honest disk size failures task c.args.device (remaining c.args.input) (remaining r) (outs c.args.out) (outs left.out) c.perform-done.result.1 done) (sym ended.input) flushed in
     let performs = subst (λ (d : g.row.D.Denot). Performs honest disk size failures task c.args.device (remaining c.args.input) (remaining left.input) (outs c.args.out) (outs left.out) d done) (sym ended.device) at_input in
-    subst (λ (i : Invocation). Executes honest disk size failures remaining outs g.W2.Write.contents i c.args.module.now c.args.random.now c.args.device c.args.input c.args.out c.args.err left) (sym c.in-Volume.is)
+    subst (λ (i : Invocation). Executes honest disk size failures goes_on remaining outs g.W2.Write.contents i c.args.module.now c.args.random.now c.args.device c.args.input c.args.out c.args.err left) (sym c.in-Volume.is)
     (done, performs, ended.status, ended.summary, ended.err)
 
 -- the directory was printed, and then the output flushed
@@ -34,12 +35,13 @@ returns-in-Export-clause-tells g c =
     let disk = g.D.Device.disk in
     let size = g.D.Device.size in
     let failures = g.D.Device.failures in
+    let goes_on = g.D.Device.goes_on in
     let outs = g.W1.Write.contents in
     let path = c.in-Export.path.now in
     let done = c.export_from-done.result.0 in
     let left = c.ended-in-Export.result in
     let ended = c.ended-in-Export.ensures in
-    let flushed = export_flushed honest disk size failures path c.args.device (outs c.args.out) (outs c.export_from-done.new.out) (outs left.out) c.export_from-done.result.1 done ended.out c.export_from-done.ensures in
+    let flushed = export_flushed honest disk size failures goes_on path c.args.device (outs c.args.out) (outs c.export_from-done.new.out) (outs left.out) c.export_from-done.result.1 done ended.out c.export_from-done.ensures in
     let performs = subst (λ (d : g.row.D.Denot). PerformsExport honest disk size failures path c.args.device (outs c.args.out) (outs left.out) d done) (sym ended.device) flushed in
-    subst (λ (i : Invocation). Executes honest disk size failures g.R.Read.remaining outs g.W2.Write.contents i c.args.module.now c.args.random.now c.args.device c.args.input c.args.out c.args.err left) (sym c.in-Export.is)
+    subst (λ (i : Invocation). Executes honest disk size failures goes_on g.R.Read.remaining outs g.W2.Write.contents i c.args.module.now c.args.random.now c.args.device c.args.input c.args.out c.args.err left) (sym c.in-Export.is)
     (done, performs, ended.status, ended.summary, ended.input, ended.err)

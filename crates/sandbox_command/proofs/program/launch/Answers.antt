@@ -21,7 +21,7 @@ use Rattle.sandbox_command.proofs.program.launch.Goals as goal
 pub returns-in-Ok-clause-launches : goal.returns-in-Ok-clause-launches
 returns-in-Ok-clause-launches g c =
     let disk = g.D.Device.disk in
-    let on = counted_devices g.D.Device.honest g.D.Device.disk g.D.Device.size g.D.Device.failures g.R.Read.remaining g.W1.Write.contents g.W2.Write.contents in
+    let on = counted_devices g.D.Device.honest g.D.Device.disk g.D.Device.size g.D.Device.failures g.D.Device.goes_on g.R.Read.remaining g.W1.Write.contents g.W2.Write.contents in
     let outs = counted_bytes g.W1.Write.contents in
     let errs = counted_bytes g.W2.Write.contents in
     let parts = c.args.parts in

@@ -29,12 +29,13 @@ returns-clause-runs g c =
     let disk = g.D.Device.disk in
     let size = g.D.Device.size in
     let failures = g.D.Device.failures in
+    let goes_on = g.D.Device.goes_on in
     let file = volume_of c.args.run.now in
     let v = c.in-Ok.volume in
     let opened = subst (λ named. IsOpenFor honest disk size failures named c.args.device v) c.volume_of.ensures c.in-Ok.ensures.opens in
     let parts = given c.settings.result v c.args.input c.args.out c.args.err in
     let run = c.args.run.now in
-    let whole = whole_crash honest disk size failures g.R.Read.remaining g.W1.Write.contents g.W2.Write.contents Keeps c.args.valid run parts c.launch.result.1 file c.args.device opened c.launch.ensures.launches in
+    let whole = whole_crash honest disk size failures goes_on g.R.Read.remaining g.W1.Write.contents g.W2.Write.contents Keeps c.args.valid run parts c.launch.result.1 file c.args.device opened c.launch.ensures.launches in
     inr (record {
       volume = v;
       opened = opened;
@@ -42,6 +43,6 @@ returns-clause-runs g c =
       are_settings = c.settings.ensures;
       launched = c.launch.ensures.launches;
       crash = whole;
-      honest = λ h. launch_honest honest disk size failures g.R.Read.remaining g.W1.Write.contents g.W2.Write.contents Keeps c.args.valid run parts c.launch.result.1
-          c.launch.ensures.launches (opened_honest honest disk size failures file c.args.device v opened h);
+      honest = λ h. launch_honest honest disk size failures goes_on g.R.Read.remaining g.W1.Write.contents g.W2.Write.contents Keeps c.args.valid run parts c.launch.result.1
+          c.launch.ensures.launches (opened_honest honest disk size failures goes_on file c.args.device v opened h);
     })
