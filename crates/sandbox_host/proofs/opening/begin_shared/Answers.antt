@@ -1,7 +1,8 @@
 use Rattle.std.proofs.Common.{◌∙◌, sym, subst, inl, inr}
 use Rattle.wasi_calls.specs.declared.host.settings.Settings.{Settings}
 use Rattle.sandbox_core.specs.Session.{given, IsRefused}
-use Rattle.sandbox_host.specs.Host.{State, Opens, Shares, IsHonest}
+use Rattle.sandbox_core.proofs.Limiting.{opens_limited, shares_limited}
+use Rattle.sandbox_host.specs.Host.{State, Opens, Shares, IsHonest, known}
 use Rattle.sandbox_host.specs.Supplies.{settings_of}
 use Rattle.sandbox_host.proofs.Working.{no_device}
 use Rattle.sandbox_host.proofs.opening.begin_shared.Goals as goal
@@ -25,9 +26,11 @@ returns-in-Ok-new-clause-begins c =
       output_open = c.new-out.ensures.begins;
       errors_open = c.new-err.ensures.begins;
       opens = subst (λ (t : State). Opens c.args.ready.now.valid (given (settings_of c.args.supplies.now) c.in-Ok.volume input c.new-out.result c.new-err.result) t) (sym c.limit_values.ensures)
-          (subst (λ (s : Settings). Opens c.args.ready.now.valid (given s c.in-Ok.volume input c.new-out.result c.new-err.result) session) c.settings-settings.ensures made.opens);
+          (opens_limited c.args.ready.now.valid (given (settings_of c.args.supplies.now) c.in-Ok.volume input c.new-out.result c.new-err.result) session _
+          (subst (λ (s : Settings). Opens c.args.ready.now.valid (given s c.in-Ok.volume input c.new-out.result c.new-err.result) session) c.settings-settings.ensures made.opens));
       shares = subst (λ (t : State). Shares (given (settings_of c.args.supplies.now) c.in-Ok.volume input c.new-out.result c.new-err.result) t) (sym c.limit_values.ensures)
-          (subst (λ (s : Settings). Shares (given s c.in-Ok.volume input c.new-out.result c.new-err.result) session) c.settings-settings.ensures made.shares);
+          (shares_limited known.device (given (settings_of c.args.supplies.now) c.in-Ok.volume input c.new-out.result c.new-err.result) session _
+          (subst (λ (s : Settings). Shares (given s c.in-Ok.volume input c.new-out.result c.new-err.result) session) c.settings-settings.ensures made.shares));
     }
 
 pub returns-in-Err-new-clause-refused : goal.returns-in-Err-new-clause-refused
