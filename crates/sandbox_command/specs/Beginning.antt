@@ -1,6 +1,5 @@
 -- What a run on sectors in memory begins with (`IsImage`), and what is reported of a run that is not executed, since a
--- file or memory is refused. A run alone (`Files`) and a test of a list (`Testing`) both cite `IsImage` and
--- `memory_disk`; `IsUnread` is for the run alone, `unread` for the test.
+-- file or memory is refused (`unread`). A run alone (`Alone`) and a test of a list (`Testing`) both cite these.
 use Rattle.std.specs.Prelude.{◌≡◌, ◌⊎◌, ◌≤◌, ℕ, List, Option, Some, None, length, replicate}
 use Rattle.std.specs.Borrow.{Bor}
 use Rattle.std.specs.declared.io.ErrorKind.{ErrorKind}
@@ -23,12 +22,6 @@ memory_disk d = held d.sectors d.past.images
 abbrev pub IsImage : Option (Bor Text) → List (List ℕ) → Type 0
 IsImage None sectors = sectors ≡ replicate 202 (replicate 512 0)
 IsImage (Some file) sectors = length sectors ≤ 65536
-
--- A run one of whose files is refused, or for which memory was wanting before it was executed, with what its report says.
-abbrev pub IsUnread : Run → (status : ℕ) → Option Summary → Type 0
-IsUnread run status summary =
-    ((status ≡ 122) × (summary ≡ Some (not_run run reason.Memory became.None status)))
-    ⊎ ((status ≡ 124) × (summary ≡ Some (not_run run reason.File became.None status)))
 
 -- the report of a run whose file is refused so
 abbrev pub unread : Run → ErrorKind → Summary

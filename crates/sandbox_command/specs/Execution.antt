@@ -1,7 +1,7 @@
 -- What the program does: how it ends, and of which run, formatting, task, import, export or inspection its status
 -- tells (`docs/USING.md`, "Commands"). `execute` promises `Executes`; its part for a run, `Runs`, has a parameter
 -- `Follows`: what standard error may have behind what the guest wrote there, the program's own lines (`AppendsSome`)
--- or nothing (`Keeps`).
+-- or nothing (`Keeps`), as where a run is one of its own (`Alone`) or a test (`Testing`).
 use Rattle.std.specs.Prelude.{◌≡◌, ◌≢◌, ◌⊎◌, ℕ, true, List, Option, Some, None, Result}
 use Rattle.std.specs.Io.KnownBytes.{Keeps}
 use Rattle.vol_sector.specs.Disk.{Disk, Leaves}
@@ -101,33 +101,29 @@ module _ {D R W1 W2 : Type 0} (is_honest : D → Type 0) (disk : D → Disk) (se
       ⊎ ((NotLoaded run bytes left.status left.summary × IsUntouched Follows device input out err left)
       ⊎ ((m : Module) × Spells bytes m × IsValid m × RunsOn Follows run m random device input out err left))
 
-  -- A module runs on the volume of a device, and the side of errors is followed as is said; a device is formatted; a task is
+  -- A module runs on the volume of a device, and the program's own lines follow on the side of errors; a device is formatted; a task is
   -- done with the volume on a device, a tar stream brought into it, or one of its directories printed as one; the lines that
   -- tell what a module is are printed. Then the output is flushed, which keeps what it has.
-  abbrev pub ExecutesSo : (Option (List ℕ) → Option (List ℕ) → Type 0) → Invocation → List ℕ → Text → D → R → W1 → W2 → Executed D R W1 W2 → Type 0
-  ExecutesSo Follows (asked.Run run) bytes random device input out err left = Runs Follows run bytes random device input out err left
-  ExecutesSo Follows (asked.Format file sectors slots large) bytes random device input out err left =
+  abbrev pub Executes : Invocation → List ℕ → Text → D → R → W1 → W2 → Executed D R W1 W2 → Type 0
+  Executes (asked.Run run) bytes random device input out err left = Runs AppendsSome run bytes random device input out err left
+  Executes (asked.Format file sectors slots large) bytes random device input out err left =
       (done : Result (Unit {0}) Failure) × FormatsAs large is_honest disk sectors_on failures device sectors slots left.device done
       × (left.status ≡ ended_status failure_status done left.flushed) × (left.summary ≡ None) × IsSilent out_contents err_contents AppendsSome input out err left
-  ExecutesSo Follows (asked.Volume file task) bytes random device input out err left =
+  Executes (asked.Volume file task) bytes random device input out err left =
       (done : Result (Unit {0}) Failure)
       × Performs is_honest disk sectors_on failures task device (remaining input) (remaining left.input) (out_contents out) (out_contents left.out) left.device done
       × (left.status ≡ ended_status failure_status done left.flushed) × (left.summary ≡ None)
       × TellsChecked (checked_damage task done) (err_contents err) (err_contents left.err)
-  ExecutesSo Follows (asked.Import file path) bytes random device input out err left =
+  Executes (asked.Import file path) bytes random device input out err left =
       (done : Result ℕ ImportFailure)
       × PerformsImport is_honest disk sectors_on failures path.now device (remaining input) (remaining left.input) left.device done
       × (left.status ≡ ended_status import_status done left.flushed) × (left.summary ≡ None)
       × Keeps (out_contents out) (out_contents left.out) × AppendsSome (err_contents err) (err_contents left.err)
-  ExecutesSo Follows (asked.Export file path) bytes random device input out err left =
+  Executes (asked.Export file path) bytes random device input out err left =
       (done : Result (Unit {0}) ExportFailure)
       × PerformsExport is_honest disk sectors_on failures path.now device (out_contents out) (out_contents left.out) left.device done
       × (left.status ≡ ended_status export_status done left.flushed) × (left.summary ≡ None)
       × (left.input ≡ input) × AppendsSome (err_contents err) (err_contents left.err)
-  ExecutesSo Follows (asked.Inspect «module») bytes random device input out err left =
+  Executes (asked.Inspect «module») bytes random device input out err left =
       Inspects bytes (out_contents out) (out_contents left.out) left.flushed left.status × (left.summary ≡ None)
       × (left.device ≡ device) × (left.input ≡ input) × AppendsSome (err_contents err) (err_contents left.err)
-
-  -- where the program's own lines follow on the side of errors
-  abbrev pub Executes : Invocation → List ℕ → Text → D → R → W1 → W2 → Executed D R W1 W2 → Type 0
-  Executes invocation bytes random device input out err left = ExecutesSo AppendsSome invocation bytes random device input out err left

@@ -111,13 +111,3 @@ module _ {D R W1 W2 : Type 0} where
     flushed = flushed;
     broken = report.broken;
   }
-
--- ---- the report is printed
-
--- A run ended so, and its report was to be printed into this file, if there is one. Where there is none, or nothing to be
--- reported, the status stays. Else what the file had is followed by the report's text, or it couldn't be printed: 124.
-pub record IsTold {F : Type 0} (contents : F → Option (List ℕ)) (file : Option F) (ended : ℕ) (summary : Option Summary) (status : ℕ) (left : Option F) : Type 0 where
-  pub either : (status ≡ ended) ⊎ (status ≡ 124)
-  pub none : (file ≡ None) ⊎ (summary ≡ None) → status ≡ ended
-  pub printed : (f : F) (s : Summary) → file ≡ Some f → summary ≡ Some s
-      → (status ≡ 124) ⊎ ((status ≡ ended) × (g : F) × (left ≡ Some g) × Appends (contents f) (contents g) (report_text s))
