@@ -24,8 +24,8 @@ use Rattle.sandbox_command.specs.declared.program.Executed.{Executed}
 use Rattle.sandbox_command.specs.declared.places.Places.{Ghosts}
 use Rattle.sandbox_command.specs.declared.streams.Streams.{Streams}
 use Rattle.sandbox_command.specs.declared.testing.Test.{Test}
-use Rattle.sandbox_command.specs.Around.{Around, EndsGiven}
-use Rattle.sandbox_command.specs.Beginning.{IsImage, memory_disk, unread}
+use Rattle.sandbox_command.specs.Around.{Around, EndsGiven, in_memory}
+use Rattle.sandbox_command.specs.Beginning.{IsImage, unread}
 use Rattle.sandbox_command.specs.Execution.{NotLoaded, NotSupplied, RunsOn}
 use Rattle.sandbox_command.specs.Places.{Access, Opens, Makes, Reads, Prints, Chain, ChainWithFailure, IsOfImage, IsOfRandom, IsRefusedAmong, file_accesses, reads_of}
 use Rattle.sandbox_command.specs.Status.{file_status}
@@ -96,7 +96,7 @@ module _ {P I O V : Type 0} (places : Ghosts P I O V) (read : Reader I) (written
     pub new : IsImage run.image device.sectors
     pub of_image : IsOfImage places.is_image run.image device
     pub left : Executed RamDevice I O O
-    pub runs : RunsOn (λ d. Unit {0}) memory_disk (λ d. length d.sectors) (λ d. 0) read.remaining written.contents written.contents Keeps run m random device input out err left
+    pub runs : RunsOn in_memory.honest in_memory.disk in_memory.size in_memory.failures in_memory.goes_on read.remaining written.contents written.contents Keeps run m random device input out err left
     pub summary_is : summary ≡ left.summary
     pub ended : places.ended left prepared q
 

@@ -6,6 +6,7 @@ use Rattle.sandbox_core.specs.declared.fault.SessionFault.{SessionFault}
 use Rattle.sandbox_core.specs.declared.fault.SessionFault.TheVariants as opening
 use Rattle.vol_sector.specs.declared.fault.VolumeFault.{VolumeFault}
 use Rattle.vol_sector.specs.declared.fault.VolumeFault.TheVariants as volume
+use Rattle.wasm_store.specs.declared.fault.InstanceFault.{InstanceFault}
 use Rattle.wasm_store.specs.declared.call.HostCall.{HostCall}
 use Rattle.wasm_store.specs.declared.call.HostCall.TheVariants as call
 use Rattle.wasm_steps.specs.declared.pause.Outcome.{Outcome}
@@ -33,6 +34,9 @@ session_fault opening.Memory = Memory
 
 abbrev pub session_number : SessionFault → ℕ
 session_number fault = fault_answer (session_fault fault)
+
+abbrev pub instance_number : InstanceFault → ℕ
+instance_number fault = fault_answer (Instance fault)
 
 abbrev pub volume_number : VolumeFault → ℕ
 volume_number fault = fault_answer (Volume fault)
