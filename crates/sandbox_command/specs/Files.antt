@@ -11,7 +11,6 @@ use Rattle.clap.specs.declared.error.kind.ErrorKind.{ErrorKind as LineKind}
 use Rattle.clap.specs.Words.{subcommand_of}
 use Rattle.vol_sector.specs.Disk.{Disk}
 use Rattle.vol_sector.specs.Past.{LeavesPast}
-use Rattle.sandbox_device.specs.declared.file_device.FileDevice.{FileDevice}
 use Rattle.sandbox_device.specs.declared.opening.Output.{Output}
 use Rattle.sandbox_device.specs.File.{kept, KeepsItsModel}
 use Rattle.sandbox_words.specs.declared.request.Run.{Run}
@@ -21,6 +20,7 @@ use Rattle.sandbox_words.specs.Request.{Text}
 use Rattle.sandbox_words.specs.CommandLine.{AsksFor, program}
 use Rattle.sandbox_command.specs.declared.program.Executed.{Executed}
 use Rattle.sandbox_command.specs.declared.host_places.HostPlaces.{HostPlaces}
+use Rattle.sandbox_command.specs.declared.host_volume.HostVolume.{HostVolume}
 use Rattle.sandbox_command.specs.declared.streams.Streams.{Streams}
 use Rattle.sandbox_command.specs.Alone.{RunsAlone}
 use Rattle.sandbox_command.specs.Around.{Around, EndsGiven}
@@ -100,12 +100,12 @@ module _ {P I O V R W1 W2 : Type 0} (on : Around P I O V R W1 W2) where
 
 -- ---- the files of the system
 
--- what is known of the disk of a device in a file
-abbrev pub file_disk : FileDevice File → Disk
-file_disk d = kept d.sectors d.moments.unsynced d.moments.times
+-- what is known of the disk of a volume in a file
+abbrev pub file_disk : HostVolume → Disk
+file_disk d = kept d.device.sectors d.device.moments.unsynced d.device.moments.times
 
 -- Of the bytes of files nothing is known, and what the system did with a name is known to the code alone that asked for it.
-abbrev pub system : {R W1 W2 : Type 0} → Reader R → Writer W1 → Writer W2 → Around HostPlaces File Output (FileDevice File) R W1 W2
+abbrev pub system : {R W1 W2 : Type 0} → Reader R → Writer W1 → Writer W2 → Around HostPlaces File Output HostVolume R W1 W2
 system input out err = record {
   places = record {
     asked = λ access before after. Unit {0};
@@ -122,7 +122,7 @@ system input out err = record {
   };
   read = record { remaining = λ file. None };
   written = record { contents = λ file. None };
-  volume = record { honest = λ d. KeepsItsModel d.file; disk = file_disk; size = λ d. length d.sectors; failures = λ d. d.failures; goes_on = λ end first later. LeavesPast end (file_disk first) (file_disk later) };
+  volume = record { honest = λ d. KeepsItsModel d.device.file; disk = file_disk; size = λ d. length d.device.sectors; failures = λ d. d.device.failures; goes_on = λ end first later. LeavesPast end (file_disk first) (file_disk later) };
   input = input;
   out = out;
   err = err;

@@ -4,6 +4,7 @@ ghost use Rattle.std.specs.Prelude.{◌≡◌, ◌≤◌, IfOk, length, min};
 ghost use Rattle.sandbox_command.specs.Places.{Gave, Took, WasEnded, WasHandedOut, WasRefused};
 
 use crate::clashing::clashes;
+use crate::host_volume::HostVolume;
 use crate::places::Places;
 use crate::possession::{Held, refuse_errors, refuse_errors_of};
 use run_report::Summary;
@@ -94,23 +95,25 @@ impl<'a> HostPlaces<'a> {
         }
     }
 
-    fn locked(&mut self, name: &str) -> io::Result<FileDevice>
-        ensures { IfOk result (λ d. d.failures ≡ 0) }
+    fn locked(&mut self, name: &str) -> io::Result<HostVolume>
+        ensures { IfOk result (λ d. d.device.failures ≡ 0) }
     {
         self.go_on()?;
         let file = FileDevice::lock(self.rt, name)?;
         self.held.take_volume(Identity::of(&file)?)?;
-        FileDevice::of(self.rt.alloc(), file)
+        let device = FileDevice::of(self.rt.alloc(), file)?;
+        Ok(HostVolume { device })
     }
 
-    fn lengthened(&mut self, name: &str, sectors: u32) -> io::Result<FileDevice>
-        ensures unused { IfOk result (λ d. d.failures ≡ 0) }
-        ensures enough { IfOk result (λ d. min sectors 65536 ≤ length d.sectors) }
+    fn lengthened(&mut self, name: &str, sectors: u32) -> io::Result<HostVolume>
+        ensures unused { IfOk result (λ d. d.device.failures ≡ 0) }
+        ensures enough { IfOk result (λ d. min sectors 65536 ≤ length d.device.sectors) }
     {
         self.go_on()?;
         let file = FileDevice::lock_or_make(self.rt, name)?;
         self.held.take_volume(Identity::of(&file)?)?;
-        FileDevice::lengthened(self.rt.alloc(), file, sectors)
+        let device = FileDevice::lengthened(self.rt.alloc(), file, sectors)?;
+        Ok(HostVolume { device })
     }
 
     /// Opens what gets a volume at the end, which may be the image.
@@ -222,7 +225,7 @@ impl<'a> Places for HostPlaces<'a> {
 
     type Output = Output;
 
-    type Volume = FileDevice;
+    type Volume = HostVolume;
 
     ghost asked = { λ access before after. Unit {0} };
 
@@ -258,11 +261,11 @@ impl<'a> Places for HostPlaces<'a> {
         self.cut_apart(name, file)
     }
 
-    fn lock(&mut self, name: &str) -> io::Result<FileDevice> {
+    fn lock(&mut self, name: &str) -> io::Result<HostVolume> {
         self.locked(name)
     }
 
-    fn lengthen(&mut self, name: &str, sectors: u32) -> io::Result<FileDevice> {
+    fn lengthen(&mut self, name: &str, sectors: u32) -> io::Result<HostVolume> {
         self.lengthened(name, sectors)
     }
 

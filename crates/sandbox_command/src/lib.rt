@@ -8,6 +8,7 @@ mod closing;
 mod ending;
 mod files;
 mod host_places;
+mod host_volume;
 mod inspecting;
 pub mod laws;
 mod opening;
@@ -22,6 +23,7 @@ mod supplies;
 mod testing;
 
 pub use files::{exit_code, perform, perform_in};
+pub use host_volume::HostVolume;
 pub use places::Places;
 pub use program::{Executed, execute, refuse_command_line, refuse_words};
 pub use run_report::{Summary, print as print_report};
