@@ -183,10 +183,12 @@ impl<'a> HostPlaces<'a> {
     /// A file that is read whole. It has a part in what is done, even where all is refused.
     fn source(&mut self, name: &str) -> io::Result<File> {
         let file = open_to_read(self.rt, name);
-        if let Ok(file) = &file {
-            self.held.take_source(file)?;
-        }
-        self.go_on()?;
+        let taken = match &file {
+            Ok(file) => self.held.take_source(file),
+            Err(_) => Ok(()),
+        };
+        self.go_on()?; // it says whether a line may be printed at all, so it comes first
+        taken?;
         file
     }
 
