@@ -17,9 +17,9 @@ use Rattle.path_walk.specs.internal.Turns.{turned, ends, counting, now_of}
 
 -- ---- the volume
 
-module _ {D : Type 0} (honest : D → Type 0) (disk : D → Disk) (size failures : D → ℕ) where
+module _ {D : Type 0} (honest : D → Type 0) (disk : D → Disk) (size failures : D → ℕ) (goes_on : ℕ → D → D → Type 0) where
   -- nothing was asked of a volume that works
-  pub asked_nothing : (v : Opened D) → v.failed ≡ false → Asked honest disk size failures v v false
+  pub asked_nothing : (v : Opened D) → v.failed ≡ false → Asked honest disk size failures goes_on v v false
   asked_nothing v works = record {
     tree = λ h. refl;
     crash = λ h. leaves_same (disk v.device) (λ c. ⊥);
@@ -31,15 +31,16 @@ module _ {D : Type 0} (honest : D → Type 0) (disk : D → Disk) (size failures
       honest = (λ h. h, λ h. h);
       size = refl;
     };
+    goes = λ end le first from. from;
   }
 
   -- the error of a call, passed on
   pub asked_passed : {X : Type 0} (Y : Type 0) (a b : Opened D) (r : Result X Errno) (why : Errno) → IsErrAnd r (λ e. e ≡ why)
-      → Asked honest disk size failures a b (is_io {X = Y} (Err why)) → Asked honest disk size failures a b (is_io r)
-  asked_passed Y a b r why p asked = subst (λ io. Asked honest disk size failures a b io) (passed_io Y r why p) asked
+      → Asked honest disk size failures goes_on a b (is_io {X = Y} (Err why)) → Asked honest disk size failures goes_on a b (is_io r)
+  asked_passed Y a b r why p asked = subst (λ io. Asked honest disk size failures goes_on a b io) (passed_io Y r why p) asked
 
   -- an entry is one after a call that only asks
-  pub entry_after : (a b : Opened D) (io : Bool) (serial : ℕ) → Asked honest disk size failures a b io → IsEntryOf honest a serial → IsEntryOf honest b serial
+  pub entry_after : (a b : Opened D) (io : Bool) (serial : ℕ) → Asked honest disk size failures goes_on a b io → IsEntryOf honest a serial → IsEntryOf honest b serial
   entry_after a b io serial asked here = record {
     number = subst (λ v. IsSerial v serial) (sym asked.kept.numbers) here.number;
     used = λ h.

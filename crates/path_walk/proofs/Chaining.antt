@@ -9,6 +9,7 @@ use Rattle.vol_tree.specs.declared.errno.Errno.{Errno}
 use Rattle.vol_tree.specs.declared.errno.Errno.TheVariants as errno
 use Rattle.vol_tree.specs.Tree.{Tree, Name, IsTree}
 use Rattle.vol_tree.specs.Opened.{Opened}
+use Rattle.vol_tree.proofs.GoingOn.{goes_then}
 use Rattle.path_walk.specs.declared.walking.Reached.{Reached as ReachedValue}
 use Rattle.path_walk.specs.Paths.{Found, Missing, dots, is_skipped, components_of, stays_inside, resolved, as_wanted}
 use Rattle.path_walk.specs.Walk.{GivesOrIo}
@@ -17,8 +18,8 @@ use Rattle.path_walk.specs.Walk.{Asked}
 use Rattle.path_walk.specs.internal.Steps.{AreNames}
 use Rattle.path_walk.proofs.Turning.{left, components_next, resolves_as}
 
-module _ {D : Type 0} (honest : D → Type 0) (disk : D → Disk) (size failures : D → ℕ) where
-  pub asked_then : (a b c : Opened D) (io : Bool) → Asked honest disk size failures a b false → Asked honest disk size failures b c io → Asked honest disk size failures a c io
+module _ {D : Type 0} (honest : D → Type 0) (disk : D → Disk) (size failures : D → ℕ) (goes_on : ℕ → D → D → Type 0) where
+  pub asked_then : (a b c : Opened D) (io : Bool) → Asked honest disk size failures goes_on a b false → Asked honest disk size failures goes_on b c io → Asked honest disk size failures goes_on a c io
   asked_then a b c io f s = record {
     tree = λ h. s.tree (f.kept.honest.0 h) ∙ f.tree h;
     crash = λ h. leaves_quiet (disk a.device) (disk b.device) (disk c.device) _ (f.crash h) (s.crash (f.kept.honest.0 h));
@@ -30,6 +31,7 @@ module _ {D : Type 0} (honest : D → Type 0) (disk : D → Disk) (size failures
       honest = (λ h. s.kept.honest.0 (f.kept.honest.0 h), λ h. f.kept.honest.1 (s.kept.honest.1 h));
       size = s.kept.size ∙ f.kept.size;
     };
+    goes = goes_then goes_on a b c f.kept.numbers f.goes s.goes;
   }
 
 contains_first : (name : Name) (names : List Name) → Contains (name ∷ names) name

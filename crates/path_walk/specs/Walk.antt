@@ -6,7 +6,7 @@ use Rattle.vol_inode.specs.Name.{IsName}
 use Rattle.vol_tree.specs.declared.errno.Errno.{Errno}
 use Rattle.vol_tree.specs.declared.errno.Errno.TheVariants as errno
 use Rattle.vol_tree.specs.Tree.{entry}
-use Rattle.vol_tree.specs.Opened.{Opened, Keeps, IsSerial}
+use Rattle.vol_tree.specs.Opened.{Opened, Keeps, GoesOn, IsSerial}
 use Rattle.path_walk.specs.declared.walking.Reached.{Reached as ReachedValue}
 use Rattle.path_walk.specs.declared.walking.Reached.TheVariants as values
 use Rattle.path_walk.specs.Paths.{Reached, Found, Missing}
@@ -35,11 +35,13 @@ abbrev pub GivesOrIo : Result Reached Errno → Result ReachedValue Errno → Ty
 GivesOrIo meant (Ok r) = meant ≡ Ok (reached_as r)
 GivesOrIo meant (Err e) = (meant ≡ Err e) ⊎ (e ≡ errno.Io)
 
--- A volume was only asked: where its device keeps its model, the tree is the same, and a crash leaves nothing new.
-pub record Asked {D : Type 0} (honest : D → Type 0) (disk : D → Disk) (size failures : D → ℕ) (old new : Opened D) (io : Bool) : Type 0 where
+-- A volume was only asked: where its device keeps its model, the tree is the same, and a crash leaves nothing new. On
+-- any device it goes on.
+pub record Asked {D : Type 0} (honest : D → Type 0) (disk : D → Disk) (size failures : D → ℕ) (goes_on : ℕ → D → D → Type 0) (old new : Opened D) (io : Bool) : Type 0 where
   pub tree : honest old.device → new.tree ≡ old.tree
   pub crash : honest old.device → Leaves (disk old.device) (disk new.device) (λ c. ⊥)
   pub kept : Keeps honest size failures old new io
+  pub goes : GoesOn goes_on old new
 
 -- the same of what was reached and whether the path wants a directory
 abbrev pub GivesBoth : Result (Reached × Bool) Errno → Result (ReachedValue × Bool) Errno → Type 0

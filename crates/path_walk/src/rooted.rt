@@ -18,7 +18,8 @@ pub fn walk_from_root<'p, D: Device>(
     requires { volume.old.failed ≡ false }
     ensures answer { D.honest volume.old.device
         → GivesBoth (reached_from_root volume.old.tree path.now) result }
-    ensures asked { Asked D.honest D.disk D.size D.failures volume.old volume.new (is_io result) }
+    ensures asked { Asked D.honest D.disk D.size D.failures D.goes_on volume.old volume.new
+        (is_io result) }
     ensures reached { IfOk result (λ r. IsReached D.honest volume.new r.0) }
 {
     volume.is_a_tree(); // a law: the root is there

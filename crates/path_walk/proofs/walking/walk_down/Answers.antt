@@ -29,7 +29,7 @@ loop-more-preserved-then-is_empty g c =
     let none : length c.split_at.result.1.now ≡ 0 = eqb-true _ 0 (sym c.is_empty.ensures ∙ c.if-is_empty.true) in
     let short : length rest ≤ n = omega (arith, none, c.split_at.ensures.back_len, c.part_len.ensures.within) in
     record {
-      asked = asked_then g.D.Device.honest g.D.Device.disk g.D.Device.size g.D.Device.failures c.args.volume.now c.loop-more.volume c.advance.new.volume false asked c.in-Ok.ensures.asked;
+      asked = asked_then g.D.Device.honest g.D.Device.disk g.D.Device.size g.D.Device.failures g.D.Device.goes_on c.args.volume.now c.loop-more.volume c.advance.new.volume false asked c.in-Ok.ensures.asked;
       here = c.in-Ok.ensures.here;
       missing = c.in-Ok.ensures.missing;
       names = λ name (k, l, is) plain. absurd (omega (arith, l));
@@ -50,7 +50,7 @@ loop-more-preserved g c =
     let all : cond c.loop-more.more (components_of remainder) [] ≡ components_of remainder = cond-true _ _ _ c.loop-more-test.true in
     let after : left rest n ≡ components_of remainder = left_more rest n long ∙ ap components_of (sym is) in
     record {
-      asked = asked_then g.D.Device.honest g.D.Device.disk g.D.Device.size g.D.Device.failures c.args.volume.now c.loop-more.volume c.advance.new.volume false asked c.in-Ok.ensures.asked;
+      asked = asked_then g.D.Device.honest g.D.Device.disk g.D.Device.size g.D.Device.failures g.D.Device.goes_on c.args.volume.now c.loop-more.volume c.advance.new.volume false asked c.in-Ok.ensures.asked;
       here = c.in-Ok.ensures.here;
       missing = c.in-Ok.ensures.missing;
       names = subst AreNames (after ∙ sym all)

@@ -8,7 +8,7 @@ use Rattle.path_walk.proofs.walking.walk_down.Given as goal
 
 abbrev pub invariant-loop-more : goal.invariant-loop-more
 invariant-loop-more g l = record {
-  asked : Asked g.D.Device.honest g.D.Device.disk g.D.Device.size g.D.Device.failures l.fn.volume l.volume false;
+  asked : Asked g.D.Device.honest g.D.Device.disk g.D.Device.size g.D.Device.failures g.D.Device.goes_on l.fn.volume l.volume false;
   here : IsEntryOf g.D.Device.honest l.volume l.here;
   missing : IsMissing l.missing;
   names : AreNames (cond l.more (components_of l.rest) []);
