@@ -30,7 +30,7 @@ pub(crate) fn sync<D: Device>(
     fd: Fd,
     right: Rights,
 ) -> Result<(), Errno>
-    ensures step { VolumeStep D.honest D.disk D.size D.failures volume.old volume.new }
+    ensures step { VolumeStep D.honest D.disk D.size D.failures D.goes_on volume.old volume.new }
     ensures io { errno_of result ≡ 29 → volume.new.failed ≡ true }
     ensures answered { D.honest volume.old.device → (w : World) (m : _) → w.table ≡ table_of descriptors.now
         → w ≡ with_volume volume.old w
@@ -55,7 +55,7 @@ pub(crate) fn set_size<D: Device>(
     size: u64,
 ) -> Result<(), Errno>
     requires { KnowsEntries D.honest volume.old (table_of descriptors.now) }
-    ensures step { VolumeStep D.honest D.disk D.size D.failures volume.old volume.new }
+    ensures step { VolumeStep D.honest D.disk D.size D.failures D.goes_on volume.old volume.new }
     ensures io { errno_of result ≡ 29 → volume.new.failed ≡ true }
     ensures answered { D.honest volume.old.device → (w : World) (m : _) → w.table ≡ table_of descriptors.now
         → w ≡ with_volume volume.old w

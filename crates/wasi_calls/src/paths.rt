@@ -46,9 +46,9 @@ pub(crate) fn reach<'p, D: Device>(
         → ReachesFrom volume.new w o path result }
     ensures kept { (volume.new ≡ volume.old) ⊎ Keeps D.honest D.size D.failures volume.old volume.new (is_io result) }
     ensures place { D.honest volume.old.device → Places volume.old.tree result }
-    ensures works { IfOk result (λ r. StillWorks D.honest D.disk D.size D.failures volume.old volume.new) }
+    ensures works { IfOk result (λ r. StillWorks D.honest D.disk D.size D.failures D.goes_on volume.old volume.new) }
     ensures reached { IfOk result (IsReached D.honest volume.new) }
-    ensures step { VolumeStep D.honest D.disk D.size D.failures volume.old volume.new }
+    ensures step { VolumeStep D.honest D.disk D.size D.failures D.goes_on volume.old volume.new }
     ensures io { is_io result ≡ true → volume.new.failed ≡ true }
 {
     match Path::read(text) {
@@ -92,9 +92,9 @@ pub(crate) fn reach_from<'m, D: Device>(
     rights: Rights,
 ) -> Result<Reached<'m>, Errno>
     requires { KnowsEntries D.honest volume.old (table_of descriptors.now) }
-    ensures step { VolumeStep D.honest D.disk D.size D.failures volume.old volume.new }
+    ensures step { VolumeStep D.honest D.disk D.size D.failures D.goes_on volume.old volume.new }
     ensures io { errno_of result ≡ 29 → volume.new.failed ≡ true }
-    ensures works { IfOk result (λ r. StillWorks D.honest D.disk D.size D.failures volume.old volume.new) }
+    ensures works { IfOk result (λ r. StillWorks D.honest D.disk D.size D.failures D.goes_on volume.old volume.new) }
     ensures reached { IfOk result (IsReached D.honest volume.new) }
     ensures place { D.honest volume.old.device → IfOk result (λ r. Places volume.old.tree (Ok r)) }
     ensures asks { D.honest volume.old.device → (w : World) → w.table ≡ table_of descriptors.now → w ≡ with_volume volume.old w → MatchResult result
@@ -122,7 +122,7 @@ fn stat_path<D: Device>(
     result_at: u32,
 ) -> Result<[u8; 64], Errno>
     requires { KnowsEntries D.honest volume.old (table_of descriptors.now) }
-    ensures step { VolumeStep D.honest D.disk D.size D.failures volume.old volume.new }
+    ensures step { VolumeStep D.honest D.disk D.size D.failures D.goes_on volume.old volume.new }
     ensures io { errno_of result ≡ 29 → volume.new.failed ≡ true }
     ensures inside { OnOk result (result_at + 64 ≤ length memory.now) }
     ensures finds { D.honest volume.old.device → (w : World) → w.table ≡ table_of descriptors.now → w ≡ with_volume volume.old w
@@ -163,7 +163,7 @@ pub(crate) fn path_filestat_get<D: Device>(
     result_at: u32,
 ) -> Result<(), Errno>
     requires { KnowsEntries D.honest volume.old (table_of descriptors.now) }
-    ensures step { VolumeStep D.honest D.disk D.size D.failures volume.old volume.new }
+    ensures step { VolumeStep D.honest D.disk D.size D.failures D.goes_on volume.old volume.new }
     ensures io { errno_of result ≡ 29 → volume.new.failed ≡ true }
     ensures answered { D.honest volume.old.device → (w : World) → w.table ≡ table_of descriptors.now → w ≡ with_volume volume.old w
         → Answered (λ v. stat_row v memory.old fd path len result_at) w memory.old (with_volume volume.new w) memory.new (errno_of result) }
@@ -187,7 +187,7 @@ pub(crate) fn path_create_directory<D: Device>(
     len: u32,
 ) -> Result<(), Errno>
     requires { KnowsEntries D.honest volume.old (table_of descriptors.now) }
-    ensures step { VolumeStep D.honest D.disk D.size D.failures volume.old volume.new }
+    ensures step { VolumeStep D.honest D.disk D.size D.failures D.goes_on volume.old volume.new }
     ensures io { errno_of result ≡ 29 → volume.new.failed ≡ true }
     ensures answered { D.honest volume.old.device → (w : World) → w.table ≡ table_of descriptors.now → w ≡ with_volume volume.old w
         → Answered (λ v. create_row v memory.now fd path len) w memory.now (with_volume volume.new w) memory.now (errno_of result) }

@@ -8,6 +8,7 @@ use Rattle.vol_tree.specs.Numbers.{number_of}
 use Rattle.vol_tree.specs.Tree.{Tree, entry}
 use Rattle.vol_tree.specs.Calls.{with_unit}
 use Rattle.vol_tree.specs.Opened.{Opened, Keeps, IsSerial, is_io}
+use Rattle.vol_tree.proofs.GoingOn.{goes_then}
 use Rattle.vol_tree.specs.declared.superblock.Superblock.{Superblock}
 use Rattle.path_walk.specs.Walk.{IsEntryOf}
 use Rattle.wasi_calls.specs.World.{World, with_volume_failed}
@@ -91,8 +92,8 @@ module _ {D : Type 0} (w : World) where
 
 -- ---- one more question
 
-module _ {D : Type 0} (honest : D → Type 0) (disk : D → Disk) (sectors_on failures : D → ℕ) where
-  pub still_works : (v : Opened D) → v.failed ≡ false → StillWorks honest disk sectors_on failures v v
+module _ {D : Type 0} (honest : D → Type 0) (disk : D → Disk) (sectors_on failures : D → ℕ) (device_goes_on : ℕ → D → D → Type 0) where
+  pub still_works : (v : Opened D) → v.failed ≡ false → StillWorks honest disk sectors_on failures device_goes_on v v
   still_works v working = record {
     kept = record {
       numbers = refl;
@@ -104,10 +105,11 @@ module _ {D : Type 0} (honest : D → Type 0) (disk : D → Disk) (sectors_on fa
     };
     tree = λ _. refl;
     crash = λ _. record { later = omega arith; since = λ t c _ left. inl left; now = λ c left. inl left };
+    goes = λ end le first from. from;
   }
 
   -- a volume that has failed already is asked nothing
-  pub asked_failed : (v : Opened D) → v.failed ≡ true → Asked honest disk sectors_on failures v v true
+  pub asked_failed : (v : Opened D) → v.failed ≡ true → Asked honest disk sectors_on failures device_goes_on v v true
   asked_failed v failed = record {
     tree = λ _. refl;
     crash = λ _. record { later = omega arith; since = λ t c _ left. inl left; now = λ c left. inl left };
@@ -119,6 +121,7 @@ module _ {D : Type 0} (honest : D → Type 0) (disk : D → Disk) (sectors_on fa
       honest = ((λ h. h), (λ h. h));
       size = refl;
     };
+    goes = λ end le first from. from;
   }
 
   leaves_nothing : (a b c : Disk) → Leaves a b (λ i. ⊥) → Leaves b c (λ i. ⊥) → Leaves a c (λ i. ⊥)
@@ -128,7 +131,7 @@ module _ {D : Type 0} (honest : D → Type 0) (disk : D → Disk) (sectors_on fa
     now = λ i left. elim (second.now i left) [ inl still ↦ first.now i still | inr never ↦ absurd never ];
   }
 
-  pub works_on : (a b c : Opened D) → StillWorks honest disk sectors_on failures a b → Asked honest disk sectors_on failures b c false → StillWorks honest disk sectors_on failures a c
+  pub works_on : (a b c : Opened D) → StillWorks honest disk sectors_on failures device_goes_on a b → Asked honest disk sectors_on failures device_goes_on b c false → StillWorks honest disk sectors_on failures device_goes_on a c
   works_on a b c first second =
       let k = first.kept in
       let l = second.kept in
@@ -143,9 +146,10 @@ module _ {D : Type 0} (honest : D → Type 0) (disk : D → Disk) (sectors_on fa
         };
         tree = λ h. second.tree (k.honest.0 h) ∙ first.tree h;
         crash = λ h. leaves_nothing (disk a.device) (disk b.device) (disk c.device) (first.crash h) (second.crash (k.honest.0 h));
+        goes = goes_then device_goes_on a b c k.numbers first.goes second.goes;
       }
 
-  pub asked_step : (a b : Opened D) (io : Bool) → Asked honest disk sectors_on failures a b io → VolumeStep honest disk sectors_on failures a b
+  pub asked_step : (a b : Opened D) (io : Bool) → Asked honest disk sectors_on failures device_goes_on a b io → VolumeStep honest disk sectors_on failures device_goes_on a b
   asked_step a b io asked = record {
     kept = subst (Keeps honest sectors_on failures a b) (sym asked.kept.failed) asked.kept;
     crash = λ h. let l = asked.crash h in record {
@@ -153,18 +157,19 @@ module _ {D : Type 0} (honest : D → Type 0) (disk : D → Disk) (sectors_on fa
       since = λ t c low left. elim (l.since t c low left) [ inl before ↦ inl before | inr never ↦ absurd never ];
       now = λ c left. elim (l.now c left) [ inl before ↦ inl before | inr never ↦ absurd never ];
     };
+    goes = asked.goes;
   }
 
-  pub asked_after : (a b c : Opened D) (io : Bool) → StillWorks honest disk sectors_on failures a b → Asked honest disk sectors_on failures b c io → VolumeStep honest disk sectors_on failures a c
-  asked_after a b c io works asked = steps_after honest disk sectors_on failures a b c works (asked_step b c io asked)
+  pub asked_after : (a b c : Opened D) (io : Bool) → StillWorks honest disk sectors_on failures device_goes_on a b → Asked honest disk sectors_on failures device_goes_on b c io → VolumeStep honest disk sectors_on failures device_goes_on a c
+  asked_after a b c io works asked = steps_after honest disk sectors_on failures device_goes_on a b c works (asked_step b c io asked)
 
   -- the world after a question
-  pub asked_same : (w : World) (v v' : Opened D) → w ≡ with_volume v w → w.volume_failed ≡ false → honest v.device → Asked honest disk sectors_on failures v v' false → with_volume v' w ≡ w
+  pub asked_same : (w : World) (v v' : Opened D) → w ≡ with_volume v w → w.volume_failed ≡ false → honest v.device → Asked honest disk sectors_on failures device_goes_on v v' false → with_volume v' w ≡ w
   asked_same w v v' shown alive h asked =
       let working : v.failed ≡ false = sym (ap (λ (w : World). w.volume_failed) shown) ∙ alive in
       same_volume w [] v v' shown asked.kept.numbers (asked.tree h) (asked.kept.failed ∙ sym working)
 
-  pub asked_gone : (w : World) (v v' : Opened D) → w ≡ with_volume v w → honest v.device → Asked honest disk sectors_on failures v v' true → with_volume v' w ≡ with_volume_failed w
+  pub asked_gone : (w : World) (v v' : Opened D) → w ≡ with_volume v w → honest v.device → Asked honest disk sectors_on failures device_goes_on v v' true → with_volume v' w ≡ with_volume_failed w
   asked_gone w v v' shown h asked = gone w [] v v' shown asked.kept.numbers (asked.tree h) asked.kept.failed
 
 -- ---- a change after questions
@@ -212,9 +217,9 @@ module _ {D : Type 0} (w : World) where
     after = f.after;
   })
 
-module _ {D : Type 0} (honest : D → Type 0) (disk : D → Disk) (sectors_on failures : D → ℕ) where
+module _ {D : Type 0} (honest : D → Type 0) (disk : D → Disk) (sectors_on failures : D → ℕ) (device_goes_on : ℕ → D → D → Type 0) where
   -- one question after others
-  pub asked_on : (a b c : Opened D) (io : Bool) → StillWorks honest disk sectors_on failures a b → Asked honest disk sectors_on failures b c io → Asked honest disk sectors_on failures a c io
+  pub asked_on : (a b c : Opened D) (io : Bool) → StillWorks honest disk sectors_on failures device_goes_on a b → Asked honest disk sectors_on failures device_goes_on b c io → Asked honest disk sectors_on failures device_goes_on a c io
   asked_on a b c io first second =
       let k = first.kept in
       let l = second.kept in
@@ -228,17 +233,18 @@ module _ {D : Type 0} (honest : D → Type 0) (disk : D → Disk) (sectors_on fa
           size = l.size ∙ k.size;
         };
         tree = λ h. second.tree (k.honest.0 h) ∙ first.tree h;
-        crash = λ h. leaves_nothing honest disk sectors_on failures (disk a.device) (disk b.device) (disk c.device) (first.crash h) (second.crash (k.honest.0 h));
+        crash = λ h. leaves_nothing honest disk sectors_on failures device_goes_on (disk a.device) (disk b.device) (disk c.device) (first.crash h) (second.crash (k.honest.0 h));
+        goes = goes_then device_goes_on a b c k.numbers first.goes second.goes;
       }
 
-  pub works_as : (a b : Opened D) → StillWorks honest disk sectors_on failures a b → Asked honest disk sectors_on failures a b false
-  works_as a b w = record { kept = w.kept; tree = w.tree; crash = w.crash }
+  pub works_as : (a b : Opened D) → StillWorks honest disk sectors_on failures device_goes_on a b → Asked honest disk sectors_on failures device_goes_on a b false
+  works_as a b w = record { kept = w.kept; tree = w.tree; crash = w.crash; goes = w.goes }
 
-  pub asked_works : (a b : Opened D) → Asked honest disk sectors_on failures a b false → StillWorks honest disk sectors_on failures a b
-  asked_works a b w = record { kept = w.kept; tree = w.tree; crash = w.crash }
+  pub asked_works : (a b : Opened D) → Asked honest disk sectors_on failures device_goes_on a b false → StillWorks honest disk sectors_on failures device_goes_on a b
+  asked_works a b w = record { kept = w.kept; tree = w.tree; crash = w.crash; goes = w.goes }
 
   -- an entry is one after questions too
-  pub entry_still : (a b : Opened D) (serial : ℕ) → StillWorks honest disk sectors_on failures a b → IsEntryOf honest a serial → IsEntryOf honest b serial
+  pub entry_still : (a b : Opened D) (serial : ℕ) → StillWorks honest disk sectors_on failures device_goes_on a b → IsEntryOf honest a serial → IsEntryOf honest b serial
   entry_still a b serial works e = record {
     number = subst (λ (n : Superblock). IsSerial n serial) (sym works.kept.numbers) e.number;
     used = λ h. let before = works.kept.honest.1 h in subst (λ (T : Tree). IsSome (entry T serial)) (sym (works.tree before)) (e.used before);
@@ -267,11 +273,11 @@ io_as X Y errno.NotDirectory = refl
 io_as X Y errno.NotEmpty = refl
 io_as X Y errno.NotCapable = refl
 
-pub asked_handed : {D X : Type 0} (Y : Type 0) (honest : D → Type 0) (disk : D → Disk) (sectors_on failures : D → ℕ) (a b : Opened D) (r : Result X Errno) (e : Errno)
-    → IsErrAnd r (λ y. y ≡ e) → Asked honest disk sectors_on failures a b (is_io {X = Y} (Err e)) → Asked honest disk sectors_on failures a b (is_io r)
-asked_handed Y honest disk sectors_on failures a b (Ok x) e is asked = absurd is
-asked_handed {X = X} Y honest disk sectors_on failures a b (Err y) e is asked =
-    subst (Asked honest disk sectors_on failures a b) (io_as Y X e ∙ ap (λ (e : Errno). is_io {X = X} (Err e)) (sym is)) asked
+pub asked_handed : {D X : Type 0} (Y : Type 0) (honest : D → Type 0) (disk : D → Disk) (sectors_on failures : D → ℕ) (device_goes_on : ℕ → D → D → Type 0) (a b : Opened D) (r : Result X Errno) (e : Errno)
+    → IsErrAnd r (λ y. y ≡ e) → Asked honest disk sectors_on failures device_goes_on a b (is_io {X = Y} (Err e)) → Asked honest disk sectors_on failures device_goes_on a b (is_io r)
+asked_handed Y honest disk sectors_on failures device_goes_on a b (Ok x) e is asked = absurd is
+asked_handed {X = X} Y honest disk sectors_on failures device_goes_on a b (Err y) e is asked =
+    subst (Asked honest disk sectors_on failures device_goes_on a b) (io_as Y X e ∙ ap (λ (e : Errno). is_io {X = X} (Err e)) (sym is)) asked
 
 pub io_handed : {X : Type 0} (r : Result X Errno) (P : X → Type 0) (e : Errno) → IsErrAnd r (λ y. y ≡ e) → e ≡ errno.Io → MatchResult r P (λ e. e ≡ errno.Io)
 io_handed (Ok x) P e is io = absurd is

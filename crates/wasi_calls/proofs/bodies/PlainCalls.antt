@@ -54,8 +54,8 @@ counted_not : (failed : Bool) (n : ℕ) → failed ≡ false → n ≡ counted f
 counted_not true n h = cc
 counted_not false n h = refl
 
-module _ {D : Type 0} (honest : D → Type 0) (disk : D → Disk) (sectors_on failures : D → ℕ) where
-  pub volume_rests : (v : Opened D) → VolumeStep honest disk sectors_on failures v v
+module _ {D : Type 0} (honest : D → Type 0) (disk : D → Disk) (sectors_on failures : D → ℕ) (goes_on : ℕ → D → D → Type 0) where
+  pub volume_rests : (v : Opened D) → VolumeStep honest disk sectors_on failures goes_on v v
   volume_rests v = record {
     kept = record {
       numbers = refl;
@@ -66,9 +66,10 @@ module _ {D : Type 0} (honest : D → Type 0) (disk : D → Disk) (sectors_on fa
       size = refl;
     };
     crash = λ h. record { later = omega arith; since = λ t c _ left. inl left; now = λ c left. inl left };
+    goes = λ end le first from. from;
   }
 
-module _ {D R W1 W2 : Type 0} (honest : D → Type 0) (disk : D → Disk) (sectors_on failures : D → ℕ)
+module _ {D R W1 W2 : Type 0} (honest : D → Type 0) (disk : D → Disk) (sectors_on failures : D → ℕ) (goes_on : ℕ → D → D → Type 0)
     (remaining : R → Option (List ℕ)) (out_contents : W1 → Option (List ℕ)) (err_contents : W2 → Option (List ℕ)) where
   -- the streams are not touched
   pub streams_rest : (old : Inner D R W1 W2) (v : Opened D) (d : Descriptors) (s : Settings) (g : Option ChaCha)
@@ -97,7 +98,7 @@ module _ {D R W1 W2 : Type 0} (honest : D → Type 0) (disk : D → Disk) (secto
       → IsSetUp remaining old → settings_fit s ≡ true → s ≡ record old.settings { random = s.random } → NoMoreEntries (table_of old.descriptors) (table_of d)
       → ((b : StreamBytes) → row c (world_of (state_of old) b) m used args ≡ r b)
       → ((b : StreamBytes) → Answers (r b) (world_of (state_of old) b) m (world_of (state_of (record old { descriptors = d; settings = s; generator = g })) b) m' e)
-      → Serves honest disk sectors_on failures remaining out_contents err_contents c used args old m (record old { descriptors = d; settings = s; generator = g }) m' e
+      → Serves honest disk sectors_on failures goes_on remaining out_contents err_contents c used args old m (record old { descriptors = d; settings = s; generator = g }) m' e
   serves_supplied c used args r old d s g m m' e plain h fits kept entries same answers =
       let new : Inner D R W1 W2 = record old { descriptors = d; settings = s; generator = g } in
       let b : StreamBytes = nothing in
@@ -109,7 +110,7 @@ module _ {D R W1 W2 : Type 0} (honest : D → Type 0) (disk : D → Disk) (secto
           λ others end. subst (λ (b' : StreamBytes). Answered (λ w. row c w m used args) (world_of (state_of old) others) m (world_of (state_of new) b') m' e) (sym (same_after others))
               (by_row (subst (λ (x : Checked Done). Answers x (world_of (state_of old) others) m (world_of (state_of new) others) m' e) (sym (same others)) (answers others))),
         );
-        volume = volume_rests honest disk sectors_on failures old.volume;
+        volume = volume_rests honest disk sectors_on failures goes_on old.volume;
         settings = kept;
         io = λ is. answers_never (r b) (world_of (state_of old) b) m (world_of (state_of new) b) m' e (answers b)
             (subst (λ (x : Checked Done). x ≢ Err 29) (same b) (plain_never c (world_of (state_of old) b) m used args plain)) is;
@@ -121,17 +122,17 @@ module _ {D R W1 W2 : Type 0} (honest : D → Type 0) (disk : D → Disk) (secto
       → IsSetUp remaining old → settings_fit s ≡ true → s ≡ record old.settings { random = s.random } → NoMoreEntries (table_of old.descriptors) (table_of d)
       → ((b : StreamBytes) → row c (world_of (state_of old) b) m used args ≡ r b)
       → ((b : StreamBytes) → Answers (r b) (world_of (state_of old) b) m (world_of (state_of (record old { descriptors = d; settings = s })) b) m' e)
-      → Serves honest disk sectors_on failures remaining out_contents err_contents c used args old m (record old { descriptors = d; settings = s }) m' e
+      → Serves honest disk sectors_on failures goes_on remaining out_contents err_contents c used args old m (record old { descriptors = d; settings = s }) m' e
   serves_plain c used args r old d s m m' e plain h fits kept entries same answers =
       serves_supplied c used args r old d s old.generator m m' e plain h fits kept entries same answers
 
   -- A call that changes only the volume, if it reaches it.
   pub serves_reaching : (c : HostCall) (used : ℕ) (args : List ℕ) (r : World → Checked Done) (old : Inner D R W1 W2) (v : Opened D) (m m' : List ℕ) (e : ℕ)
       → (e ≡ 29 → HasFailed c (state_of (record old { volume = v })))
-      → IsSetUp remaining old → VolumeStep honest disk sectors_on failures old.volume v
+      → IsSetUp remaining old → VolumeStep honest disk sectors_on failures goes_on old.volume v
       → ((w : World) → row c w m used args ≡ r w)
       → ((IsTrue (reaches_volume c (table_of old.descriptors) args) → honest old.volume.device) → (b : StreamBytes) → Answered r (world_of (state_of old) b) m (with_volume v (world_of (state_of old) b)) m' e)
-      → Serves honest disk sectors_on failures remaining out_contents err_contents c used args old m (record old { volume = v }) m' e
+      → Serves honest disk sectors_on failures goes_on remaining out_contents err_contents c used args old m (record old { volume = v }) m' e
   serves_reaching c used args r old v m m' e io h step same answers =
       let new : Inner D R W1 W2 = record old { volume = v } in
       let same_run : (λ (w : World). row c w m used args) ≡ r = λ i w. same w i in
@@ -158,10 +159,10 @@ module _ {D R W1 W2 : Type 0} (honest : D → Type 0) (disk : D → Disk) (secto
   -- a call that reaches it always
   pub serves_volume : (c : HostCall) (used : ℕ) (args : List ℕ) (r : World → Checked Done) (old : Inner D R W1 W2) (v : Opened D) (m m' : List ℕ) (e : ℕ)
       → IsTrue (reaches_volume c (table_of old.descriptors) args) → (e ≡ 29 → HasFailed c (state_of (record old { volume = v })))
-      → IsSetUp remaining old → VolumeStep honest disk sectors_on failures old.volume v
+      → IsSetUp remaining old → VolumeStep honest disk sectors_on failures goes_on old.volume v
       → ((w : World) → row c w m used args ≡ r w)
       → (honest old.volume.device → (b : StreamBytes) → Answered r (world_of (state_of old) b) m (with_volume v (world_of (state_of old) b)) m' e)
-      → Serves honest disk sectors_on failures remaining out_contents err_contents c used args old m (record old { volume = v }) m' e
+      → Serves honest disk sectors_on failures goes_on remaining out_contents err_contents c used args old m (record old { volume = v }) m' e
   serves_volume c used args r old v m m' e reaches io h step same answers = serves_reaching c used args r old v m m' e io h step same (λ known. answers (known reaches))
 
 -- ---- the input gives bytes
@@ -174,14 +175,14 @@ after_in bytes others = λ i. record { input = others.input; output = append-nil
 
 -- ---- calls that change the volume and the descriptors
 
-module _ {D R W1 W2 : Type 0} (honest : D → Type 0) (disk : D → Disk) (sectors_on failures : D → ℕ)
+module _ {D R W1 W2 : Type 0} (honest : D → Type 0) (disk : D → Disk) (sectors_on failures : D → ℕ) (goes_on : ℕ → D → D → Type 0)
     (remaining : R → Option (List ℕ)) (out_contents : W1 → Option (List ℕ)) (err_contents : W2 → Option (List ℕ)) where
   pub serves_both : (c : HostCall) (used : ℕ) (args : List ℕ) (r : World → Checked Done) (old : Inner D R W1 W2) (v : Opened D) (d : Descriptors) (m m' : List ℕ) (e : ℕ)
       → IsTrue (reaches_volume c (table_of old.descriptors) args) → (e ≡ 29 → HasFailed c (state_of (record old { volume = v; descriptors = d })))
-      → IsSetUp remaining old → VolumeStep honest disk sectors_on failures old.volume v → AreSerials v.numbers (table_of d)
+      → IsSetUp remaining old → VolumeStep honest disk sectors_on failures goes_on old.volume v → AreSerials v.numbers (table_of d)
       → ((w : World) → row c w m used args ≡ r w)
       → (honest old.volume.device → (b : StreamBytes) → Answered r (world_of (state_of old) b) m (with_both v (table_of d) (world_of (state_of old) b)) m' e)
-      → Serves honest disk sectors_on failures remaining out_contents err_contents c used args old m (record old { volume = v; descriptors = d }) m' e
+      → Serves honest disk sectors_on failures goes_on remaining out_contents err_contents c used args old m (record old { volume = v; descriptors = d }) m' e
   serves_both c used args r old v d m m' e reaches io h step serials same answers =
       let new : Inner D R W1 W2 = record old { volume = v; descriptors = d } in
       let same_run : (λ (w : World). row c w m used args) ≡ r = λ i w. same w i in
@@ -189,7 +190,7 @@ module _ {D R W1 W2 : Type 0} (honest : D → Type 0) (disk : D → Disk) (secto
         set_up = record { settings = h.settings; buffers = h.buffers; piece = h.piece; ended = h.ended; serials = serials };
         row = λ known. (
           nothing,
-          streams_rest honest disk sectors_on failures remaining out_contents err_contents old v d old.settings old.generator,
+          streams_rest honest disk sectors_on failures goes_on remaining out_contents err_contents old v d old.settings old.generator,
           λ others end. subst (λ (b' : StreamBytes). Answered (λ w. row c w m used args) (world_of (state_of old) others) m (world_of (state_of new) b') m' e) (sym (same_after others))
               (subst (λ (x : World → Checked Done). Answered x (world_of (state_of old) others) m (world_of (state_of new) others) m' e) (sym same_run) (answers (known reaches) others)),
         );
@@ -199,10 +200,10 @@ module _ {D R W1 W2 : Type 0} (honest : D → Type 0) (disk : D → Disk) (secto
       }
 
 -- a call by the name that it has
-pub serves_as : {D R W1 W2 : Type 0} (honest : D → Type 0) (disk : D → Disk) (sectors_on failures : D → ℕ)
+pub serves_as : {D R W1 W2 : Type 0} (honest : D → Type 0) (disk : D → Disk) (sectors_on failures : D → ℕ) (goes_on : ℕ → D → D → Type 0)
     (remaining : R → Option (List ℕ)) (out_contents : W1 → Option (List ℕ)) (err_contents : W2 → Option (List ℕ))
     (m : List ℕ) (used : ℕ) (args : List ℕ) (call named : HostCall) → call ≡ named → (old new : Inner D R W1 W2) (m' : List ℕ) (e : ℕ)
-    → Serves honest disk sectors_on failures remaining out_contents err_contents named used args old m new m' e
-    → Serves honest disk sectors_on failures remaining out_contents err_contents call used args old m new m' e
-serves_as honest disk sectors_on failures remaining out_contents err_contents m used args call named is old new m' e served =
-    subst (λ (x : HostCall). Serves honest disk sectors_on failures remaining out_contents err_contents x used args old m new m' e) (sym is) served
+    → Serves honest disk sectors_on failures goes_on remaining out_contents err_contents named used args old m new m' e
+    → Serves honest disk sectors_on failures goes_on remaining out_contents err_contents call used args old m new m' e
+serves_as honest disk sectors_on failures goes_on remaining out_contents err_contents m used args call named is old new m' e served =
+    subst (λ (x : HostCall). Serves honest disk sectors_on failures goes_on remaining out_contents err_contents x used args old m new m' e) (sym is) served

@@ -10,7 +10,8 @@ use Rattle.vol_tree.specs.declared.superblock.Superblock.{Superblock}
 use Rattle.std.specs.Option.{option_map_or}
 use Rattle.wasi_calls.specs.internal.paths.Walks.{StillWorks}
 use Rattle.vol_tree.specs.Numbers.{number_of}
-use Rattle.vol_tree.specs.Opened.{Opened, Keeps, ReflectsOr, geometry, is_io}
+use Rattle.vol_tree.specs.Opened.{Opened, Keeps, GoesOn, ReflectsOr, geometry, is_io}
+use Rattle.vol_tree.proofs.GoingOn.{goes_then}
 use Rattle.vol_tree.specs.Space.{Geometry}
 use Rattle.vol_tree.specs.Calls.{with_unit, created, if_it_fits, resized, directory_removed}
 use Rattle.wasi_calls.specs.World.{World, with_volume_failed}
@@ -247,9 +248,9 @@ module _ {D : Type 0} (honest : D → Type 0) (sectors_on failures : D → ℕ) 
 
 -- ---- a step after the volume was asked
 
-pub steps_after : {D : Type 0} (honest : D → Type 0) (disk : D → Disk) (sectors_on failures : D → ℕ) (a b c : Opened D)
-    → StillWorks honest disk sectors_on failures a b → VolumeStep honest disk sectors_on failures b c → VolumeStep honest disk sectors_on failures a c
-steps_after honest disk sectors_on failures a b c first second =
+pub steps_after : {D : Type 0} (honest : D → Type 0) (disk : D → Disk) (sectors_on failures : D → ℕ) (device_goes_on : ℕ → D → D → Type 0) (a b c : Opened D)
+    → StillWorks honest disk sectors_on failures device_goes_on a b → VolumeStep honest disk sectors_on failures device_goes_on b c → VolumeStep honest disk sectors_on failures device_goes_on a c
+steps_after honest disk sectors_on failures device_goes_on a b c first second =
     let k = first.kept in
     let l = second.kept in
     record {
@@ -279,12 +280,13 @@ steps_after honest disk sectors_on failures a b c first second =
               | inr (inr stands) ↦ inr (inr (as_at_first image stands))
             ];
           };
+      goes = goes_then device_goes_on a b c k.numbers first.goes second.goes;
     }
 
 -- one operation of the volume is a step
-pub steps : {D : Type 0} (honest : D → Type 0) (disk : D → Disk) (sectors_on failures : D → ℕ) (a b : Opened D) (io : Bool) → Keeps honest sectors_on failures a b io
-    → (honest a.device → Leaves (disk a.device) (disk b.device) (ReflectsOr (disk a.device) a.numbers a.tree)) → VolumeStep honest disk sectors_on failures a b
-steps honest disk sectors_on failures a b io k crash = record { kept = subst (Keeps honest sectors_on failures a b) (sym k.failed) k; crash = crash }
+pub steps : {D : Type 0} (honest : D → Type 0) (disk : D → Disk) (sectors_on failures : D → ℕ) (device_goes_on : ℕ → D → D → Type 0) (a b : Opened D) (io : Bool) → Keeps honest sectors_on failures a b io
+    → (honest a.device → Leaves (disk a.device) (disk b.device) (ReflectsOr (disk a.device) a.numbers a.tree)) → GoesOn device_goes_on a b → VolumeStep honest disk sectors_on failures device_goes_on a b
+steps honest disk sectors_on failures device_goes_on a b io k crash goes = record { kept = subst (Keeps honest sectors_on failures a b) (sym k.failed) k; crash = crash; goes = goes }
 
 -- ---- more calls of a tree never say that the device failed
 

@@ -18,9 +18,9 @@ use Rattle.wasi_calls.specs.declared.checks.buffers.TheConstants.{MOST_BUFFERS}
 use Rattle.wasi_calls.specs.declared.streams.inputs.TheConstants.{INPUT_PIECE}
 use Rattle.wasi_calls.proofs.bodies.PlainCalls.{nothing, same_after, streams_rest, settings_rest}
 
-module _ {D R W1 W2 : Type 0} (honest : D → Type 0) (disk : D → Disk) (sectors_on failures : D → ℕ)
+module _ {D R W1 W2 : Type 0} (honest : D → Type 0) (disk : D → Disk) (sectors_on failures : D → ℕ) (goes_on : ℕ → D → D → Type 0)
     (remaining : R → Option (List ℕ)) (out_contents : W1 → Option (List ℕ)) (err_contents : W2 → Option (List ℕ)) where
-  pub moved_set_up : (old : Inner D R W1 W2) (v : Opened D) (d : Descriptors) → IsSetUp remaining old → VolumeStep honest disk sectors_on failures old.volume v
+  pub moved_set_up : (old : Inner D R W1 W2) (v : Opened D) (d : Descriptors) → IsSetUp remaining old → VolumeStep honest disk sectors_on failures goes_on old.volume v
       → NoMoreEntries (table_of old.descriptors) (table_of d) → IsSetUp remaining (record old { volume = v; descriptors = d })
   moved_set_up old v d h step entries = record {
     settings = h.settings;
@@ -36,11 +36,11 @@ module _ {D R W1 W2 : Type 0} (honest : D → Type 0) (disk : D → Disk) (secto
   -- A call that changes the volume, if it reaches it, and a position.
   pub serves_moved : (c : HostCall) (used : ℕ) (args : List ℕ) (r : World → Checked Done) (old : Inner D R W1 W2) (v : Opened D) (d : Descriptors) (m m' : List ℕ) (e : ℕ)
       → (e ≡ 29 → HasFailed c (state_of (record old { volume = v; descriptors = d })))
-      → IsSetUp remaining old → VolumeStep honest disk sectors_on failures old.volume v → NoMoreEntries (table_of old.descriptors) (table_of d)
+      → IsSetUp remaining old → VolumeStep honest disk sectors_on failures goes_on old.volume v → NoMoreEntries (table_of old.descriptors) (table_of d)
       → ((w : World) → row c w m used args ≡ r w)
       → ((IsTrue (reaches_volume c (table_of old.descriptors) args) → honest old.volume.device) → (b : StreamBytes)
       → Answered r (world_of (state_of old) b) m (with_table (table_of d) (with_volume v (world_of (state_of old) b))) m' e)
-      → Serves honest disk sectors_on failures remaining out_contents err_contents c used args old m (record old { volume = v; descriptors = d }) m' e
+      → Serves honest disk sectors_on failures goes_on remaining out_contents err_contents c used args old m (record old { volume = v; descriptors = d }) m' e
   serves_moved c used args r old v d m m' e io h step entries same answers =
       let new : Inner D R W1 W2 = record old { volume = v; descriptors = d } in
       let same_run : (λ (w : World). row c w m used args) ≡ r = λ i w. same w i in
@@ -48,7 +48,7 @@ module _ {D R W1 W2 : Type 0} (honest : D → Type 0) (disk : D → Disk) (secto
         set_up = moved_set_up old v d h step entries;
         row = λ known. (
           nothing,
-          streams_rest honest disk sectors_on failures remaining out_contents err_contents old v d old.settings old.generator,
+          streams_rest honest disk sectors_on failures goes_on remaining out_contents err_contents old v d old.settings old.generator,
           λ others end. subst (λ (b' : StreamBytes). Answered (λ w. row c w m used args) (world_of (state_of old) others) m (world_of (state_of new) b') m' e) (sym (same_after others))
               (subst (λ (x : World → Checked Done). Answered x (world_of (state_of old) others) m (world_of (state_of new) others) m' e) (sym same_run) (answers known others)),
         );
@@ -62,10 +62,10 @@ module _ {D R W1 W2 : Type 0} (honest : D → Type 0) (disk : D → Disk) (secto
       → (e ≡ 29 → HasFailed c (state_of new))
       → IsSetUp remaining old → MOST_BUFFERS ≤ vec_capacity new.buffers → INPUT_PIECE ≤ vec_capacity new.piece
       → state_of new ≡ state_of (record old { volume = new.volume; descriptors = new.descriptors })
-      → VolumeStep honest disk sectors_on failures old.volume new.volume → NoMoreEntries (table_of old.descriptors) (table_of new.descriptors)
+      → VolumeStep honest disk sectors_on failures goes_on old.volume new.volume → NoMoreEntries (table_of old.descriptors) (table_of new.descriptors)
       → ((IsTrue (reaches_volume c (table_of old.descriptors) args) → honest old.volume.device) → (b : StreamBytes)
       → Answered (λ w. row c w m used args) (world_of (state_of old) b) m (with_table (table_of new.descriptors) (with_volume new.volume (world_of (state_of old) b))) m' e)
-      → Serves honest disk sectors_on failures remaining out_contents err_contents c used args old m new m' e
+      → Serves honest disk sectors_on failures goes_on remaining out_contents err_contents c used args old m new m' e
   serves_roomy c used args old new m m' e io h buffers piece state step entries answers =
       let moved = moved_set_up old new.volume new.descriptors h step entries in
       record {
@@ -79,7 +79,7 @@ module _ {D R W1 W2 : Type 0} (honest : D → Type 0) (disk : D → Disk) (secto
         row = λ known. (
           nothing,
           subst (λ (s : HostState D R W1 W2). StreamsMove remaining out_contents err_contents (state_of old) s nothing) (sym state)
-              (streams_rest honest disk sectors_on failures remaining out_contents err_contents old new.volume new.descriptors old.settings old.generator),
+              (streams_rest honest disk sectors_on failures goes_on remaining out_contents err_contents old new.volume new.descriptors old.settings old.generator),
           λ others end. subst (λ (b' : StreamBytes). Answered (λ w. row c w m used args) (world_of (state_of old) others) m (world_of (state_of new) b') m' e) (sym (same_after others))
               (subst (λ (s : HostState D R W1 W2). Answered (λ w. row c w m used args) (world_of (state_of old) others) m (world_of s others) m' e) (sym state) (answers known others)),
         );

@@ -251,7 +251,7 @@ either : (b : Bool) → (b ≡ true) ⊎ (b ≡ false)
 either true = inl refl
 either false = inr refl
 
-module _ {D : Type 0} (honest : D → Type 0) (disk : D → Disk) (sectors_on failures : D → ℕ) (old new : Opened D) (w : World) (m : List ℕ) (a : ListCall) (o : OpenedEntry)
+module _ {D : Type 0} (honest : D → Type 0) (disk : D → Disk) (sectors_on failures : D → ℕ) (device_goes_on : ℕ → D → D → Type 0) (old new : Opened D) (w : World) (m : List ℕ) (a : ListCall) (o : OpenedEntry)
     (h : honest old.device) (shown : w ≡ with_volume old w) (here : listable w m a ≡ Ok o) where
   abbrev all : List ℕ
   all = dirents w.tree o.serial a.cookie
@@ -259,18 +259,18 @@ module _ {D : Type 0} (honest : D → Type 0) (disk : D → Disk) (sectors_on fa
   row_is : w.volume_failed ≡ false → list_row w m a ≡ Ok (listed w a all)
   row_is alive = row_of_list w m a ∙ (goes_on _ _ o here ∙ goes_on _ _ all (tree_called_alive w (Ok all) alive))
 
-  pub list_done : Asked honest disk sectors_on failures old new false → (m' : List ℕ) → m' ≡ written (written m a.buffer (take a.len all)) a.used_at (little_bytes 4 (min a.len (length all)))
+  pub list_done : Asked honest disk sectors_on failures device_goes_on old new false → (m' : List ℕ) → m' ≡ written (written m a.buffer (take a.len all)) a.used_at (little_bytes 4 (min a.len (length all)))
       → Answered (λ v. list_row v m a) w m (with_volume new w) m' 0
   list_done asked m' bytes =
       let working : old.failed ≡ false = was_working honest sectors_on failures old new false asked.kept refl in
       let alive : w.volume_failed ≡ false = ap (λ (w : World). w.volume_failed) shown ∙ working in
-      done_by w m (λ v. list_row v m a) new m' (listed w a all) (row_is alive) (asked_same honest disk sectors_on failures w old new shown alive h asked) bytes
+      done_by w m (λ v. list_row v m a) new m' (listed w a all) (row_is alive) (asked_same honest disk sectors_on failures device_goes_on w old new shown alive h asked) bytes
 
-  pub list_fails : Asked honest disk sectors_on failures old new true → listable (with_volume_failed w) m a ≡ Ok o → (m' : List ℕ) → a.buffer + a.len ≤ length m
+  pub list_fails : Asked honest disk sectors_on failures device_goes_on old new true → listable (with_volume_failed w) m a ≡ Ok o → (m' : List ℕ) → a.buffer + a.len ≤ length m
       → (old.failed ≡ true → m' ≡ m) → IsBegun m a.buffer (take a.len all) m' → Answered (λ v. list_row v m a) w m (with_volume new w) m' 29
   list_fails asked there m' inside idle begun =
       let run : World → Checked Done = λ v. list_row v m a in
-      let after : with_volume new w ≡ with_volume_failed w = asked_gone honest disk sectors_on failures w old new shown h asked in
+      let after : with_volume new w ≡ with_volume_failed w = asked_gone honest disk sectors_on failures device_goes_on w old new shown h asked in
       let is : run (with_volume_failed w) ≡ Err 29 = row_of_list (with_volume_failed w) m a ∙ (goes_on _ _ o there ∙ stops _ _ 29 (tree_called_gone w (Ok all))) in
       elim (either w.volume_failed) [
         | inl before ↦

@@ -21,7 +21,7 @@ use Rattle.wasi_calls.proofs.files.OverlappingBuffers.{either}
 abbrev pub asking : (World → List ℕ) → (World → List ℕ → Done) → World → Checked Done
 asking bytes k u = and_then (tree_call u (Ok (bytes u))) (λ xs. Ok (k u xs))
 
-module _ {D : Type 0} (honest : D → Type 0) (disk : D → Disk) (sectors_on failures : D → ℕ) (w : World) (m : List ℕ) (run : World → Checked Done) (bytes : World → List ℕ) (k : World → List ℕ → Done)
+module _ {D : Type 0} (honest : D → Type 0) (disk : D → Disk) (sectors_on failures : D → ℕ) (device_goes_on : ℕ → D → D → Type 0) (w : World) (m : List ℕ) (run : World → Checked Done) (bytes : World → List ℕ) (k : World → List ℕ → Done)
     (old new : Opened D) (shown : w ≡ with_volume old w) (same : (u : World) → run u ≡ asking bytes k u) where
   row_told : w.volume_failed ≡ false → run w ≡ Ok (k w (bytes w))
   row_told alive = same w ∙ goes_on _ _ (bytes w) (tree_called_alive w (Ok (bytes w)) alive)
@@ -30,7 +30,7 @@ module _ {D : Type 0} (honest : D → Type 0) (disk : D → Disk) (sectors_on fa
   row_gone = same (with_volume_failed w) ∙ stops _ _ 29 (tree_called_gone w (Ok (bytes (with_volume_failed w))))
 
   -- the bytes are told
-  pub told_bytes : Asked honest disk sectors_on failures old new false → (w' : World) (m' : List ℕ) → w' ≡ (k w (bytes w)).world → m' ≡ put (put m (k w (bytes w)).fills) (k w (bytes w)).results
+  pub told_bytes : Asked honest disk sectors_on failures device_goes_on old new false → (w' : World) (m' : List ℕ) → w' ≡ (k w (bytes w)).world → m' ≡ put (put m (k w (bytes w)).fills) (k w (bytes w)).results
       → Answered run w m w' m' 0
   told_bytes asked w' m' world is =
       let working : old.failed ≡ false = was_working honest sectors_on failures old new false asked.kept refl in
@@ -38,10 +38,10 @@ module _ {D : Type 0} (honest : D → Type 0) (disk : D → Disk) (sectors_on fa
       by_row (answers_done (run w) w m w' m' (k w (bytes w)) (row_told alive) world is)
 
   -- The volume failed. If it had failed before, memory is the old one.
-  pub broke_off : honest old.device → Asked honest disk sectors_on failures old new true → (m' : List ℕ) → (old.failed ≡ true → m' ≡ m) → IsMixed m (put m (k w (bytes w)).fills) m'
+  pub broke_off : honest old.device → Asked honest disk sectors_on failures device_goes_on old new true → (m' : List ℕ) → (old.failed ≡ true → m' ≡ m) → IsMixed m (put m (k w (bytes w)).fills) m'
       → Answered run w m (with_volume new w) m' 29
   broke_off h asked m' idle mixed =
-      let after : with_volume new w ≡ with_volume_failed w = asked_gone honest disk sectors_on failures w old new shown h asked in
+      let after : with_volume new w ≡ with_volume_failed w = asked_gone honest disk sectors_on failures device_goes_on w old new shown h asked in
       elim (either w.volume_failed) [
         | inl before ↦
             let same_w : with_volume_failed w ≡ w = λ i. record w { volume_failed = sym before i } in

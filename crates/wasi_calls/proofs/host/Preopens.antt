@@ -12,6 +12,7 @@ use Rattle.vol_tree.specs.Tree.{Tree, Name, IsTree, Entry as TreeEntry, entry}
 use Rattle.vol_tree.specs.Calls.{directory_at, is_directory}
 use Rattle.vol_tree.specs.declared.superblock.Superblock.{Superblock}
 use Rattle.vol_tree.specs.Opened.{Opened, IsSerial, is_io}
+use Rattle.vol_tree.proofs.GoingOn.{goes_then}
 use Rattle.path_walk.specs.Paths.{Reached, Found, Missing, slash, path_read, wants_directory, resolved, ◌>>=◌}
 use Rattle.path_walk.specs.Rooted.{reached_from_root}
 use Rattle.wasi_fd.specs.declared.descriptor.Descriptor.{Descriptor}
@@ -32,8 +33,8 @@ use Rattle.wasi_calls.proofs.checks.Passing.{same_entry}
 use Rattle.wasi_fd.specs.declared.table.TheConstants.{PLACES}
 use Rattle.wasi_calls.specs.declared.host.settings.TheConstants.{MOST_PREOPENS}
 
-module _ {D : Type 0} (honest : D → Type 0) (disk : D → Disk) (sectors_on failures : D → ℕ) where
-  pub reads_then : (a b c : Opened D) (io : Bool) → Asked honest disk sectors_on failures a b false → Asked honest disk sectors_on failures b c io → Asked honest disk sectors_on failures a c io
+module _ {D : Type 0} (honest : D → Type 0) (disk : D → Disk) (sectors_on failures : D → ℕ) (goes_on : ℕ → D → D → Type 0) where
+  pub reads_then : (a b c : Opened D) (io : Bool) → Asked honest disk sectors_on failures goes_on a b false → Asked honest disk sectors_on failures goes_on b c io → Asked honest disk sectors_on failures goes_on a c io
   reads_then a b c io f s = record {
     tree = λ h. s.tree (f.kept.honest.0 h) ∙ f.tree h;
     crash = λ h.
@@ -52,6 +53,7 @@ module _ {D : Type 0} (honest : D → Type 0) (disk : D → Disk) (sectors_on fa
       honest = (λ h. s.kept.honest.0 (f.kept.honest.0 h), λ h. f.kept.honest.1 (s.kept.honest.1 h));
       size = s.kept.size ∙ f.kept.size;
     };
+    goes = goes_then goes_on a b c f.kept.numbers f.goes s.goes;
   }
 
 -- ---- what a path names
@@ -72,10 +74,10 @@ device_as X Y errno.NotDirectory = refl
 device_as X Y errno.NotEmpty = refl
 device_as X Y errno.NotCapable = refl
 
-pub asked_device : {D : Type 0} (X Y : Type 0) (honest : D → Type 0) (disk : D → Disk) (sectors_on failures : D → ℕ) (a b : Opened D) (e : Errno) (fault : HostFault) → fault ≡ fault_as e
-    → Asked honest disk sectors_on failures a b (is_io {X = X} (Err e)) → Asked honest disk sectors_on failures a b (is_device {X = Y} (Err fault))
-asked_device X Y honest disk sectors_on failures a b e fault is asked =
-    subst (Asked honest disk sectors_on failures a b) (device_as X Y e ∙ ap (λ (f : HostFault). is_device {X = Y} (Err f)) (sym is)) asked
+pub asked_device : {D : Type 0} (X Y : Type 0) (honest : D → Type 0) (disk : D → Disk) (sectors_on failures : D → ℕ) (goes_on : ℕ → D → D → Type 0) (a b : Opened D) (e : Errno) (fault : HostFault) → fault ≡ fault_as e
+    → Asked honest disk sectors_on failures goes_on a b (is_io {X = X} (Err e)) → Asked honest disk sectors_on failures goes_on a b (is_device {X = Y} (Err fault))
+asked_device X Y honest disk sectors_on failures goes_on a b e fault is asked =
+    subst (Asked honest disk sectors_on failures goes_on a b) (device_as X Y e ∙ ap (λ (f : HostFault). is_device {X = Y} (Err f)) (sym is)) asked
 
 pub root_refused : (T : Tree) (rest : List ℕ) (e : Errno) → reached_from_root T rest ≡ Err e → from_root T rest ≡ None
 root_refused T [] e is = absurd (cc)
@@ -195,13 +197,13 @@ numbers_more numbers serials i serial inside is before k below = elim (cases_eq 
   | inr apart ↦ subst (λ (n : ℕ). IsSerial numbers n) (sym (get_or-set_other serials i k serial 0 apart)) (before k (omega arith))
 ]
 
-module _ {D : Type 0} (honest : D → Type 0) (disk : D → Disk) (sectors_on failures : D → ℕ) where
+module _ {D : Type 0} (honest : D → Type 0) (disk : D → Disk) (sectors_on failures : D → ℕ) (goes_on : ℕ → D → D → Type 0) where
   pub so_far_more : (a b c : Opened D) (ps : List PreopenValue) (serials : List ℕ) (i serial : ℕ) (p : PreopenValue) → i < length serials → slice_get ps i ≡ Some p
-      → FoundSoFar honest disk sectors_on failures a b ps serials i → Asked honest disk sectors_on failures b c false
+      → FoundSoFar honest disk sectors_on failures goes_on a b ps serials i → Asked honest disk sectors_on failures goes_on b c false
       → (honest b.device → directory_named b.tree p.path.now ≡ Some serial) → IsSerial c.numbers serial
-      → FoundSoFar honest disk sectors_on failures a c ps (set serials i serial) (i + 1)
+      → FoundSoFar honest disk sectors_on failures goes_on a c ps (set serials i serial) (i + 1)
   so_far_more a b c ps serials i serial p inside at before reads named number = record {
-    reads = reads_then honest disk sectors_on failures a b c false before.reads reads;
+    reads = reads_then honest disk sectors_on failures goes_on a b c false before.reads reads;
     found = λ h. found_more a.tree ps serials i serial p inside at
         (ap (λ (T : Tree). directory_named T p.path.now) (sym (before.reads.tree h)) ∙ named (before.reads.kept.honest.0 h)) (before.found h);
     numbers = numbers_more c.numbers serials i serial inside number (subst (λ (n : Superblock). AreNumbers n serials i) (sym reads.kept.numbers) before.numbers);

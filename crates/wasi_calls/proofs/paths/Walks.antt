@@ -8,7 +8,7 @@ use Rattle.vol_tree.specs.declared.errno.Errno.TheVariants as errno
 use Rattle.vol_tree.specs.Numbers.{number_of}
 use Rattle.vol_tree.specs.Tree.{Tree, Node, Directory, File, Entry as TreeEntry, entry, Name, IsDirectory, same_name, lookup}
 use Rattle.vol_tree.specs.Calls.{is_directory, directory_at}
-use Rattle.vol_tree.specs.Opened.{Opened, Keeps, is_io}
+use Rattle.vol_tree.specs.Opened.{Opened, Keeps, GoesOn, is_io}
 use Rattle.path_walk.specs.declared.walking.Reached.{Reached as ReachedValue}
 use Rattle.path_walk.specs.declared.walking.Reached.TheVariants as values
 use Rattle.path_walk.proofs.Walks.{missing_free}
@@ -92,7 +92,7 @@ module _ (w : World) (o : OpenedEntry) (text : List ℕ) (names : List Name) (re
   by_gone : stays_inside 0 names ≡ true → walk (with_volume_failed w) o text ≡ Err 29
   by_gone inside = goes_on _ _ names (ap numbered read) ∙ (goes_on _ _ tt (guard_passes _ 76 inside) ∙ stops _ _ 29 (guard_fails _ 29 refl))
 
-module _ {D : Type 0} (honest : D → Type 0) (disk : D → Disk) (sectors_on failures : D → ℕ) where
+module _ {D : Type 0} (honest : D → Type 0) (disk : D → Disk) (sectors_on failures : D → ℕ) (device_goes_on : ℕ → D → D → Type 0) where
   -- what a walk over the volume says of that in the world
   reaches_if : (b : Bool) (v v' : Opened D) (w : World) (o : OpenedEntry) (text : List ℕ) (names : List Name) (result : Result ReachedValue Errno)
       → path_read text ≡ Ok names → stays_inside 0 names ≡ b → w ≡ with_volume v w → v'.tree ≡ v.tree
@@ -150,20 +150,21 @@ module _ {D : Type 0} (honest : D → Type 0) (disk : D → Disk) (sectors_on fa
   same_or_kept false v v' io kept same = inl (same refl)
 
   step_if : (b : Bool) (v v' : Opened D) (io : Bool) → (b ≡ true → Keeps honest sectors_on failures v v' io) → (b ≡ false → v' ≡ v)
-      → (honest v.device → Leaves (disk v.device) (disk v'.device) (λ c. ⊥)) → VolumeStep honest disk sectors_on failures v v'
-  step_if true v v' io kept same crash = let k = kept refl in record {
+      → (honest v.device → Leaves (disk v.device) (disk v'.device) (λ c. ⊥)) → GoesOn device_goes_on v v' → VolumeStep honest disk sectors_on failures device_goes_on v v'
+  step_if true v v' io kept same crash goes = let k = kept refl in record {
     kept = subst (Keeps honest sectors_on failures v v') (sym k.failed) k;
     crash = λ h. let l = crash h in record {
       later = l.later;
       since = λ t c low left. elim (l.since t c low left) [ inl before ↦ inl before | inr never ↦ absurd never ];
       now = λ c left. elim (l.now c left) [ inl before ↦ inl before | inr never ↦ absurd never ];
     };
+    goes = goes;
   }
-  step_if false v v' io kept same crash = subst (VolumeStep honest disk sectors_on failures v) (sym (same refl)) (volume_rests honest disk sectors_on failures v)
+  step_if false v v' io kept same crash goes = subst (VolumeStep honest disk sectors_on failures device_goes_on v) (sym (same refl)) (volume_rests honest disk sectors_on failures device_goes_on v)
 
   pub step_by : (names : List Name) (v v' : Opened D) (io : Bool) → (stays_inside 0 names ≡ true → Keeps honest sectors_on failures v v' io) → (stays_inside 0 names ≡ false → v' ≡ v)
-      → (honest v.device → Leaves (disk v.device) (disk v'.device) (λ c. ⊥)) → VolumeStep honest disk sectors_on failures v v'
-  step_by names v v' io kept same crash = step_if (stays_inside 0 names) v v' io kept same crash
+      → (honest v.device → Leaves (disk v.device) (disk v'.device) (λ c. ⊥)) → GoesOn device_goes_on v v' → VolumeStep honest disk sectors_on failures device_goes_on v v'
+  step_by names v v' io kept same crash goes = step_if (stays_inside 0 names) v v' io kept same crash goes
 
 -- ---- where a missing name may be made
 

@@ -9,9 +9,9 @@ use Rattle.wasi_calls.specs.host.Worlds.{HostState, Shows, before_moving, after_
 use Rattle.wasi_calls.proofs.bodies.PlainCalls.{nothing}
 use Rattle.wasi_calls.specs.laws.Moments.{IsTurn, CallsKeepMoments}
 
-module _ {D R W1 W2 : Type 0} (honest : D → Type 0) (disk : D → Disk) (sectors_on failures : D → ℕ)
+module _ {D R W1 W2 : Type 0} (honest : D → Type 0) (disk : D → Disk) (sectors_on failures : D → ℕ) (goes_on : ℕ → D → D → Type 0)
     (remaining : R → Option (List ℕ)) (out_contents : W1 → Option (List ℕ)) (err_contents : W2 → Option (List ℕ)) where
-  pub are_rows : IsHostOf {H = HostState D R W1 W2} (HostCalls honest disk sectors_on failures remaining out_contents err_contents) Shows (λ h. honest h.volume.device)
+  pub are_rows : IsHostOf {H = HostState D R W1 W2} (HostCalls honest disk sectors_on failures goes_on remaining out_contents err_contents) Shows (λ h. honest h.volume.device)
   are_rows = record {
     tree = λ h v w is also.
         let first : v.tree ≡ h.volume.tree = ap (λ (w : World). w.tree) is.1 in
@@ -27,7 +27,7 @@ module _ {D R W1 W2 : Type 0} (honest : D → Type 0) (disk : D → Disk) (secto
   }
 
   -- what a crash may have left since
-  pub since : (old new : Opened D) → VolumeStep honest disk sectors_on failures old new → honest old.device
+  pub since : (old new : Opened D) → VolumeStep honest disk sectors_on failures goes_on old new → honest old.device
       → IsTurn (disk old.device) (disk new.device) old.numbers old.tree new.tree
   since old new step is_honest = let crash = step.crash is_honest in record {
     later = crash.later;
@@ -46,7 +46,7 @@ module _ {D R W1 W2 : Type 0} (honest : D → Type 0) (disk : D → Disk) (secto
   pub keep_moments : ((d : D) (t : ℕ) (image : Image) → honest d → t ≤ (disk d).operation_count → (disk d).may_leave image → (disk d).left_since t image)
       → ((d : D) (image : Image) → honest d → (disk d).left_since (disk d).operation_count image → (disk d).may_leave image)
       → CallsKeepMoments {H = HostState D R W1 W2} (λ h. disk h.volume.device) (λ h. h.volume.numbers) (λ h. h.volume.tree) (λ h. honest h.volume.device)
-      (HostCalls honest disk sectors_on failures remaining out_contents err_contents)
+      (HostCalls honest disk sectors_on failures goes_on remaining out_contents err_contents)
   keep_moments now only = record {
     turn = λ h h' m m' used x args e a is_honest. since h.volume h'.volume a.volume is_honest;
     synced = λ h h' m m' used x args e a is_honest. a.synced is_honest e refl;

@@ -89,7 +89,7 @@ unread_on w is = ap (λ (b : Bool). cond b [] w.input) is
 unread_ended : (w : World) → w.input_ended ≡ true → unread w ≡ []
 unread_ended w is = ap (λ (b : Bool). cond b [] w.input) is
 
-module _ {D R W1 W2 : Type 0} (honest : D → Type 0) (disk : D → Disk) (sectors_on failures : D → ℕ)
+module _ {D R W1 W2 : Type 0} (honest : D → Type 0) (disk : D → Disk) (sectors_on failures : D → ℕ) (device_goes_on : ℕ → D → D → Type 0)
     (remaining : R → Option (List ℕ)) (out_contents : W1 → Option (List ℕ)) (err_contents : W2 → Option (List ℕ))
     (c : HostCall) (used : ℕ) (args : List ℕ) (old new : Inner D R W1 W2) (m m' : List ℕ) (fd : ℕ) (bs : List Buffer) (result : ℕ)
     (h : IsSetUp remaining old) (buffers : MOST_BUFFERS ≤ vec_capacity new.buffers) (piece : INPUT_PIECE ≤ vec_capacity new.piece)
@@ -112,8 +112,8 @@ module _ {D R W1 W2 : Type 0} (honest : D → Type 0) (disk : D → Disk) (secto
     serials = subst (λ (s : HostState D R W1 W2). (fd : ℕ) (o : OpenedEntry) → table_of s.descriptors fd ≡ Some (Entry o) → IsSerial s.volume.numbers o.serial) (sym state) h.serials;
   }
 
-  in_rests : VolumeStep honest disk sectors_on failures old.volume new.volume
-  in_rests = subst (λ (s : HostState D R W1 W2). VolumeStep honest disk sectors_on failures old.volume s.volume) (sym state) (volume_rests honest disk sectors_on failures old.volume)
+  in_rests : VolumeStep honest disk sectors_on failures device_goes_on old.volume new.volume
+  in_rests = subst (λ (s : HostState D R W1 W2). VolumeStep honest disk sectors_on failures device_goes_on old.volume s.volume) (sym state) (volume_rests honest disk sectors_on failures device_goes_on old.volume)
 
   in_moves : (bytes : List ℕ) → Consumes (remaining old.input.reader) (remaining new.input.reader) bytes → (old.input.ended ≡ true → (bytes ≡ []) × (new.input.ended ≡ true))
       → StreamsMove remaining out_contents err_contents (state_of old) (state_of new) (from_in bytes)
@@ -121,7 +121,7 @@ module _ {D R W1 W2 : Type 0} (honest : D → Type 0) (disk : D → Disk) (secto
       subst (λ (t : HostState D R W1 W2). StreamsMove remaining out_contents err_contents (state_of old) t (from_in bytes)) (sym state)
       (record { input = consumed; output = Appends-nil (out_contents old.out.writer); errors = Appends-nil (err_contents old.err.writer); ended = ended; end = λ is. inr (leaves_none _ _ bytes consumed (end is)) })
 
-  idle_in : old.input.failed ≡ true → new.input ≡ old.input → m' ≡ m → Serves honest disk sectors_on failures remaining out_contents err_contents c used args old m new m' 29
+  idle_in : old.input.failed ≡ true → new.input ≡ old.input → m' ≡ m → Serves honest disk sectors_on failures device_goes_on remaining out_contents err_contents c used args old m new m' 29
   idle_in failed none bytes =
       let still : state_of new ≡ state_of old = state ∙ λ i. state_of (record old { input = none i }) in
       record {
@@ -129,7 +129,7 @@ module _ {D R W1 W2 : Type 0} (honest : D → Type 0) (disk : D → Disk) (secto
         row = λ _. (
           nothing,
           subst (λ (s : HostState D R W1 W2). StreamsMove remaining out_contents err_contents (state_of old) s nothing) (sym still)
-              (streams_rest honest disk sectors_on failures remaining out_contents err_contents old old.volume old.descriptors old.settings old.generator),
+              (streams_rest honest disk sectors_on failures device_goes_on remaining out_contents err_contents old old.volume old.descriptors old.settings old.generator),
           λ others end.
               let w = world_of (state_of old) others in
               by_row (answers_refused (in_run w) w m (world_of (state_of new) (after_moving nothing others)) m' 29
@@ -140,7 +140,7 @@ module _ {D R W1 W2 : Type 0} (honest : D → Type 0) (disk : D → Disk) (secto
         io = λ _. cause (ap (λ (i : InputValue R). i.failed) none ∙ failed);
       }
 
-  came_in : IsRead remaining old.input new.input m bs result m' → Serves honest disk sectors_on failures remaining out_contents err_contents c used args old m new m' 0
+  came_in : IsRead remaining old.input new.input m bs result m' → Serves honest disk sectors_on failures device_goes_on remaining out_contents err_contents c used args old m new m' 0
   came_in r =
       let bytes : List ℕ = r.dealt.bytes in
       let none = λ (is : old.input.ended ≡ true). none_long bytes (omega (arith, r.dealt.many, r.none is)) in
@@ -181,7 +181,7 @@ module _ {D R W1 W2 : Type 0} (honest : D → Type 0) (disk : D → Disk) (secto
       }
 
   broke_in : old.input.failed ≡ false → new.input.failed ≡ true → old.input.ended ≡ false → new.input.ended ≡ false
-      → SomeDealt (remaining old.input.reader) (remaining new.input.reader) m bs m' → Serves honest disk sectors_on failures remaining out_contents err_contents c used args old m new m' 29
+      → SomeDealt (remaining old.input.reader) (remaining new.input.reader) m bs m' → Serves honest disk sectors_on failures device_goes_on remaining out_contents err_contents c used args old m new m' 29
   broke_in before after goes_on still some =
       let dealt = some.dealt in
       let bytes : List ℕ = dealt.bytes in
@@ -226,10 +226,10 @@ module _ {D R W1 W2 : Type 0} (honest : D → Type 0) (disk : D → Disk) (secto
 
   pub served_in : (r : Result (Unit {0}) Errno) → (old.input.failed ≡ true → (new.input ≡ old.input) × (m' ≡ m)) → OnOk r (IsRead remaining old.input new.input m bs result m')
       → OnErr r (old.input.failed ≡ false → (new.input.failed ≡ true) × (old.input.ended ≡ false) × (new.input.ended ≡ false) × SomeDealt (remaining old.input.reader) (remaining new.input.reader) m bs m')
-      → IfErr r (λ e. e.0 ≡ 29) → Serves honest disk sectors_on failures remaining out_contents err_contents c used args old m new m' (errno_of r)
+      → IfErr r (λ e. e.0 ≡ 29) → Serves honest disk sectors_on failures device_goes_on remaining out_contents err_contents c used args old m new m' (errno_of r)
   served_in (Ok u) idle came broke answer = came_in came
   served_in (Err e) idle came broke answer =
-      subst (λ (n : ℕ). Serves honest disk sectors_on failures remaining out_contents err_contents c used args old m new m' n) (sym answer)
+      subst (λ (n : ℕ). Serves honest disk sectors_on failures device_goes_on remaining out_contents err_contents c used args old m new m' n) (sym answer)
       (elim (ended_or old.input.failed) [
         | inl is ↦ let none = idle is in idle_in is none.0 none.1
         | inr works ↦ let b = broke works in broke_in works b.0 b.1 b.2 b.3

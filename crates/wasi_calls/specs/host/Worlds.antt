@@ -3,7 +3,7 @@
 use Rattle.std.specs.Prelude.{◌≡◌, ◌⊎◌, ◌||◌, ℕ, Bool, IsTrue, true, List, [], ◌++◌, Option, Some, None}
 use Rattle.std.specs.Io.KnownBytes.{Consumes, Appends}
 use Rattle.vol_sector.specs.Disk.{Disk, Leaves}
-use Rattle.vol_tree.specs.Opened.{Opened, Keeps, ReflectsOr, geometry}
+use Rattle.vol_tree.specs.Opened.{Opened, Keeps, GoesOn, ReflectsOr, geometry}
 use Rattle.rand_chacha.specs.ChaCha.{ChaCha}
 use Rattle.wasi_fd.specs.declared.table.Descriptors.{Descriptors}
 use Rattle.wasi_fd.specs.Table.{table_of}
@@ -101,15 +101,17 @@ module _ {D R W1 W2 : Type 0} (remaining : R → Option (List ℕ)) (out_content
     pub ended : old.input.ended ≡ true → (moved.input ≡ []) × (new.input.ended ≡ true)
     pub end : new.input.ended ≡ true → (old.input.ended ≡ true) ⊎ LeavesNone (remaining old.input.reader) (remaining new.input.reader)
 
-module _ {D : Type 0} (honest : D → Type 0) (disk : D → Disk) (sectors_on failures : D → ℕ) where
-  -- What a call leaves of the volume. On any device it fails by one operation that failed, and after that none is done.
+module _ {D : Type 0} (honest : D → Type 0) (disk : D → Disk) (sectors_on failures : D → ℕ) (goes_on : ℕ → D → D → Type 0) where
+  -- What a call leaves of the volume. On any device it fails by one operation that failed, and after that none is done; and
+  -- the device goes on.
   -- Where the device keeps its model, each image that a crash may leave since could be left before, or stands for the
   -- tree of an image that could be, or for the tree before the call, under the volume's numbers.
   pub record VolumeStep (old new : Opened D) : Type 0 where
     pub kept : Keeps honest sectors_on failures old new new.failed
     pub crash : honest old.device → Leaves (disk old.device) (disk new.device) (ReflectsOr (disk old.device) old.numbers old.tree)
+    pub goes : GoesOn goes_on old new
 
-module _ {D R W1 W2 : Type 0} (honest : D → Type 0) (disk : D → Disk) (sectors_on failures : D → ℕ)
+module _ {D R W1 W2 : Type 0} (honest : D → Type 0) (disk : D → Disk) (sectors_on failures : D → ℕ) (goes_on : ℕ → D → D → Type 0)
     (remaining : R → Option (List ℕ)) (out_contents : W1 → Option (List ℕ)) (err_contents : W2 → Option (List ℕ)) where
   -- What a call of the host means: that call of a world that the host shows, whatever other bytes its streams have; where
   -- the device keeps its model, or the call reaches no volume. On any device it takes of the settings random bytes alone,
@@ -119,7 +121,7 @@ module _ {D R W1 W2 : Type 0} (honest : D → Type 0) (disk : D → Disk) (secto
     pub row : (IsTrue (reaches_volume call (table_of old.descriptors) args) → honest old.volume.device)
         → (moved : StreamBytes) × StreamsMove remaining out_contents err_contents old new moved
         × ((others : StreamBytes) → MayFollow new others → Calls (world_of old (before_moving moved others)) memory used call args (world_of new (after_moving moved others)) memory' answer)
-    pub volume : VolumeStep honest disk sectors_on failures old.volume new.volume
+    pub volume : VolumeStep honest disk sectors_on failures goes_on old.volume new.volume
     pub settings : new.settings ≡ record old.settings { random = new.settings.random }
     pub io : (e : Errno) → answer ≡ value e → e.0 ≡ 29 → HasFailed call new
     pub synced : honest old.volume.device → (e : Errno) → answer ≡ value e → IsSynced call e.0 (disk new.volume.device) new.volume.numbers new.volume.tree

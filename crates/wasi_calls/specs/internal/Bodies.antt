@@ -97,7 +97,7 @@ pub record IsFileOf {D : Type 0} (honest : D → Type 0) (v : Opened D) (serial 
   pub last : serial ≤ v.numbers.slots
   pub used : honest v.device → IsTrue (is_file_at v.tree serial)
 
-module _ {D R W1 W2 : Type 0} (honest : D → Type 0) (disk : D → Disk) (sectors_on failures : D → ℕ)
+module _ {D R W1 W2 : Type 0} (honest : D → Type 0) (disk : D → Disk) (sectors_on failures : D → ℕ) (goes_on : ℕ → D → D → Type 0)
     (remaining : R → Option (List ℕ)) (out_contents : W1 → Option (List ℕ)) (err_contents : W2 → Option (List ℕ)) where
   -- What the body of a call says: where the device keeps its model or the call reaches no volume, the call answers and
   -- leaves what its row says in a world that the host shows, or what its failing case allows.
@@ -107,7 +107,7 @@ module _ {D R W1 W2 : Type 0} (honest : D → Type 0) (disk : D → Disk) (secto
         → (moved : StreamBytes) × StreamsMove remaining out_contents err_contents (state_of old) (state_of new) moved
         × ((others : StreamBytes) → MayFollow (state_of new) others
         → Answered (λ w. row c w memory used args) (world_of (state_of old) (before_moving moved others)) memory (world_of (state_of new) (after_moving moved others)) memory' errno)
-    pub volume : VolumeStep honest disk sectors_on failures old.volume new.volume
+    pub volume : VolumeStep honest disk sectors_on failures goes_on old.volume new.volume
     pub settings : new.settings ≡ record old.settings { random = new.settings.random }
     pub io : errno ≡ 29 → HasFailed c (state_of new)
 

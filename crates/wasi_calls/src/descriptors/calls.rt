@@ -17,7 +17,7 @@ impl<'s, 't, D: Device, R: Read, W1: Write, W2: Write> Inner<'s, 't, D, R, W1, W
     /// `fd_close(fd)`.
     pub fn fd_close(&mut self, arguments: &[u64]) -> Result<(), Errno>
         requires { IsSetUp R.remaining self.old }
-        ensures { (m : _) (used : _) → Serves D.honest D.disk D.size D.failures R.remaining W1.contents W2.contents call.FdClose used arguments.now self.old m self.new m (errno_of result) }
+        ensures { (m : _) (used : _) → Serves D.honest D.disk D.size D.failures D.goes_on R.remaining W1.contents W2.contents call.FdClose used arguments.now self.old m self.new m (errno_of result) }
     {
         descriptors::fd_close(&mut self.descriptors, descriptor(arguments, 0))
     }
@@ -25,7 +25,7 @@ impl<'s, 't, D: Device, R: Read, W1: Write, W2: Write> Inner<'s, 't, D, R, W1, W
     /// `fd_fdstat_get(fd, result)`.
     pub fn fd_fdstat_get(&self, memory: &mut Memory, arguments: &[u64]) -> Result<(), Errno>
         requires { IsSetUp R.remaining self.now }
-        ensures { (used : _) → Serves D.honest D.disk D.size D.failures R.remaining W1.contents W2.contents call.FdFdstatGet used arguments.now self.now memory.old self.now memory.new (errno_of result) }
+        ensures { (used : _) → Serves D.honest D.disk D.size D.failures D.goes_on R.remaining W1.contents W2.contents call.FdFdstatGet used arguments.now self.now memory.old self.now memory.new (errno_of result) }
     {
         let (fd, result_at) = (descriptor(arguments, 0), word(arguments, 1));
         descriptors::fd_fdstat_get(&self.descriptors, memory, fd, result_at)
@@ -35,7 +35,7 @@ impl<'s, 't, D: Device, R: Read, W1: Write, W2: Write> Inner<'s, 't, D, R, W1, W
     pub fn fd_filestat_get(&mut self, memory: &mut Memory, arguments: &[u64]) -> Result<(), Errno>
         requires set_up { IsSetUp R.remaining self.old }
         requires known { KnowsEntries D.honest self.old.volume (table_of self.old.descriptors) }
-        ensures { (used : _) → Serves D.honest D.disk D.size D.failures R.remaining W1.contents W2.contents call.FdFilestatGet used arguments.now self.old memory.old self.new memory.new (errno_of result) }
+        ensures { (used : _) → Serves D.honest D.disk D.size D.failures D.goes_on R.remaining W1.contents W2.contents call.FdFilestatGet used arguments.now self.old memory.old self.new memory.new (errno_of result) }
     {
         let (fd, result_at) = (descriptor(arguments, 0), word(arguments, 1));
         stat::filestat_get(&mut self.volume, &self.descriptors, memory, fd, result_at)
@@ -44,7 +44,7 @@ impl<'s, 't, D: Device, R: Read, W1: Write, W2: Write> Inner<'s, 't, D, R, W1, W
     /// `fd_prestat_get(fd, result)`.
     pub fn fd_prestat_get(&self, memory: &mut Memory, arguments: &[u64]) -> Result<(), Errno>
         requires { IsSetUp R.remaining self.now }
-        ensures { (used : _) → Serves D.honest D.disk D.size D.failures R.remaining W1.contents W2.contents call.FdPrestatGet used arguments.now self.now memory.old self.now memory.new (errno_of result) }
+        ensures { (used : _) → Serves D.honest D.disk D.size D.failures D.goes_on R.remaining W1.contents W2.contents call.FdPrestatGet used arguments.now self.now memory.old self.now memory.new (errno_of result) }
     {
         let (fd, result_at) = (descriptor(arguments, 0), word(arguments, 1));
         descriptors::fd_prestat_get(&self.descriptors, memory, fd, result_at)
@@ -53,7 +53,7 @@ impl<'s, 't, D: Device, R: Read, W1: Write, W2: Write> Inner<'s, 't, D, R, W1, W
     /// `fd_prestat_dir_name(fd, path, length)`.
     pub fn fd_prestat_dir_name(&self, memory: &mut Memory, arguments: &[u64]) -> Result<(), Errno>
         requires { IsSetUp R.remaining self.now }
-        ensures { (used : _) → Serves D.honest D.disk D.size D.failures R.remaining W1.contents W2.contents call.FdPrestatDirName used arguments.now self.now memory.old self.now memory.new (errno_of result) }
+        ensures { (used : _) → Serves D.honest D.disk D.size D.failures D.goes_on R.remaining W1.contents W2.contents call.FdPrestatDirName used arguments.now self.now memory.old self.now memory.new (errno_of result) }
     {
         let fd = descriptor(arguments, 0);
         let path = word(arguments, 1);
@@ -65,7 +65,7 @@ impl<'s, 't, D: Device, R: Read, W1: Write, W2: Write> Inner<'s, 't, D, R, W1, W
     pub fn fd_seek(&mut self, memory: &mut Memory, arguments: &[u64]) -> Result<(), Errno>
         requires set_up { IsSetUp R.remaining self.old }
         requires known { KnowsEntries D.honest self.old.volume (table_of self.old.descriptors) }
-        ensures { (used : _) → Serves D.honest D.disk D.size D.failures R.remaining W1.contents W2.contents call.FdSeek used arguments.now self.old memory.old self.new memory.new (errno_of result) }
+        ensures { (used : _) → Serves D.honest D.disk D.size D.failures D.goes_on R.remaining W1.contents W2.contents call.FdSeek used arguments.now self.old memory.old self.new memory.new (errno_of result) }
     {
         let (fd, delta) = (descriptor(arguments, 0), long(arguments, 1));
         let (whence, result_at) = (word(arguments, 2), word(arguments, 3));
@@ -76,7 +76,7 @@ impl<'s, 't, D: Device, R: Read, W1: Write, W2: Write> Inner<'s, 't, D, R, W1, W
     /// `fd_tell(fd, result)`.
     pub fn fd_tell(&self, memory: &mut Memory, arguments: &[u64]) -> Result<(), Errno>
         requires { IsSetUp R.remaining self.now }
-        ensures { (used : _) → Serves D.honest D.disk D.size D.failures R.remaining W1.contents W2.contents call.FdTell used arguments.now self.now memory.old self.now memory.new (errno_of result) }
+        ensures { (used : _) → Serves D.honest D.disk D.size D.failures D.goes_on R.remaining W1.contents W2.contents call.FdTell used arguments.now self.now memory.old self.now memory.new (errno_of result) }
     {
         let (fd, result_at) = (descriptor(arguments, 0), word(arguments, 1));
         positions::fd_tell(&self.descriptors, memory, fd, result_at)

@@ -3,7 +3,7 @@
 ghost use Rattle.std.specs.Prelude.{true, ◌≡◌, ◌<◌, ◌≤◌, length, ℕ, ◌^◌, ◌==◌, ◌&&◌, ◌||◌, Ok, Err, MatchResult, IfOk, IfErr, OnOk, ◌+◌, IsTrue, nat_lt};
 ghost use Rattle.vol_sector.specs.Disk.{Leaves};
 ghost use Rattle.vol_tree.specs.Calls.{bytes_at};
-ghost use Rattle.vol_tree.specs.Opened.{Tells, Keeps, is_io};
+ghost use Rattle.vol_tree.specs.Opened.{Tells, Keeps, GoesOn, is_io};
 ghost use Rattle.wasi_fd.specs.Table.{table_of, with_at};
 ghost use Rattle.wasi_calls.specs.World.{World, moved_to};
 ghost use Rattle.wasi_calls.specs.Checks.{guard, has};
@@ -76,6 +76,7 @@ pub(crate) fn size_of<D: Device>(
     ensures crash { D.honest volume.old.device
         → Leaves (D.disk volume.old.device) (D.disk volume.new.device) (λ c. ⊥) }
     ensures kept { Keeps D.honest D.size D.failures volume.old volume.new (is_io result) }
+    ensures goes_on { GoesOn D.goes_on volume.old volume.new }
 {
     match volume.stat(serial) {
         Ok(stat) => Ok(stat.size),
@@ -91,7 +92,7 @@ fn seek_from<D: Device>(
 ) -> Result<u64, vol_tree::Errno>
     requires file { IsFileOf D.honest volume.old opened.now.serial }
     requires known { whence ≤ 2 }
-    ensures step { VolumeStep D.honest D.disk D.size D.failures volume.old volume.new }
+    ensures step { VolumeStep D.honest D.disk D.size D.failures D.goes_on volume.old volume.new }
     ensures io { is_io result ≡ true → volume.new.failed ≡ true }
     ensures told { (IsTrue (nat_lt 1 whence) → D.honest volume.old.device) → (w : World)
         → w ≡ with_volume volume.old w
@@ -170,7 +171,7 @@ pub(crate) fn fd_seek<D: Device>(
     result_at: u32,
 ) -> Result<(), Errno>
     requires { KnowsEntries D.honest volume.old (table_of descriptors.old) }
-    ensures step { VolumeStep D.honest D.disk D.size D.failures volume.old volume.new }
+    ensures step { VolumeStep D.honest D.disk D.size D.failures D.goes_on volume.old volume.new }
     ensures io { errno_of result ≡ 29 → volume.new.failed ≡ true }
     ensures entries { NoMoreEntries (table_of descriptors.old) (table_of descriptors.new) }
     ensures answered { (IsTrue (is_entry (table_of descriptors.old fd) && nat_lt 1 whence)

@@ -3,7 +3,7 @@
 ghost use Rattle.std.specs.Prelude.{true, ◌≡◌, ◌≤◌, IsSome, IsTrue};
 ghost use Rattle.vol_sector.specs.Disk.{Leaves};
 ghost use Rattle.vol_tree.specs.Tree.{entry};
-ghost use Rattle.vol_tree.specs.Opened.{Tells, Keeps, is_io};
+ghost use Rattle.vol_tree.specs.Opened.{Tells, Keeps, GoesOn, is_io};
 ghost use Rattle.wasi_calls.specs.descriptors.Rows.{filestat, entry_stat, fd_filestat_get as stat_row};
 ghost use Rattle.wasi_fd.specs.Table.{table_of};
 ghost use Rattle.wasi_calls.specs.World.{World};
@@ -55,6 +55,7 @@ pub(crate) fn stat_entry<D: Device>(
     ensures crash { D.honest volume.old.device
         → Leaves (D.disk volume.old.device) (D.disk volume.new.device) (λ c. ⊥) }
     ensures kept { Keeps D.honest D.size D.failures volume.old volume.new (is_io result) }
+    ensures goes_on { GoesOn D.goes_on volume.old volume.new }
 {
     match volume.stat(serial) {
         Ok(stat) => Ok(filestat(serial.number(), type_of_entry(stat.kind), stat.size)),
@@ -71,7 +72,7 @@ pub(crate) fn filestat_get<D: Device>(
     result_at: u32,
 ) -> Result<(), Errno>
     requires { KnowsEntries D.honest volume.old (table_of descriptors.now) }
-    ensures step { VolumeStep D.honest D.disk D.size D.failures volume.old volume.new }
+    ensures step { VolumeStep D.honest D.disk D.size D.failures D.goes_on volume.old volume.new }
     ensures io { errno_of result ≡ 29 → volume.new.failed ≡ true }
     ensures answered { (IsTrue (is_entry (table_of descriptors.now fd)) → D.honest volume.old.device)
         → (w : World) → w.table ≡ table_of descriptors.now

@@ -27,7 +27,7 @@ impl<'s, 't, D: Device, R: Read, W1: Write, W2: Write> Inner<'s, 't, D, R, W1, W
     pub fn fd_read(&mut self, memory: &mut Memory, arguments: &[u64]) -> Result<(), Errno>
         requires set_up { IsSetUp R.remaining self.old }
         requires known { KnowsEntries D.honest self.old.volume (table_of self.old.descriptors) }
-        ensures { (used : _) → Serves D.honest D.disk D.size D.failures R.remaining W1.contents W2.contents call.FdRead used arguments.now self.old memory.old self.new memory.new (errno_of result) }
+        ensures { (used : _) → Serves D.honest D.disk D.size D.failures D.goes_on R.remaining W1.contents W2.contents call.FdRead used arguments.now self.old memory.old self.new memory.new (errno_of result) }
     {
         let request = Request::new(arguments, 3);
         let takes = Takes::NoDirectories;
@@ -59,7 +59,7 @@ impl<'s, 't, D: Device, R: Read, W1: Write, W2: Write> Inner<'s, 't, D, R, W1, W
     pub fn fd_pread(&mut self, memory: &mut Memory, arguments: &[u64]) -> Result<(), Errno>
         requires set_up { IsSetUp R.remaining self.old }
         requires known { KnowsEntries D.honest self.old.volume (table_of self.old.descriptors) }
-        ensures { (used : _) → Serves D.honest D.disk D.size D.failures R.remaining W1.contents W2.contents call.FdPread used arguments.now self.old memory.old self.new memory.new (errno_of result) }
+        ensures { (used : _) → Serves D.honest D.disk D.size D.failures D.goes_on R.remaining W1.contents W2.contents call.FdPread used arguments.now self.old memory.old self.new memory.new (errno_of result) }
     {
         let request = Request::new(arguments, 4);
         let offset = long(arguments, 3);
@@ -79,7 +79,7 @@ impl<'s, 't, D: Device, R: Read, W1: Write, W2: Write> Inner<'s, 't, D, R, W1, W
     pub fn fd_write(&mut self, memory: &mut Memory, arguments: &[u64]) -> Result<(), Errno>
         requires set_up { IsSetUp R.remaining self.old }
         requires known { KnowsEntries D.honest self.old.volume (table_of self.old.descriptors) }
-        ensures { (used : _) → Serves D.honest D.disk D.size D.failures R.remaining W1.contents W2.contents call.FdWrite used arguments.now self.old memory.old self.new memory.new (errno_of result) }
+        ensures { (used : _) → Serves D.honest D.disk D.size D.failures D.goes_on R.remaining W1.contents W2.contents call.FdWrite used arguments.now self.old memory.old self.new memory.new (errno_of result) }
     {
         let request = Request::new(arguments, 3);
         let takes = Takes::NoDirectories;
@@ -110,7 +110,7 @@ impl<'s, 't, D: Device, R: Read, W1: Write, W2: Write> Inner<'s, 't, D, R, W1, W
     pub fn fd_pwrite(&mut self, memory: &mut Memory, arguments: &[u64]) -> Result<(), Errno>
         requires set_up { IsSetUp R.remaining self.old }
         requires known { KnowsEntries D.honest self.old.volume (table_of self.old.descriptors) }
-        ensures { (used : _) → Serves D.honest D.disk D.size D.failures R.remaining W1.contents W2.contents call.FdPwrite used arguments.now self.old memory.old self.new memory.new (errno_of result) }
+        ensures { (used : _) → Serves D.honest D.disk D.size D.failures D.goes_on R.remaining W1.contents W2.contents call.FdPwrite used arguments.now self.old memory.old self.new memory.new (errno_of result) }
     {
         let request = Request::new(arguments, 4);
         let offset = long(arguments, 3);
@@ -130,7 +130,7 @@ impl<'s, 't, D: Device, R: Read, W1: Write, W2: Write> Inner<'s, 't, D, R, W1, W
     pub fn fd_filestat_set_size(&mut self, arguments: &[u64]) -> Result<(), Errno>
         requires set_up { IsSetUp R.remaining self.old }
         requires known { KnowsEntries D.honest self.old.volume (table_of self.old.descriptors) }
-        ensures { (m : _) (used : _) → Serves D.honest D.disk D.size D.failures R.remaining W1.contents W2.contents call.FdFilestatSetSize used arguments.now self.old m self.new m (errno_of result) }
+        ensures { (m : _) (used : _) → Serves D.honest D.disk D.size D.failures D.goes_on R.remaining W1.contents W2.contents call.FdFilestatSetSize used arguments.now self.old m self.new m (errno_of result) }
     {
         let fd = descriptor(arguments, 0);
         let size = long(arguments, 1);
@@ -140,7 +140,7 @@ impl<'s, 't, D: Device, R: Read, W1: Write, W2: Write> Inner<'s, 't, D, R, W1, W
     /// `fd_sync(fd)`.
     pub fn fd_sync(&mut self, arguments: &[u64]) -> Result<(), Errno>
         requires { IsSetUp R.remaining self.old }
-        ensures serves { (m : _) (used : _) → Serves D.honest D.disk D.size D.failures R.remaining W1.contents W2.contents call.FdSync used arguments.now self.old m self.new m (errno_of result) }
+        ensures serves { (m : _) (used : _) → Serves D.honest D.disk D.size D.failures D.goes_on R.remaining W1.contents W2.contents call.FdSync used arguments.now self.old m self.new m (errno_of result) }
         ensures durable { D.honest self.old.volume.device → errno_of result ≡ 0 → (c : Image)
             → (D.disk self.new.volume.device).may_leave c → StandsAs c self.new.volume.numbers self.new.volume.tree }
     {
@@ -151,7 +151,7 @@ impl<'s, 't, D: Device, R: Read, W1: Write, W2: Write> Inner<'s, 't, D, R, W1, W
     /// `fd_datasync(fd)`.
     pub fn fd_datasync(&mut self, arguments: &[u64]) -> Result<(), Errno>
         requires { IsSetUp R.remaining self.old }
-        ensures serves { (m : _) (used : _) → Serves D.honest D.disk D.size D.failures R.remaining W1.contents W2.contents call.FdDatasync used arguments.now self.old m self.new m (errno_of result) }
+        ensures serves { (m : _) (used : _) → Serves D.honest D.disk D.size D.failures D.goes_on R.remaining W1.contents W2.contents call.FdDatasync used arguments.now self.old m self.new m (errno_of result) }
         ensures durable { D.honest self.old.volume.device → errno_of result ≡ 0 → (c : Image)
             → (D.disk self.new.volume.device).may_leave c → StandsAs c self.new.volume.numbers self.new.volume.tree }
     {
@@ -163,7 +163,7 @@ impl<'s, 't, D: Device, R: Read, W1: Write, W2: Write> Inner<'s, 't, D, R, W1, W
     pub fn fd_readdir(&mut self, memory: &mut Memory, arguments: &[u64]) -> Result<(), Errno>
         requires set_up { IsSetUp R.remaining self.old }
         requires known { KnowsEntries D.honest self.old.volume (table_of self.old.descriptors) }
-        ensures { (used : _) → Serves D.honest D.disk D.size D.failures R.remaining W1.contents W2.contents call.FdReaddir used arguments.now self.old memory.old self.new memory.new (errno_of result) }
+        ensures { (used : _) → Serves D.honest D.disk D.size D.failures D.goes_on R.remaining W1.contents W2.contents call.FdReaddir used arguments.now self.old memory.old self.new memory.new (errno_of result) }
     {
         let asked = ListCall::read(arguments);
         listing::fd_readdir(&mut self.volume, &self.descriptors, memory, &asked)

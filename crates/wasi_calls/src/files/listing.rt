@@ -104,7 +104,8 @@ fn next_told<D: Device>(
     directory: Serial,
     after: u32,
 ) -> Result<Option<Told>, vol_tree::Errno>
-    ensures asked { Asked D.honest D.disk D.size D.failures volume.old volume.new (is_io result) }
+    ensures asked { Asked D.honest D.disk D.size D.failures D.goes_on volume.old volume.new
+        (is_io result) }
     ensures told { D.honest volume.old.device → MatchResult result
         (λ next. TellsNext volume.old.tree directory after next) (λ e. e ≡ vol_errno.Io) }
     ensures least { IfOk result (λ next. IfSome next (λ t. 24 ≤ t.len)) }
@@ -141,7 +142,8 @@ fn list<D: Device>(
     part: &mut [u8],
 ) -> Result<usize, vol_tree::Errno>
     requires { volume.old.failed ≡ false }
-    ensures asked { Asked D.honest D.disk D.size D.failures volume.old volume.new (is_io result) }
+    ensures asked { Asked D.honest D.disk D.size D.failures D.goes_on volume.old volume.new
+        (is_io result) }
     ensures answer { D.honest volume.old.device
         → TellsBytes (take (length part.old) (dirents volume.old.tree directory cookie)) part.old part.new volume.old.tree volume.new.tree result }
     ensures room { IfOk result (λ n. n ≤ length part.old) }
@@ -172,7 +174,8 @@ fn list_part<D: Device>(
 ) -> Result<usize, vol_tree::Errno>
     requires works { volume.old.failed ≡ false }
     requires inside { start + len ≤ length memory.old }
-    ensures asked { Asked D.honest D.disk D.size D.failures volume.old volume.new (is_io result) }
+    ensures asked { Asked D.honest D.disk D.size D.failures D.goes_on volume.old volume.new
+        (is_io result) }
     ensures long { length memory.new ≡ length memory.old }
     ensures room { IfOk result (λ n. n ≤ len) }
     ensures count { D.honest volume.old.device
@@ -205,7 +208,8 @@ fn list_from<D: Device>(
     len: u32,
 ) -> Result<u32, vol_tree::Errno>
     requires { start + len ≤ length memory.old }
-    ensures asked { Asked D.honest D.disk D.size D.failures volume.old volume.new (is_io result) }
+    ensures asked { Asked D.honest D.disk D.size D.failures D.goes_on volume.old volume.new
+        (is_io result) }
     ensures long { length memory.new ≡ length memory.old }
     ensures idle { volume.old.failed ≡ true → memory.new ≡ memory.old }
     ensures count { D.honest volume.old.device
@@ -266,7 +270,7 @@ pub(crate) fn fd_readdir<D: Device>(
     memory: &mut Memory,
     asked: &ListCall,
 ) -> Result<(), Errno>
-    ensures step { VolumeStep D.honest D.disk D.size D.failures volume.old volume.new }
+    ensures step { VolumeStep D.honest D.disk D.size D.failures D.goes_on volume.old volume.new }
     ensures io { errno_of result ≡ 29 → volume.new.failed ≡ true }
     ensures answered { D.honest volume.old.device → (w : World) → w.table ≡ table_of descriptors.now → w ≡ with_volume volume.old w
         → Answered (λ v. list_row v memory.old asked.now.fd asked.now.buffer asked.now.len asked.now.cookie asked.now.used_at) w memory.old (with_volume volume.new w) memory.new (errno_of result) }

@@ -86,7 +86,8 @@ fn read_part<D: Device>(
     ensures broke { D.honest volume.old.device → at + len ≤ length (bytes_at volume.old.tree serial)
         → IfErr result (λ e. (e ≡ vol_errno.Io)
         × IsBegun memory.old start (read_bytes volume.old.tree serial at len) memory.new) }
-    ensures asked { Asked D.honest D.disk D.size D.failures volume.old volume.new (is_io result) }
+    ensures asked { Asked D.honest D.disk D.size D.failures D.goes_on volume.old volume.new
+        (is_io result) }
 {
     match volume.read(serial, at, memory.part_mut(start, len)) {
         Ok(_) => Ok(()),
@@ -116,7 +117,8 @@ fn fill_stretch<D: Device>(
     ensures broke { D.honest volume.old.device → end - place ≤ length (bytes_at volume.old.tree serial) - from
         → IfErr result (λ e. (e ≡ vol_errno.Io)
         × BufferBegun (bytes_at volume.old.tree serial) from place end (list_of later.now) memory.old memory.new) }
-    ensures asked { Asked D.honest D.disk D.size D.failures volume.old volume.new (is_io result) }
+    ensures asked { Asked D.honest D.disk D.size D.failures D.goes_on volume.old volume.new
+        (is_io result) }
 {
     match stretch_from(place, end, later) {
         Stretch::Covered(until) => Ok(until),
@@ -148,7 +150,8 @@ fn fill_buffer<D: Device>(
     ensures broke { D.honest volume.old.device → buffer.len ≤ length (bytes_at volume.old.tree serial) - from
         → IfErr result (λ e. (e ≡ vol_errno.Io)
         × BufferBegun (bytes_at volume.old.tree serial) from buffer.pointer (buffer.pointer + buffer.len) (list_of later.now) memory.old memory.new) }
-    ensures asked { Asked D.honest D.disk D.size D.failures volume.old volume.new (is_io result) }
+    ensures asked { Asked D.honest D.disk D.size D.failures D.goes_on volume.old volume.new
+        (is_io result) }
 {
     let start = buffer.pointer as usize;
     let end = start + buffer.len as usize;
@@ -181,7 +184,8 @@ fn fill_buffers<D: Device>(
     ensures broke { D.honest volume.old.device → total (list_of buffers.now) ≤ length (bytes_at volume.old.tree serial) - from
         → IfErr result (λ e. (e ≡ vol_errno.Io)
         × IsMixed memory.old (put memory.old (scattered (drop from (bytes_at volume.old.tree serial)) (list_of buffers.now))) memory.new) }
-    ensures asked { Asked D.honest D.disk D.size D.failures volume.old volume.new (is_io result) }
+    ensures asked { Asked D.honest D.disk D.size D.failures D.goes_on volume.old volume.new
+        (is_io result) }
 {
     let mut at = from;
     for index in 0..buffers.len() {
@@ -227,7 +231,8 @@ pub(crate) fn read_at<D: Device>(
     ensures broke { D.honest volume.old.device
         → IfErr result (λ e. (e ≡ vol_errno.Io)
         × IsMixed memory.old (received memory.old (wanted volume.old.tree serial from (list_of buffers.old)) (list_of buffers.old)) memory.new) }
-    ensures asked { Asked D.honest D.disk D.size D.failures volume.old volume.new (is_io result) }
+    ensures asked { Asked D.honest D.disk D.size D.failures D.goes_on volume.old volume.new
+        (is_io result) }
 {
     match size_of(volume, serial) {
         Ok(size) => {
@@ -265,7 +270,7 @@ pub(crate) fn read_placed<D: Device>(
     requires file { IsFileOf D.honest volume.old opened.now.serial }
     requires few { length buffers.old ≤ MOST_BUFFERS }
     requires usable { AreUsable memory.old (list_of buffers.old) request.now.result_at }
-    ensures step { VolumeStep D.honest D.disk D.size D.failures volume.old volume.new }
+    ensures step { VolumeStep D.honest D.disk D.size D.failures D.goes_on volume.old volume.new }
     ensures io { errno_of result ≡ 29 → volume.new.failed ≡ true }
     ensures answered { D.honest volume.old.device → (w : World) → w ≡ with_volume volume.old w
         → Answered (λ v. read_into v opened.now from (list_of buffers.old) request.now.result_at) w memory.old (with_volume volume.new w) memory.new (errno_of result) }
@@ -293,7 +298,7 @@ pub(crate) fn read_file<'t, D: Device>(
     requires open { table_of descriptors.old request.now.fd ≡ Some (Descriptor.Entry opened.now) }
     requires few { length buffers.old ≤ MOST_BUFFERS }
     requires usable { AreUsable memory.old (list_of buffers.old) request.now.result_at }
-    ensures step { VolumeStep D.honest D.disk D.size D.failures volume.old volume.new }
+    ensures step { VolumeStep D.honest D.disk D.size D.failures D.goes_on volume.old volume.new }
     ensures io { errno_of result ≡ 29 → volume.new.failed ≡ true }
     ensures entries { NoMoreEntries (table_of descriptors.old) (table_of descriptors.new) }
     ensures answered { D.honest volume.old.device → (w : World) → w.table ≡ table_of descriptors.old → w ≡ with_volume volume.old w

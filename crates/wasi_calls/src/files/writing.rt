@@ -4,7 +4,7 @@ ghost use Rattle.std.specs.Prelude.{◌≡◌, ◌⊎◌, ◌≤◌, ◌+◌, �
 ghost use Rattle.std.specs.List.{list_all};
 ghost use Rattle.vol_sector.specs.Disk.{Leaves};
 ghost use Rattle.vol_tree.specs.declared.errno.Errno.TheVariants as vol_errno;
-ghost use Rattle.vol_tree.specs.Opened.{Tells, Keeps, ReflectsOr, geometry, is_io};
+ghost use Rattle.vol_tree.specs.Opened.{Tells, Keeps, GoesOn, ReflectsOr, geometry, is_io};
 ghost use Rattle.vol_tree.specs.Calls.{bytes_at, written as tree_with};
 ghost use Rattle.wasi_fd.specs.Table.{table_of};
 ghost use Rattle.wasi_calls.specs.World.{World};
@@ -48,6 +48,7 @@ fn put_bytes<D: Device>(
         → Leaves (D.disk volume.old.device) (D.disk volume.new.device)
         (ReflectsOr (D.disk volume.old.device) volume.old.numbers volume.old.tree) }
     ensures kept { Keeps D.honest D.size D.failures volume.old volume.new (is_io result) }
+    ensures goes_on { GoesOn D.goes_on volume.old volume.new }
 {
     let len = total_len(buffers).min(PIECE as u64) as u32;
     let bytes = Source::gather(memory.as_slice(), buffers, len as usize);
@@ -79,7 +80,7 @@ pub(crate) fn write_at<D: Device>(
     requires file { IsFileOf D.honest volume.old opened.now.serial }
     requires few { length buffers.now ≤ MOST_BUFFERS }
     requires usable { AreUsable memory.old (list_of buffers.now) result_at }
-    ensures step { VolumeStep D.honest D.disk D.size D.failures volume.old volume.new }
+    ensures step { VolumeStep D.honest D.disk D.size D.failures D.goes_on volume.old volume.new }
     ensures io { errno_of result ≡ 29 → volume.new.failed ≡ true }
     ensures answered { D.honest volume.old.device → (w : World) → w ≡ with_volume volume.old w
         → Answered (λ v. written_at_offset v opened.now at (gathered memory.old (list_of buffers.now)) result_at) w memory.old (with_volume volume.new w) memory.new (errno_of result) }
@@ -105,7 +106,7 @@ fn where_it_writes<'t, D: Device>(
     ensures kept { IsTrue opened.now.append → Keeps D.honest D.size D.failures volume.old volume.new (is_io result) }
     ensures asked { IsTrue opened.now.append → D.honest volume.old.device → Leaves (D.disk volume.old.device) (D.disk volume.new.device) (λ c. ⊥) }
     ensures moved { IfOk result (λ s. s ≡ record opened.now { position = s.position }) }
-    ensures step { VolumeStep D.honest D.disk D.size D.failures volume.old volume.new }
+    ensures step { VolumeStep D.honest D.disk D.size D.failures D.goes_on volume.old volume.new }
     ensures io { is_io result ≡ true → volume.new.failed ≡ true }
 {
     if !opened.append {
@@ -134,7 +135,7 @@ fn write_on<'t, D: Device>(
     requires open { IsOpenAs (table_of descriptors.old) request.now.fd opened.now }
     requires few { length buffers.now ≤ MOST_BUFFERS }
     requires usable { AreUsable memory.old (list_of buffers.now) request.now.result_at }
-    ensures step { VolumeStep D.honest D.disk D.size D.failures volume.old volume.new }
+    ensures step { VolumeStep D.honest D.disk D.size D.failures D.goes_on volume.old volume.new }
     ensures io { errno_of result ≡ 29 → volume.new.failed ≡ true }
     ensures entries { NoMoreEntries (table_of descriptors.old) (table_of descriptors.new) }
     ensures answered { D.honest volume.old.device → (w : World) → w.table ≡ table_of descriptors.old → w ≡ with_volume volume.old w
@@ -167,7 +168,7 @@ pub(crate) fn write_file<'t, D: Device>(
     requires open { table_of descriptors.old request.now.fd ≡ Some (Descriptor.Entry opened.now) }
     requires few { length buffers.now ≤ MOST_BUFFERS }
     requires usable { AreUsable memory.old (list_of buffers.now) request.now.result_at }
-    ensures step { VolumeStep D.honest D.disk D.size D.failures volume.old volume.new }
+    ensures step { VolumeStep D.honest D.disk D.size D.failures D.goes_on volume.old volume.new }
     ensures io { errno_of result ≡ 29 → volume.new.failed ≡ true }
     ensures entries { NoMoreEntries (table_of descriptors.old) (table_of descriptors.new) }
     ensures answered { D.honest volume.old.device → (w : World) → w.table ≡ table_of descriptors.old → w ≡ with_volume volume.old w

@@ -15,7 +15,7 @@ impl<'s, 't, D: Device, R: Read, W1: Write, W2: Write> Inner<'s, 't, D, R, W1, W
     /// A call that is linked, and answers that there is none such.
     fn nosys(&self) -> Result<(), Errno>
         requires { IsSetUp R.remaining self.now }
-        ensures { (m : _) (used : _) (arguments : _) → Serves D.honest D.disk D.size D.failures R.remaining W1.contents W2.contents call.Nosys used arguments self.now m self.now m (errno_of result) }
+        ensures { (m : _) (used : _) (arguments : _) → Serves D.honest D.disk D.size D.failures D.goes_on R.remaining W1.contents W2.contents call.Nosys used arguments self.now m self.now m (errno_of result) }
     {
         Err(NOSYS)
     }
@@ -30,7 +30,7 @@ impl<'s, 't, D: Device, R: Read, W1: Write, W2: Write> Inner<'s, 't, D, R, W1, W
     ) -> Result<(), Errno>
         requires set_up { IsSetUp R.remaining self.old }
         requires known { KnowsEntries D.honest self.old.volume (table_of self.old.descriptors) }
-        ensures serves { Serves D.honest D.disk D.size D.failures R.remaining W1.contents W2.contents call used arguments.now self.old memory.old self.new memory.new (errno_of result) }
+        ensures serves { Serves D.honest D.disk D.size D.failures D.goes_on R.remaining W1.contents W2.contents call used arguments.now self.old memory.old self.new memory.new (errno_of result) }
         ensures synced { D.honest self.old.volume.device
             → IsSynced call (errno_of result) (D.disk self.new.volume.device) self.new.volume.numbers self.new.volume.tree }
     {

@@ -36,7 +36,8 @@ fn reached_directory<D: Device>(
 ) -> Result<Serial, HostFault>
     requires working { volume.old.failed ≡ false }
     requires reached { IsReached D.honest volume.old reached }
-    ensures reads { Asked D.honest D.disk D.size D.failures volume.old volume.new (is_device result) }
+    ensures reads { Asked D.honest D.disk D.size D.failures D.goes_on volume.old volume.new
+        (is_device result) }
     ensures found { D.honest volume.old.device
         → FindsOrFails (found_directory volume.old.tree (Ok (reached_as reached.entry))) result }
     ensures number { IfOk result (IsSerial volume.new.numbers) }
@@ -58,7 +59,8 @@ fn reached_directory<D: Device>(
 /// The directory that the rest of a path names, from the root; an empty rest is the root.
 fn from_root<D: Device>(volume: &mut Volume<D>, rest: &[u8]) -> Result<Serial, HostFault>
     requires { volume.old.failed ≡ false }
-    ensures reads { Asked D.honest D.disk D.size D.failures volume.old volume.new (is_device result) }
+    ensures reads { Asked D.honest D.disk D.size D.failures D.goes_on volume.old volume.new
+        (is_device result) }
     ensures found { D.honest volume.old.device
         → FindsOrFails (from_root volume.old.tree rest.now) result }
     ensures number { IfOk result (IsSerial volume.new.numbers) }
@@ -77,7 +79,8 @@ fn from_root<D: Device>(volume: &mut Volume<D>, rest: &[u8]) -> Result<Serial, H
 /// The directory that a path of the volume names.
 fn directory_named<D: Device>(volume: &mut Volume<D>, path: &[u8]) -> Result<Serial, HostFault>
     requires { volume.old.failed ≡ false }
-    ensures reads { Asked D.honest D.disk D.size D.failures volume.old volume.new (is_device result) }
+    ensures reads { Asked D.honest D.disk D.size D.failures D.goes_on volume.old volume.new
+        (is_device result) }
     ensures found { D.honest volume.old.device → FindsOrFails (directory_named volume.old.tree path.now) result }
     ensures number { IfOk result (IsSerial volume.new.numbers) }
     ensures faults { IfErr result (λ fault. FindsOrFails {X = ℕ} None (Err fault)) }
@@ -96,7 +99,8 @@ fn find_all<D: Device>(
 ) -> Result<(), HostFault>
     requires working { volume.old.failed ≡ false }
     requires few { length preopens.now ≤ MOST_PREOPENS }
-    ensures reads { Asked D.honest D.disk D.size D.failures volume.old volume.new (is_device result) }
+    ensures reads { Asked D.honest D.disk D.size D.failures D.goes_on volume.old volume.new
+        (is_device result) }
     ensures found { D.honest volume.old.device
         → FindsAll volume.old.tree preopens.now serials.new result }
     ensures numbers { OnOk result (AreNumbers volume.new.numbers serials.new (length preopens.now)) }
@@ -162,7 +166,8 @@ fn open_directories<'t, D: Device>(
         → OnOk result (HasPreopens volume.old.tree preopens.now (table_of descriptors.new)) }
     ensures refused { IfErr result (Refuses D.honest volume.old volume.new preopens.now) }
     ensures closed { OnErr result ((n : ℕ) → table_of descriptors.new n ≡ table_of descriptors.old n) }
-    ensures reads { Asked D.honest D.disk D.size D.failures volume.old volume.new (is_device result) }
+    ensures reads { Asked D.honest D.disk D.size D.failures D.goes_on volume.old volume.new
+        (is_device result) }
     ensures known { KnowsEntries D.honest volume.new (table_of descriptors.new) }
 {
     if volume.failed() {
@@ -190,7 +195,7 @@ impl<'s, 't, D: Device, R, W1, W2> Inner<'s, 't, D, R, W1, W2> {
             → OnOk result (HasPreopens self.old.volume.tree self.old.settings.preopens.now (table_of self.new.descriptors)) }
         ensures refused { IfErr result (Refuses D.honest self.old.volume self.new.volume self.old.settings.preopens.now) }
         ensures closed { OnErr result ((n : ℕ) → table_of self.new.descriptors n ≡ table_of self.old.descriptors n) }
-        ensures reads { Asked D.honest D.disk D.size D.failures self.old.volume self.new.volume (is_device result) }
+        ensures reads { Asked D.honest D.disk D.size D.failures D.goes_on self.old.volume self.new.volume (is_device result) }
         ensures known { KnowsEntries D.honest self.new.volume (table_of self.new.descriptors) }
         ensures others { ChangesVolume self.old self.new }
     {

@@ -195,7 +195,7 @@ impl<'s, 't, D: Device, R: Read, W1: Write, W2: Write> WasiHost<'s, 't, D, R, W1
             → OnOk result (HasPreopens self.old.volume.tree self.old.settings.preopens.now (table_of self.new.descriptors)) }
         ensures refused { IfErr result (IsRefusedPreopen D.honest self.old self.new) }
         ensures closed { OnErr result (HasNoMore self.old self.new) }
-        ensures reads { Asked D.honest D.disk D.size D.failures self.old.volume self.new.volume (is_device result) }
+        ensures reads { Asked D.honest D.disk D.size D.failures D.goes_on self.old.volume self.new.volume (is_device result) }
         ensures streams { KeepsStreams self.old self.new }
     {
         self.inner.preopen()
@@ -226,7 +226,7 @@ impl<'s, 't, D: Device, R: Read, W1: Write, W2: Write> Host for WasiHost<'s, 't,
 
     ghost links = { λ _. link };
 
-    ghost calls = { HostCalls D.honest D.disk D.size D.failures R.remaining W1.contents W2.contents };
+    ghost calls = { HostCalls D.honest D.disk D.size D.failures D.goes_on R.remaining W1.contents W2.contents };
 
     fn link(&self, module_name: &str, name: &str, func_type: &FuncType) -> Option<HostCall> {
         linking::call_of(module_name, name, func_type)

@@ -22,7 +22,7 @@ impl<'s, 't, D: Device, R: Read, W1: Write, W2: Write> Inner<'s, 't, D, R, W1, W
     pub fn path_create_directory(&mut self, memory: &Memory, arguments: &[u64]) -> Result<(), Errno>
         requires set_up { IsSetUp R.remaining self.old }
         requires known { KnowsEntries D.honest self.old.volume (table_of self.old.descriptors) }
-        ensures { (used : _) → Serves D.honest D.disk D.size D.failures R.remaining W1.contents W2.contents call.PathCreateDirectory used arguments.now self.old memory.now self.new memory.now (errno_of result) }
+        ensures { (used : _) → Serves D.honest D.disk D.size D.failures D.goes_on R.remaining W1.contents W2.contents call.PathCreateDirectory used arguments.now self.old memory.now self.new memory.now (errno_of result) }
     {
         let fd = descriptor(arguments, 0);
         let (path, len) = (word(arguments, 1), word(arguments, 2));
@@ -33,7 +33,7 @@ impl<'s, 't, D: Device, R: Read, W1: Write, W2: Write> Inner<'s, 't, D, R, W1, W
     pub fn path_filestat_get(&mut self, memory: &mut Memory, arguments: &[u64]) -> Result<(), Errno>
         requires set_up { IsSetUp R.remaining self.old }
         requires known { KnowsEntries D.honest self.old.volume (table_of self.old.descriptors) }
-        ensures { (used : _) → Serves D.honest D.disk D.size D.failures R.remaining W1.contents W2.contents call.PathFilestatGet used arguments.now self.old memory.old self.new memory.new (errno_of result) }
+        ensures { (used : _) → Serves D.honest D.disk D.size D.failures D.goes_on R.remaining W1.contents W2.contents call.PathFilestatGet used arguments.now self.old memory.old self.new memory.new (errno_of result) }
     {
         let (fd, path) = (descriptor(arguments, 0), word(arguments, 2));
         let (len, result_at) = (word(arguments, 3), word(arguments, 4));
@@ -45,7 +45,7 @@ impl<'s, 't, D: Device, R: Read, W1: Write, W2: Write> Inner<'s, 't, D, R, W1, W
     pub fn path_open(&mut self, memory: &mut Memory, arguments: &[u64]) -> Result<(), Errno>
         requires set_up { IsSetUp R.remaining self.old }
         requires known { KnowsEntries D.honest self.old.volume (table_of self.old.descriptors) }
-        ensures { (used : _) → Serves D.honest D.disk D.size D.failures R.remaining W1.contents W2.contents call.PathOpen used arguments.now self.old memory.old self.new memory.new (errno_of result) }
+        ensures { (used : _) → Serves D.honest D.disk D.size D.failures D.goes_on R.remaining W1.contents W2.contents call.PathOpen used arguments.now self.old memory.old self.new memory.new (errno_of result) }
     {
         let asked = OpenCall::read(arguments);
         opening::path_open(&mut self.volume, &mut self.descriptors, memory, &asked)
@@ -55,7 +55,7 @@ impl<'s, 't, D: Device, R: Read, W1: Write, W2: Write> Inner<'s, 't, D, R, W1, W
     pub fn path_remove_directory(&mut self, memory: &Memory, arguments: &[u64]) -> Result<(), Errno>
         requires set_up { IsSetUp R.remaining self.old }
         requires known { KnowsEntries D.honest self.old.volume (table_of self.old.descriptors) }
-        ensures { (used : _) → Serves D.honest D.disk D.size D.failures R.remaining W1.contents W2.contents call.PathRemoveDirectory used arguments.now self.old memory.now self.new memory.now (errno_of result) }
+        ensures { (used : _) → Serves D.honest D.disk D.size D.failures D.goes_on R.remaining W1.contents W2.contents call.PathRemoveDirectory used arguments.now self.old memory.now self.new memory.now (errno_of result) }
     {
         let fd = descriptor(arguments, 0);
         let (path, len) = (word(arguments, 1), word(arguments, 2));
@@ -68,7 +68,7 @@ impl<'s, 't, D: Device, R: Read, W1: Write, W2: Write> Inner<'s, 't, D, R, W1, W
     pub fn path_rename(&mut self, memory: &Memory, arguments: &[u64]) -> Result<(), Errno>
         requires set_up { IsSetUp R.remaining self.old }
         requires known { KnowsEntries D.honest self.old.volume (table_of self.old.descriptors) }
-        ensures { (used : _) → Serves D.honest D.disk D.size D.failures R.remaining W1.contents W2.contents call.PathRename used arguments.now self.old memory.now self.new memory.now (errno_of result) }
+        ensures { (used : _) → Serves D.honest D.disk D.size D.failures D.goes_on R.remaining W1.contents W2.contents call.PathRename used arguments.now self.old memory.now self.new memory.now (errno_of result) }
     {
         let asked = RenameCall::read(arguments);
         renaming::path_rename(&mut self.volume, &self.descriptors, memory, &asked)
@@ -78,7 +78,7 @@ impl<'s, 't, D: Device, R: Read, W1: Write, W2: Write> Inner<'s, 't, D, R, W1, W
     pub fn path_unlink_file(&mut self, memory: &Memory, arguments: &[u64]) -> Result<(), Errno>
         requires set_up { IsSetUp R.remaining self.old }
         requires known { KnowsEntries D.honest self.old.volume (table_of self.old.descriptors) }
-        ensures { (used : _) → Serves D.honest D.disk D.size D.failures R.remaining W1.contents W2.contents call.PathUnlinkFile used arguments.now self.old memory.now self.new memory.now (errno_of result) }
+        ensures { (used : _) → Serves D.honest D.disk D.size D.failures D.goes_on R.remaining W1.contents W2.contents call.PathUnlinkFile used arguments.now self.old memory.now self.new memory.now (errno_of result) }
     {
         let fd = descriptor(arguments, 0);
         let (path, len) = (word(arguments, 1), word(arguments, 2));

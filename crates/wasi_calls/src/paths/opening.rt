@@ -4,7 +4,7 @@ ghost use Rattle.std.specs.Prelude.{◌≡◌, ◌≤◌, ◌+◌, List, true, f
 ghost use Rattle.vol_sector.specs.Disk.{Leaves};
 ghost use Rattle.vol_tree.specs.Tree.{Tree, Name};
 ghost use Rattle.vol_tree.specs.Calls.{directory_at};
-ghost use Rattle.vol_tree.specs.Opened.{Answers as TreeAnswers, Keeps, ReflectsOr, IsSerial, geometry, is_io};
+ghost use Rattle.vol_tree.specs.Opened.{Answers as TreeAnswers, Keeps, GoesOn, ReflectsOr, IsSerial, geometry, is_io};
 ghost use Rattle.path_walk.specs.Paths.{Found, path_read, wants_directory};
 ghost use Rattle.path_walk.specs.Walk.{IsEntryOf, IsReached, reached_as};
 ghost use Rattle.wasm_store.specs.Bytes.{bytes_at};
@@ -250,9 +250,9 @@ fn found_target<'p, D: Device>(
     serial: Serial,
 ) -> Result<Target<'p>, Errno>
     requires { IsEntryOf D.honest volume.old serial }
-    ensures step { VolumeStep D.honest D.disk D.size D.failures volume.old volume.new }
+    ensures step { VolumeStep D.honest D.disk D.size D.failures D.goes_on volume.old volume.new }
     ensures io { errno_of result ≡ 29 → volume.new.failed ≡ true }
-    ensures asked { IfOk result (λ t. Asked D.honest D.disk D.size D.failures volume.old volume.new false) }
+    ensures asked { IfOk result (λ t. Asked D.honest D.disk D.size D.failures D.goes_on volume.old volume.new false) }
     ensures can { IfOk result (CanOpen D.honest volume.new) }
     ensures checks { D.honest volume.old.device → (w : World) (slash : _) → w.volume_failed ≡ false → w ≡ with_volume volume.old w
         → ChecksAs oflags slash (Found serial) w volume.new result }
@@ -277,9 +277,9 @@ fn reached_target<'p, D: Device>(
     requires works { volume.old.failed ≡ false }
     requires reached { IsReached D.honest volume.old reached }
     requires place { D.honest volume.old.device → Places volume.old.tree (Ok reached) }
-    ensures step { VolumeStep D.honest D.disk D.size D.failures volume.old volume.new }
+    ensures step { VolumeStep D.honest D.disk D.size D.failures D.goes_on volume.old volume.new }
     ensures io { errno_of result ≡ 29 → volume.new.failed ≡ true }
-    ensures asked { IfOk result (λ t. Asked D.honest D.disk D.size D.failures volume.old volume.new false) }
+    ensures asked { IfOk result (λ t. Asked D.honest D.disk D.size D.failures D.goes_on volume.old volume.new false) }
     ensures can { IfOk result (CanOpen D.honest volume.new) }
     ensures checks { D.honest volume.old.device → (w : World) (names : List Name) → path_read text.now ≡ Ok names → w.volume_failed ≡ false → w ≡ with_volume volume.old w
         → ChecksAs oflags (wants_directory text.now) (reached_as reached.entry) w volume.new result }
@@ -304,9 +304,9 @@ fn find_target<'t, 'm, D: Device>(
     asked: &OpenCall,
 ) -> Result<(Opened<'t>, Target<'m>), Errno>
     requires { KnowsEntries D.honest volume.old (table_of descriptors.now) }
-    ensures step { VolumeStep D.honest D.disk D.size D.failures volume.old volume.new }
+    ensures step { VolumeStep D.honest D.disk D.size D.failures D.goes_on volume.old volume.new }
     ensures io { errno_of result ≡ 29 → volume.new.failed ≡ true }
-    ensures works { IfOk result (λ p. StillWorks D.honest D.disk D.size D.failures volume.old volume.new) }
+    ensures works { IfOk result (λ p. StillWorks D.honest D.disk D.size D.failures D.goes_on volume.old volume.new) }
     ensures inside { OnOk result (asked.now.result_at + 4 ≤ length memory.now) }
     ensures can { IfOk result (λ p. CanOpen D.honest volume.new p.1) }
     ensures targets { D.honest volume.old.device → (w : World) → w.table ≡ table_of descriptors.now → w ≡ with_volume volume.old w
@@ -340,6 +340,7 @@ fn settle<D: Device>(volume: &mut Volume<D>, target: &Target<'_>) -> Result<Seri
         → Leaves (D.disk volume.old.device) (D.disk volume.new.device) (ReflectsOr (D.disk volume.old.device) volume.old.numbers volume.old.tree) }
     ensures range { IfOk result (IsSerial volume.old.numbers) }
     ensures kept { Keeps D.honest D.size D.failures volume.old volume.new (is_io result) }
+    ensures goes_on { GoesOn D.goes_on volume.old volume.new }
 {
     match target {
         Target::Entry { serial, kind: _ } => Ok(*serial),
@@ -360,7 +361,7 @@ pub(crate) fn path_open<D: Device>(
     asked: &OpenCall,
 ) -> Result<(), Errno>
     requires { KnowsEntries D.honest volume.old (table_of descriptors.old) }
-    ensures step { VolumeStep D.honest D.disk D.size D.failures volume.old volume.new }
+    ensures step { VolumeStep D.honest D.disk D.size D.failures D.goes_on volume.old volume.new }
     ensures io { errno_of result ≡ 29 → volume.new.failed ≡ true }
     ensures serials { AreSerials volume.new.numbers (table_of descriptors.new) }
     ensures answered { D.honest volume.old.device → (w : World) → w.table ≡ table_of descriptors.old → w ≡ with_volume volume.old w

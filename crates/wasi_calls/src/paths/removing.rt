@@ -3,7 +3,7 @@
 ghost use Rattle.std.specs.Prelude.{◌≡◌, true, Ok, Err, IfOk, OnOk, MatchResult};
 ghost use Rattle.vol_sector.specs.Disk.{Leaves};
 ghost use Rattle.vol_tree.specs.Calls.{directory_at, with_unit};
-ghost use Rattle.vol_tree.specs.Opened.{Answers, Keeps, ReflectsOr, is_io};
+ghost use Rattle.vol_tree.specs.Opened.{Answers, Keeps, GoesOn, ReflectsOr, is_io};
 ghost use Rattle.path_walk.specs.Walk.{IsEntryOf};
 ghost use Rattle.wasi_fd.specs.Table.{table_of};
 ghost use Rattle.wasi_fd.specs.Rights.{bits_of};
@@ -35,9 +35,9 @@ pub(crate) fn find<D: Device>(
     rights: Rights,
 ) -> Result<Serial, Errno>
     requires { KnowsEntries D.honest volume.old (table_of descriptors.now) }
-    ensures step { VolumeStep D.honest D.disk D.size D.failures volume.old volume.new }
+    ensures step { VolumeStep D.honest D.disk D.size D.failures D.goes_on volume.old volume.new }
     ensures io { errno_of result ≡ 29 → volume.new.failed ≡ true }
-    ensures works { IfOk result (λ s. StillWorks D.honest D.disk D.size D.failures volume.old volume.new) }
+    ensures works { IfOk result (λ s. StillWorks D.honest D.disk D.size D.failures D.goes_on volume.old volume.new) }
     ensures entry { IfOk result (IsEntryOf D.honest volume.new) }
     ensures asks { D.honest volume.old.device → (w : World) → w.table ≡ table_of descriptors.now → w ≡ with_volume volume.old w
         → Asks (λ v. found_at v memory.now fd (bits_of rights) path len) w volume.new result }
@@ -83,9 +83,9 @@ fn removable<D: Device>(
     kind: Kind,
 ) -> Result<Serial, Errno>
     requires { KnowsEntries D.honest volume.old (table_of descriptors.now) }
-    ensures step { VolumeStep D.honest D.disk D.size D.failures volume.old volume.new }
+    ensures step { VolumeStep D.honest D.disk D.size D.failures D.goes_on volume.old volume.new }
     ensures io { errno_of result ≡ 29 → volume.new.failed ≡ true }
-    ensures works { IfOk result (λ s. StillWorks D.honest D.disk D.size D.failures volume.old volume.new) }
+    ensures works { IfOk result (λ s. StillWorks D.honest D.disk D.size D.failures D.goes_on volume.old volume.new) }
     ensures entry { IfOk result (IsEntryOf D.honest volume.new) }
     ensures kind { D.honest volume.old.device → IfOk result (λ s. is_kind kind (directory_at volume.old.tree s) ≡ true) }
     ensures asks { D.honest volume.old.device → (w : World) → w.table ≡ table_of descriptors.now → w ≡ with_volume volume.old w
@@ -119,6 +119,7 @@ fn take_out<D: Device>(
     ensures crash { D.honest volume.old.device → Leaves (D.disk volume.old.device) (D.disk volume.new.device)
         (ReflectsOr (D.disk volume.old.device) volume.old.numbers volume.old.tree) }
     ensures kept { Keeps D.honest D.size D.failures volume.old volume.new (is_io result) }
+    ensures goes_on { GoesOn D.goes_on volume.old volume.new }
 {
     match kind {
         Kind::Directory => volume.rmdir(serial),
@@ -139,7 +140,7 @@ pub(crate) fn remove<D: Device>(
     kind: Kind,
 ) -> Result<(), Errno>
     requires { KnowsEntries D.honest volume.old (table_of descriptors.now) }
-    ensures step { VolumeStep D.honest D.disk D.size D.failures volume.old volume.new }
+    ensures step { VolumeStep D.honest D.disk D.size D.failures D.goes_on volume.old volume.new }
     ensures io { errno_of result ≡ 29 → volume.new.failed ≡ true }
     ensures answered { D.honest volume.old.device → (w : World) → w.table ≡ table_of descriptors.now → w ≡ with_volume volume.old w
         → Answered (λ v. remove_row kind v memory.now fd (bits_of rights) path len) w memory.now (with_volume volume.new w) memory.now (errno_of result) }

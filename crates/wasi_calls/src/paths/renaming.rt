@@ -6,7 +6,7 @@ ghost use Rattle.vol_sector.specs.Disk.{Leaves};
 ghost use Rattle.vol_inode.specs.Name.{IsName};
 ghost use Rattle.vol_tree.specs.Tree.{IsDirectory, is_empty};
 ghost use Rattle.vol_tree.specs.Calls.{renamed, with_unit, is_within as is_within_row, parent_at, name_at};
-ghost use Rattle.vol_tree.specs.Opened.{Answers as TreeAnswers, Keeps, ReflectsOr, IsSerial, is_io};
+ghost use Rattle.vol_tree.specs.Opened.{Answers as TreeAnswers, Keeps, GoesOn, ReflectsOr, IsSerial, is_io};
 ghost use Rattle.path_walk.specs.Paths.{Found, Missing};
 ghost use Rattle.wasi_fd.specs.Table.{table_of};
 ghost use Rattle.wasi_calls.specs.World.{World};
@@ -94,7 +94,8 @@ impl RenameCall {
 /// The directory that an entry is in.
 fn above<D: Device>(volume: &mut Volume<D>, serial: Serial) -> Result<Serial, vol_tree::Errno>
     requires { IsEntryOf D.honest volume.old serial }
-    ensures asked { Asked D.honest D.disk D.size D.failures volume.old volume.new (is_io result) }
+    ensures asked { Asked D.honest D.disk D.size D.failures D.goes_on volume.old volume.new
+        (is_io result) }
     ensures range { IfOk result (IsSerial volume.old.numbers) }
     ensures told { D.honest volume.old.device → serial ≢ 1 → MatchResult result
         (λ p. IsAbove volume.old.tree serial p) (λ e. e ≡ tree.Io) }
@@ -111,7 +112,8 @@ fn is_within<D: Device>(
     requires works { volume.old.failed ≡ false }
     requires top { IsEntryOf D.honest volume.old top }
     requires serial { IsEntryOf D.honest volume.old serial }
-    ensures asked { Asked D.honest D.disk D.size D.failures volume.old volume.new (is_io result) }
+    ensures asked { Asked D.honest D.disk D.size D.failures D.goes_on volume.old volume.new
+        (is_io result) }
     ensures told { D.honest volume.old.device → MatchResult result
         (λ b. b ≡ is_within_row (length volume.old.tree) volume.old.tree top serial) (λ e. e ≡ tree.Io) }
 {
@@ -138,7 +140,8 @@ fn is_within<D: Device>(
 
 /// Whether nothing stands in a directory.
 fn is_empty<D: Device>(volume: &mut Volume<D>, directory: Serial) -> Result<bool, vol_tree::Errno>
-    ensures asked { Asked D.honest D.disk D.size D.failures volume.old volume.new (is_io result) }
+    ensures asked { Asked D.honest D.disk D.size D.failures D.goes_on volume.old volume.new
+        (is_io result) }
     ensures told { D.honest volume.old.device → MatchResult result
         (λ b. b ≡ is_empty volume.old.tree directory) (λ e. e ≡ tree.Io) }
 {
@@ -154,7 +157,8 @@ fn ask_facts<D: Device>(
     requires works { volume.old.failed ≡ false }
     requires source { IsEntryOf D.honest volume.old source }
     requires target { IsEntryOf D.honest volume.old target }
-    ensures asked { Asked D.honest D.disk D.size D.failures volume.old volume.new (is_io result) }
+    ensures asked { Asked D.honest D.disk D.size D.failures D.goes_on volume.old volume.new
+        (is_io result) }
     ensures told { D.honest volume.old.device → MatchResult result
         (AreFacts volume.old.tree source target) (λ e. e ≡ tree.Io) }
 {
@@ -194,9 +198,9 @@ fn may_replace<D: Device>(
     requires works { volume.old.failed ≡ false }
     requires source { IsEntryOf D.honest volume.old source }
     requires target { IsEntryOf D.honest volume.old target }
-    ensures step { VolumeStep D.honest D.disk D.size D.failures volume.old volume.new }
+    ensures step { VolumeStep D.honest D.disk D.size D.failures D.goes_on volume.old volume.new }
     ensures io { errno_of result ≡ 29 → volume.new.failed ≡ true }
-    ensures asked { IfOk result (λ u. Asked D.honest D.disk D.size D.failures volume.old volume.new false) }
+    ensures asked { IfOk result (λ u. Asked D.honest D.disk D.size D.failures D.goes_on volume.old volume.new false) }
     ensures checks { D.honest volume.old.device → (w : World) → w.table ≡ table_of descriptors.now → w.volume_failed ≡ false → w ≡ with_volume volume.old w
         → ReplacesAs source target w volume.new result }
 {
@@ -221,6 +225,7 @@ fn rename_onto<D: Device>(
     ensures crash { D.honest volume.old.device
         → Leaves (D.disk volume.old.device) (D.disk volume.new.device) (ReflectsOr (D.disk volume.old.device) volume.old.numbers volume.old.tree) }
     ensures kept { Keeps D.honest D.size D.failures volume.old volume.new (is_io result) }
+    ensures goes_on { GoesOn D.goes_on volume.old volume.new }
 {
     volume.is_a_tree();
     let stat = match volume.stat(target) {
@@ -244,7 +249,7 @@ fn rename_found<D: Device>(
     requires works { volume.old.failed ≡ false }
     requires source { IsEntryOf D.honest volume.old source }
     requires target { IsEntryOf D.honest volume.old target }
-    ensures step { VolumeStep D.honest D.disk D.size D.failures volume.old volume.new }
+    ensures step { VolumeStep D.honest D.disk D.size D.failures D.goes_on volume.old volume.new }
     ensures io { errno_of result ≡ 29 → volume.new.failed ≡ true }
     ensures renames { D.honest volume.old.device → (w : World) (slash : _) → w.table ≡ table_of descriptors.now → w.volume_failed ≡ false → w ≡ with_volume volume.old w
         → RenamesTo source slash (Found target) w volume.new result }
@@ -287,7 +292,7 @@ fn rename_missing<D: Device>(
     requires parent { IsEntryOf D.honest volume.old parent }
     requires name { IsName name.now }
     requires directory { D.honest volume.old.device → IsDirectory volume.old.tree parent }
-    ensures step { VolumeStep D.honest D.disk D.size D.failures volume.old volume.new }
+    ensures step { VolumeStep D.honest D.disk D.size D.failures D.goes_on volume.old volume.new }
     ensures io { errno_of result ≡ 29 → volume.new.failed ≡ true }
     ensures renames { D.honest volume.old.device → (w : World) → w.volume_failed ≡ false → w ≡ with_volume volume.old w
         → RenamesTo source slash (Missing parent name.now) w volume.new result }
@@ -315,7 +320,7 @@ fn rename_reached<D: Device>(
     requires source { IsEntryOf D.honest volume.old walked.now.source }
     requires reached { IsReached D.honest volume.old walked.now.target }
     requires place { D.honest volume.old.device → Places volume.old.tree (Ok walked.now.target) }
-    ensures step { VolumeStep D.honest D.disk D.size D.failures volume.old volume.new }
+    ensures step { VolumeStep D.honest D.disk D.size D.failures D.goes_on volume.old volume.new }
     ensures io { errno_of result ≡ 29 → volume.new.failed ≡ true }
     ensures renames { D.honest volume.old.device → (w : World) → w.table ≡ table_of descriptors.now → w.volume_failed ≡ false → w ≡ with_volume volume.old w
         → RenamesTo walked.now.source walked.now.slash (reached_as walked.now.target) w volume.new result }
@@ -412,9 +417,9 @@ fn walk_both<'m, D: Device>(
     asked: &RenameCall,
 ) -> Result<Walked<'m>, Errno>
     requires { KnowsEntries D.honest volume.old (table_of descriptors.now) }
-    ensures step { VolumeStep D.honest D.disk D.size D.failures volume.old volume.new }
+    ensures step { VolumeStep D.honest D.disk D.size D.failures D.goes_on volume.old volume.new }
     ensures io { errno_of result ≡ 29 → volume.new.failed ≡ true }
-    ensures works { IfOk result (λ r. StillWorks D.honest D.disk D.size D.failures volume.old volume.new) }
+    ensures works { IfOk result (λ r. StillWorks D.honest D.disk D.size D.failures D.goes_on volume.old volume.new) }
     ensures source { IfOk result (λ r. IsEntryOf D.honest volume.new r.source) }
     ensures reached { IfOk result (λ r. IsReached D.honest volume.new r.target) }
     ensures place { IfOk result (λ r. D.honest volume.new.device → Places volume.new.tree (Ok r.target)) }
@@ -455,7 +460,7 @@ pub(crate) fn path_rename<D: Device>(
     asked: &RenameCall,
 ) -> Result<(), Errno>
     requires { KnowsEntries D.honest volume.old (table_of descriptors.now) }
-    ensures step { VolumeStep D.honest D.disk D.size D.failures volume.old volume.new }
+    ensures step { VolumeStep D.honest D.disk D.size D.failures D.goes_on volume.old volume.new }
     ensures io { errno_of result ≡ 29 → volume.new.failed ≡ true }
     ensures answered { D.honest volume.old.device → (w : World) → w.table ≡ table_of descriptors.now → w ≡ with_volume volume.old w
         → Answered (λ v. rename_row v memory.now asked.now.from_fd asked.now.from_path asked.now.from_len asked.now.to_fd asked.now.to_path asked.now.to_len)

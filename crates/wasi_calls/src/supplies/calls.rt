@@ -15,7 +15,7 @@ impl<'s, 't, D: Device, R: Read, W1: Write, W2: Write> Inner<'s, 't, D, R, W1, W
     /// `clock_res_get(id, result)`.
     pub fn clock_res_get(&self, memory: &mut Memory, arguments: &[u64]) -> Result<(), Errno>
         requires { IsSetUp R.remaining self.now }
-        ensures { (used : _) → Serves D.honest D.disk D.size D.failures R.remaining W1.contents W2.contents call.ClockResGet used arguments.now self.now memory.old self.now memory.new (errno_of result) }
+        ensures { (used : _) → Serves D.honest D.disk D.size D.failures D.goes_on R.remaining W1.contents W2.contents call.ClockResGet used arguments.now self.now memory.old self.now memory.new (errno_of result) }
     {
         let (id, result_at) = (word(arguments, 0), word(arguments, 1));
         clocks::clock_res_get(memory, id, result_at)
@@ -29,7 +29,7 @@ impl<'s, 't, D: Device, R: Read, W1: Write, W2: Write> Inner<'s, 't, D, R, W1, W
         arguments: &[u64],
     ) -> Result<(), Errno>
         requires { IsSetUp R.remaining self.now }
-        ensures { Serves D.honest D.disk D.size D.failures R.remaining W1.contents W2.contents call.ClockTimeGet used arguments.now self.now memory.old self.now memory.new (errno_of result) }
+        ensures { Serves D.honest D.disk D.size D.failures D.goes_on R.remaining W1.contents W2.contents call.ClockTimeGet used arguments.now self.now memory.old self.now memory.new (errno_of result) }
     {
         let (id, result_at) = (word(arguments, 0), word(arguments, 2));
         clocks::clock_time_get(self.settings.moment, memory, used, id, result_at)
@@ -38,7 +38,7 @@ impl<'s, 't, D: Device, R: Read, W1: Write, W2: Write> Inner<'s, 't, D, R, W1, W
     /// `random_get(buffer, length)`.
     pub fn random_get(&mut self, memory: &mut Memory, arguments: &[u64]) -> Result<(), Errno>
         requires { IsSetUp R.remaining self.old }
-        ensures { (used : _) → Serves D.honest D.disk D.size D.failures R.remaining W1.contents W2.contents call.RandomGet used arguments.now self.old memory.old self.new memory.new (errno_of result) }
+        ensures { (used : _) → Serves D.honest D.disk D.size D.failures D.goes_on R.remaining W1.contents W2.contents call.RandomGet used arguments.now self.old memory.old self.new memory.new (errno_of result) }
     {
         let (buffer, len) = (word(arguments, 0), word(arguments, 1));
         let left = &mut self.settings.random;
@@ -48,7 +48,7 @@ impl<'s, 't, D: Device, R: Read, W1: Write, W2: Write> Inner<'s, 't, D, R, W1, W
     /// `args_sizes_get(count, size)`.
     pub fn args_sizes_get(&self, memory: &mut Memory, arguments: &[u64]) -> Result<(), Errno>
         requires { IsSetUp R.remaining self.now }
-        ensures { (used : _) → Serves D.honest D.disk D.size D.failures R.remaining W1.contents W2.contents call.ArgsSizesGet used arguments.now self.now memory.old self.now memory.new (errno_of result) }
+        ensures { (used : _) → Serves D.honest D.disk D.size D.failures D.goes_on R.remaining W1.contents W2.contents call.ArgsSizesGet used arguments.now self.now memory.old self.now memory.new (errno_of result) }
     {
         let (count_at, size_at) = (word(arguments, 0), word(arguments, 1));
         texts::sizes_get(self.settings.args, memory, count_at, size_at)
@@ -57,7 +57,7 @@ impl<'s, 't, D: Device, R: Read, W1: Write, W2: Write> Inner<'s, 't, D, R, W1, W
     /// `args_get(pointers, buffer)`.
     pub fn args_get(&self, memory: &mut Memory, arguments: &[u64]) -> Result<(), Errno>
         requires { IsSetUp R.remaining self.now }
-        ensures { (used : _) → Serves D.honest D.disk D.size D.failures R.remaining W1.contents W2.contents call.ArgsGet used arguments.now self.now memory.old self.now memory.new (errno_of result) }
+        ensures { (used : _) → Serves D.honest D.disk D.size D.failures D.goes_on R.remaining W1.contents W2.contents call.ArgsGet used arguments.now self.now memory.old self.now memory.new (errno_of result) }
     {
         let (at, buffer) = (word(arguments, 0), word(arguments, 1));
         texts::texts_get(self.settings.args, memory, at, buffer)
@@ -66,7 +66,7 @@ impl<'s, 't, D: Device, R: Read, W1: Write, W2: Write> Inner<'s, 't, D, R, W1, W
     /// `environ_sizes_get(count, size)`.
     pub fn environ_sizes_get(&self, memory: &mut Memory, arguments: &[u64]) -> Result<(), Errno>
         requires { IsSetUp R.remaining self.now }
-        ensures { (used : _) → Serves D.honest D.disk D.size D.failures R.remaining W1.contents W2.contents call.EnvironSizesGet used arguments.now self.now memory.old self.now memory.new (errno_of result) }
+        ensures { (used : _) → Serves D.honest D.disk D.size D.failures D.goes_on R.remaining W1.contents W2.contents call.EnvironSizesGet used arguments.now self.now memory.old self.now memory.new (errno_of result) }
     {
         let (count_at, size_at) = (word(arguments, 0), word(arguments, 1));
         texts::sizes_get(self.settings.env, memory, count_at, size_at)
@@ -75,7 +75,7 @@ impl<'s, 't, D: Device, R: Read, W1: Write, W2: Write> Inner<'s, 't, D, R, W1, W
     /// `environ_get(pointers, buffer)`.
     pub fn environ_get(&self, memory: &mut Memory, arguments: &[u64]) -> Result<(), Errno>
         requires { IsSetUp R.remaining self.now }
-        ensures { (used : _) → Serves D.honest D.disk D.size D.failures R.remaining W1.contents W2.contents call.EnvironGet used arguments.now self.now memory.old self.now memory.new (errno_of result) }
+        ensures { (used : _) → Serves D.honest D.disk D.size D.failures D.goes_on R.remaining W1.contents W2.contents call.EnvironGet used arguments.now self.now memory.old self.now memory.new (errno_of result) }
     {
         let (at, buffer) = (word(arguments, 0), word(arguments, 1));
         texts::texts_get(self.settings.env, memory, at, buffer)

@@ -22,7 +22,7 @@ set_size-requires g c =
 
 pub returns-in-Err : goal.returns-in-Err
 returns-in-Err g c = record {
-  step = volume_rests g.D.Device.honest g.D.Device.disk g.D.Device.size g.D.Device.failures c.args.volume.now;
+  step = volume_rests g.D.Device.honest g.D.Device.disk g.D.Device.size g.D.Device.failures g.D.Device.goes_on c.args.volume.now;
   answered = λ h w m table shown.
       refused_first w m (λ v. fd_filestat_set_size v c.args.fd c.args.size) c.args.volume.now _ shown (stops _ _ _ (c.in-Err.ensures w table));
   io = check_not_29 (table_of c.args.descriptors.now) (λ w. entry_at w c.args.fd (refusals_of takes.Sized) (2 ^ 22)) _ (entry_never c.args.fd takes.Sized (2 ^ 22)) c.in-Err.ensures;
@@ -30,7 +30,7 @@ returns-in-Err g c = record {
 
 pub returns-in-Ok-set_size : goal.returns-in-Ok-set_size
 returns-in-Ok-set_size g c = record {
-  step = steps g.D.Device.honest g.D.Device.disk g.D.Device.size g.D.Device.failures c.args.volume.now c.set_size.new.self _ c.in-Ok-set_size.ensures.kept c.in-Ok-set_size.ensures.crash;
+  step = steps g.D.Device.honest g.D.Device.disk g.D.Device.size g.D.Device.failures g.D.Device.goes_on c.args.volume.now c.set_size.new.self _ c.in-Ok-set_size.ensures.kept c.in-Ok-set_size.ensures.crash c.in-Ok-set_size.ensures.goes_on;
   answered = λ h w m table shown.
       let o = c.in-Ok.opened in
       let size = c.args.size in
@@ -42,7 +42,7 @@ returns-in-Ok-set_size g c = record {
 
 pub returns-in-Err-set_size : goal.returns-in-Err-set_size
 returns-in-Err-set_size g c = record {
-  step = steps g.D.Device.honest g.D.Device.disk g.D.Device.size g.D.Device.failures c.args.volume.now c.set_size.new.self _ c.in-Err-set_size.ensures.kept c.in-Err-set_size.ensures.crash;
+  step = steps g.D.Device.honest g.D.Device.disk g.D.Device.size g.D.Device.failures g.D.Device.goes_on c.args.volume.now c.set_size.new.self _ c.in-Err-set_size.ensures.kept c.in-Err-set_size.ensures.crash c.in-Err-set_size.ensures.goes_on;
   answered = λ h w m table shown.
       let o = c.in-Ok.opened in
       let size = c.args.size in

@@ -32,7 +32,7 @@ failed w fd right o at = goes_on _ _ o at ∙ stops _ _ 29 (stops _ _ 29 (guard_
 
 pub returns-in-Ok : goal.returns-in-Ok
 returns-in-Ok g c = record {
-  step = steps g.D.Device.honest g.D.Device.disk g.D.Device.size g.D.Device.failures c.args.volume.now c.sync.new.self _ c.in-Ok.ensures.kept c.in-Ok.ensures.crash;
+  step = steps g.D.Device.honest g.D.Device.disk g.D.Device.size g.D.Device.failures g.D.Device.goes_on c.args.volume.now c.sync.new.self _ c.in-Ok.ensures.kept c.in-Ok.ensures.crash c.in-Ok.ensures.goes_on;
   answered = λ h w m table shown.
       let old = c.args.volume.now in
       let new = c.sync.new.self in
@@ -50,7 +50,7 @@ returns-in-Ok g c = record {
 
 pub returns-in-Err-sync : goal.returns-in-Err-sync
 returns-in-Err-sync g c = record {
-  step = steps g.D.Device.honest g.D.Device.disk g.D.Device.size g.D.Device.failures c.args.volume.now c.sync.new.self _ c.in-Err-sync.ensures.kept c.in-Err-sync.ensures.crash;
+  step = steps g.D.Device.honest g.D.Device.disk g.D.Device.size g.D.Device.failures g.D.Device.goes_on c.args.volume.now c.sync.new.self _ c.in-Err-sync.ensures.kept c.in-Err-sync.ensures.crash c.in-Err-sync.ensures.goes_on;
   answered = λ h w m table shown.
       let old = c.args.volume.now in
       let new = c.sync.new.self in
@@ -75,7 +75,7 @@ unfolding some_world
 returns-in-Err-clause-durable g c = λ h zero. absurd (not_zero _ _ (entry_never_zero (some_world (table_of c.args.descriptors.now)) c.args.fd (bits_of c.args.right)) (c.in-Err.ensures (some_world (table_of c.args.descriptors.now)) refl) zero)
 
 pub returns-in-Err-clause-step : goal.returns-in-Err-clause-step
-returns-in-Err-clause-step g c = volume_rests g.D.Device.honest g.D.Device.disk g.D.Device.size g.D.Device.failures c.args.volume.now
+returns-in-Err-clause-step g c = volume_rests g.D.Device.honest g.D.Device.disk g.D.Device.size g.D.Device.failures g.D.Device.goes_on c.args.volume.now
 
 pub returns-in-Err-clause-io : goal.returns-in-Err-clause-io
 returns-in-Err-clause-io g c = check_not_29 (table_of c.args.descriptors.now) (λ w. entry_at w c.args.fd (refusals_of takes.NoStreams) (bits_of c.args.right)) _ (entry_never c.args.fd takes.NoStreams (bits_of c.args.right)) c.in-Err.ensures

@@ -54,8 +54,8 @@ returns-in-Ok-Found-clause-answered g c = λ h w table shown.
 
 pub returns-in-Ok-clause-step : goal.returns-in-Ok-clause-step
 returns-in-Ok-clause-step g c =
-    steps_after g.D.Device.honest g.D.Device.disk g.D.Device.size g.D.Device.failures c.args.volume.now c.reach_from.new.volume c.create_dir.new.self c.in-Ok-Missing.ensures.works
-    (steps g.D.Device.honest g.D.Device.disk g.D.Device.size g.D.Device.failures c.reach_from.new.volume c.create_dir.new.self _ c.in-Ok.ensures.kept c.in-Ok.ensures.crash)
+    steps_after g.D.Device.honest g.D.Device.disk g.D.Device.size g.D.Device.failures g.D.Device.goes_on c.args.volume.now c.reach_from.new.volume c.create_dir.new.self c.in-Ok-Missing.ensures.works
+    (steps g.D.Device.honest g.D.Device.disk g.D.Device.size g.D.Device.failures g.D.Device.goes_on c.reach_from.new.volume c.create_dir.new.self _ c.in-Ok.ensures.kept c.in-Ok.ensures.crash c.in-Ok.ensures.goes_on)
 
 pub returns-in-Ok-clause-answered : goal.returns-in-Ok-clause-answered
 returns-in-Ok-clause-answered g c = λ h w table shown.
@@ -69,8 +69,8 @@ returns-in-Ok-clause-answered g c = λ h w table shown.
 
 pub returns-in-Err-create_dir : goal.returns-in-Err-create_dir
 returns-in-Err-create_dir g c = record {
-  step = steps_after g.D.Device.honest g.D.Device.disk g.D.Device.size g.D.Device.failures c.args.volume.now c.reach_from.new.volume c.create_dir.new.self c.in-Ok-Missing.ensures.works
-      (steps g.D.Device.honest g.D.Device.disk g.D.Device.size g.D.Device.failures c.reach_from.new.volume c.create_dir.new.self _ c.in-Err-create_dir.ensures.kept c.in-Err-create_dir.ensures.crash);
+  step = steps_after g.D.Device.honest g.D.Device.disk g.D.Device.size g.D.Device.failures g.D.Device.goes_on c.args.volume.now c.reach_from.new.volume c.create_dir.new.self c.in-Ok-Missing.ensures.works
+      (steps g.D.Device.honest g.D.Device.disk g.D.Device.size g.D.Device.failures g.D.Device.goes_on c.reach_from.new.volume c.create_dir.new.self _ c.in-Err-create_dir.ensures.kept c.in-Err-create_dir.ensures.crash c.in-Err-create_dir.ensures.goes_on);
   io = asked_29 ℕ c.in-Err-create_dir.errno _ (λ fails. c.in-Err-create_dir.ensures.kept.failed ∙ fails) c.refused.ensures;
   answered = λ h w table shown.
       let m = c.args.memory.now in

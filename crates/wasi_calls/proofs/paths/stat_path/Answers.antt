@@ -43,7 +43,7 @@ rest_never w at alive r =
 
 pub returns-in-Err : goal.returns-in-Err
 returns-in-Err g c = record {
-  step = volume_rests g.D.Device.honest g.D.Device.disk g.D.Device.size g.D.Device.failures c.args.volume.now;
+  step = volume_rests g.D.Device.honest g.D.Device.disk g.D.Device.size g.D.Device.failures g.D.Device.goes_on c.args.volume.now;
   inside = tt;
   finds = λ h w table shown.
       let m = c.args.memory.now in
@@ -54,7 +54,7 @@ returns-in-Err g c = record {
 
 pub returns-in-Err-check_range : goal.returns-in-Err-check_range
 returns-in-Err-check_range g c = record {
-  step = volume_rests g.D.Device.honest g.D.Device.disk g.D.Device.size g.D.Device.failures c.args.volume.now;
+  step = volume_rests g.D.Device.honest g.D.Device.disk g.D.Device.size g.D.Device.failures g.D.Device.goes_on c.args.volume.now;
   inside = tt;
   finds = λ h w table shown.
       let m = c.args.memory.now in
@@ -71,9 +71,9 @@ pub returns-in-Ok-stat_entry : goal.returns-in-Ok-stat_entry
 returns-in-Ok-stat_entry g c =
     let answer = c.in-Ok-stat_entry.ensures in
     let walked = c.in-Ok-Found.ensures in
-    let asked : Asked g.D.Device.honest g.D.Device.disk g.D.Device.size g.D.Device.failures c.reach.new.volume c.stat_entry.new.volume false = record { tree = λ h. (answer.answer h).1; crash = answer.crash; kept = answer.kept } in
+    let asked : Asked g.D.Device.honest g.D.Device.disk g.D.Device.size g.D.Device.failures g.D.Device.goes_on c.reach.new.volume c.stat_entry.new.volume false = record { tree = λ h. (answer.answer h).1; crash = answer.crash; kept = answer.kept; goes = answer.goes_on } in
     record {
-      step = asked_after g.D.Device.honest g.D.Device.disk g.D.Device.size g.D.Device.failures c.args.volume.now c.reach.new.volume c.stat_entry.new.volume _ walked.works asked;
+      step = asked_after g.D.Device.honest g.D.Device.disk g.D.Device.size g.D.Device.failures g.D.Device.goes_on c.args.volume.now c.reach.new.volume c.stat_entry.new.volume _ walked.works asked;
       inside = c.in_default.ensures.inside;
       finds = λ h w table shown.
           let m = c.args.memory.now in
@@ -88,7 +88,7 @@ returns-in-Ok-stat_entry g c =
             to_rest w m c.args.fd c.args.path c.args.len at o (c.in-Ok.ensures.row w table) c.in_default.ensures.range
                 ∙ (goes_on _ _ (reached_as c.in-Ok-Found.field-0) passes.is
                 ∙ (goes_on _ _ s is ∙ (goes_on _ _ bytes (tree_called_alive w (Ok bytes) passes.working) ∙ ap (λ (l : List ℕ). Ok (with_result w at l)) (sym same)))),
-            asked_same g.D.Device.honest g.D.Device.disk g.D.Device.size g.D.Device.failures w c.reach.new.volume c.stat_entry.new.volume (sym passes.same) passes.working now asked,
+            asked_same g.D.Device.honest g.D.Device.disk g.D.Device.size g.D.Device.failures g.D.Device.goes_on w c.reach.new.volume c.stat_entry.new.volume (sym passes.same) passes.working now asked,
           );
       io = no_29_at_0;
     }
@@ -98,7 +98,7 @@ returns-in-Err-stat_entry g c =
     let answer = c.in-Err-stat_entry.ensures in
     let walked = c.in-Ok-Found.ensures in
     record {
-      step = asked_after g.D.Device.honest g.D.Device.disk g.D.Device.size g.D.Device.failures c.args.volume.now c.reach.new.volume c.stat_entry.new.volume _ walked.works (record { tree = λ h. (answer.answer h).1; crash = answer.crash; kept = answer.kept });
+      step = asked_after g.D.Device.honest g.D.Device.disk g.D.Device.size g.D.Device.failures g.D.Device.goes_on c.args.volume.now c.reach.new.volume c.stat_entry.new.volume _ walked.works (record { tree = λ h. (answer.answer h).1; crash = answer.crash; kept = answer.kept; goes = answer.goes_on });
       inside = tt;
       finds = λ h w table shown.
           let m = c.args.memory.now in

@@ -58,8 +58,8 @@ pub record HasTold (T : Tree) (directory cookie after filled : ℕ) (before part
   pub stands : part ≡ take filled told ++ drop filled before
 
 -- so far, by a volume that still works
-pub record Lists {D : Type 0} (honest : D → Type 0) (disk : D → Disk) (sectors_on failures : D → ℕ) (old new : Opened D) (directory cookie after filled : ℕ) (before part : List ℕ) : Type 0 where
-  pub works : StillWorks honest disk sectors_on failures old new
+pub record Lists {D : Type 0} (honest : D → Type 0) (disk : D → Disk) (sectors_on failures : D → ℕ) (goes_on : ℕ → D → D → Type 0) (old new : Opened D) (directory cookie after filled : ℕ) (before part : List ℕ) : Type 0 where
+  pub works : StillWorks honest disk sectors_on failures goes_on old new
   pub long : length part ≡ length before
   pub room : filled ≤ length before
   pub told : honest old.device → HasTold old.tree directory cookie after filled before part

@@ -76,7 +76,7 @@ abbrev pub ChangesVolume : {D R W1 W2 : Type 0} → Inner D R W1 W2 → Inner D 
 ChangesVolume old new = new ≡ record old { volume = new.volume; descriptors = new.descriptors }
 
 -- the serials of the first n directories were found
-pub record FoundSoFar {D : Type 0} (honest : D → Type 0) (disk : D → Disk) (sectors_on failures : D → ℕ) (old new : Opened D) (ps : List PreopenValue) (serials : List ℕ) (n : ℕ) : Type 0 where
-  pub reads : Asked honest disk sectors_on failures old new false
+pub record FoundSoFar {D : Type 0} (honest : D → Type 0) (disk : D → Disk) (sectors_on failures : D → ℕ) (goes_on : ℕ → D → D → Type 0) (old new : Opened D) (ps : List PreopenValue) (serials : List ℕ) (n : ℕ) : Type 0 where
+  pub reads : Asked honest disk sectors_on failures goes_on old new false
   pub found : honest old.device → AreFound old.tree ps serials n
   pub numbers : AreNumbers new.numbers serials n

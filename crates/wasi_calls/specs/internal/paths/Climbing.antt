@@ -15,7 +15,7 @@ pub record IsAbove (T : Tree) (serial parent : ℕ) : Type 0 where
   pub is : below.parent ≡ parent
 
 -- this many steps up from the beginning
-pub record ClimbsTo {D : Type 0} (honest : D → Type 0) (disk : D → Disk) (sectors_on failures : D → ℕ) (old new : Opened D) (top first slots step at : ℕ) : Type 0 where
-  pub works : StillWorks honest disk sectors_on failures old new
+pub record ClimbsTo {D : Type 0} (honest : D → Type 0) (disk : D → Disk) (sectors_on failures : D → ℕ) (goes_on : ℕ → D → D → Type 0) (old new : Opened D) (top first slots step at : ℕ) : Type 0 where
+  pub works : StillWorks honest disk sectors_on failures goes_on old new
   pub here : IsEntryOf honest new at
   pub same : honest old.device → is_within slots old.tree top first ≡ is_within (slots - step) old.tree top at

@@ -4,7 +4,7 @@ use Rattle.std.specs.Prelude.{◌≡◌, ℕ, false, List, Result, Ok, Err}
 use Rattle.vol_sector.specs.Disk.{Disk, Leaves}
 use Rattle.vol_tree.specs.declared.errno.Errno.{Errno}
 use Rattle.vol_tree.specs.Numbers.{number_of}
-use Rattle.vol_tree.specs.Opened.{Opened, Keeps}
+use Rattle.vol_tree.specs.Opened.{Opened, Keeps, GoesOn}
 use Rattle.vol_tree.specs.Tree.{Tree, IsDirectory}
 use Rattle.path_walk.specs.declared.walking.Reached.{Reached as ReachedValue}
 use Rattle.path_walk.specs.declared.walking.Reached.TheVariants as values
@@ -39,12 +39,13 @@ reached_from w memory fd rights path len = do
   range memory path len
   path_at w memory o path len
 
-module _ {D : Type 0} (honest : D → Type 0) (disk : D → Disk) (sectors_on failures : D → ℕ) where
+module _ {D : Type 0} (honest : D → Type 0) (disk : D → Disk) (sectors_on failures : D → ℕ) (goes_on : ℕ → D → D → Type 0) where
   -- the volume was only asked, and still works
   pub record StillWorks (old new : Opened D) : Type 0 where
     pub kept : Keeps honest sectors_on failures old new false
     pub tree : honest old.device → new.tree ≡ old.tree
     pub crash : honest old.device → Leaves (disk old.device) (disk new.device) (λ c. ⊥)
+    pub goes : GoesOn goes_on old new
 
 -- what is reached in the world, or why nothing is
 abbrev pub ReachesFrom : {D : Type 0} → Opened D → World → OpenedEntry → List ℕ → Result ReachedValue Errno → Type 0

@@ -27,7 +27,7 @@ asked table fd whence o at far = λ i. is_entry (at i) && far i
 
 pub returns-in-Err : goal.returns-in-Err
 returns-in-Err g c = record {
-  step = volume_rests g.D.Device.honest g.D.Device.disk g.D.Device.size g.D.Device.failures c.args.volume.now;
+  step = volume_rests g.D.Device.honest g.D.Device.disk g.D.Device.size g.D.Device.failures g.D.Device.goes_on c.args.volume.now;
   entries = no_more (table_of c.args.descriptors.now);
   answered = λ h w table shown.
       let m = c.args.memory.now in

@@ -19,7 +19,7 @@ use Rattle.wasi_calls.proofs.descriptors.stat.filestat_get.Goals as goal
 
 pub returns-in-Err : goal.returns-in-Err
 returns-in-Err g c = record {
-  step = volume_rests g.D.Device.honest g.D.Device.disk g.D.Device.size g.D.Device.failures c.args.volume.now;
+  step = volume_rests g.D.Device.honest g.D.Device.disk g.D.Device.size g.D.Device.failures g.D.Device.goes_on c.args.volume.now;
   answered = λ h w table shown.
       refused_first w c.args.memory.now (λ v. fd_filestat_get v c.args.memory.now c.args.fd c.args.result_at) c.args.volume.now _ shown (stops _ _ _ (c.in-Err.ensures w table));
   io = check_not_29 (table_of c.args.descriptors.now) (λ w. descriptor w c.args.fd (refusals_of takes.Any) (2 ^ 21)) _ (descriptor_never c.args.fd takes.Any (2 ^ 21)) c.in-Err.ensures;
@@ -27,7 +27,7 @@ returns-in-Err g c = record {
 
 pub returns-in-Err-check_range : goal.returns-in-Err-check_range
 returns-in-Err-check_range g c = record {
-  step = volume_rests g.D.Device.honest g.D.Device.disk g.D.Device.size g.D.Device.failures c.args.volume.now;
+  step = volume_rests g.D.Device.honest g.D.Device.disk g.D.Device.size g.D.Device.failures g.D.Device.goes_on c.args.volume.now;
   answered = λ h w table shown.
       refused_first w c.args.memory.now (λ v. fd_filestat_get v c.args.memory.now c.args.fd c.args.result_at) c.args.volume.now _ shown
       (goes_on _ _ c.in-Ok.descriptor (c.in-Ok.ensures w table) ∙ stops _ _ _ c.in-Err-check_range.ensures.range);
@@ -47,7 +47,7 @@ stat_entry-requires g c =
 
 pub returns-in-Stream : goal.returns-in-Stream
 returns-in-Stream g c = record {
-  step = volume_rests g.D.Device.honest g.D.Device.disk g.D.Device.size g.D.Device.failures c.args.volume.now;
+  step = volume_rests g.D.Device.honest g.D.Device.disk g.D.Device.size g.D.Device.failures g.D.Device.goes_on c.args.volume.now;
   answered = λ h w table shown.
       let m = c.args.memory.now in
       done_by w m (λ v. fd_filestat_get v m c.args.fd c.args.result_at) c.args.volume.now _ (with_result w c.args.result_at (filestat 0 2 0))
@@ -59,7 +59,7 @@ returns-in-Stream g c = record {
 pub returns-in-Ok-stat_entry : goal.returns-in-Ok-stat_entry
 returns-in-Ok-stat_entry g c = record {
   step = let told = c.in-Ok-stat_entry.ensures in
-      asked_step g.D.Device.honest g.D.Device.disk g.D.Device.size g.D.Device.failures c.args.volume.now c.stat_entry.new.volume _ (record { tree = λ h. (told.answer h).1; crash = told.crash; kept = told.kept });
+      asked_step g.D.Device.honest g.D.Device.disk g.D.Device.size g.D.Device.failures g.D.Device.goes_on c.args.volume.now c.stat_entry.new.volume _ (record { tree = λ h. (told.answer h).1; crash = told.crash; kept = told.kept; goes = told.goes_on });
   answered = λ h w table shown.
       let m = c.args.memory.now in
       let old = c.args.volume.now in
@@ -82,7 +82,7 @@ returns-in-Ok-stat_entry g c = record {
 pub returns-in-Err-stat_entry : goal.returns-in-Err-stat_entry
 returns-in-Err-stat_entry g c = record {
   step = let told = c.in-Err-stat_entry.ensures in
-      asked_step g.D.Device.honest g.D.Device.disk g.D.Device.size g.D.Device.failures c.args.volume.now c.stat_entry.new.volume _ (record { tree = λ h. (told.answer h).1; crash = told.crash; kept = told.kept });
+      asked_step g.D.Device.honest g.D.Device.disk g.D.Device.size g.D.Device.failures g.D.Device.goes_on c.args.volume.now c.stat_entry.new.volume _ (record { tree = λ h. (told.answer h).1; crash = told.crash; kept = told.kept; goes = told.goes_on });
   answered = λ h w table shown.
       let m = c.args.memory.now in
       let old = c.args.volume.now in

@@ -23,7 +23,7 @@ use Rattle.wasi_calls.proofs.files.listing.fd_readdir.Goals as goal
 
 pub returns-in-Err : goal.returns-in-Err
 returns-in-Err g c = record {
-  step = volume_rests g.D.Device.honest g.D.Device.disk g.D.Device.size g.D.Device.failures c.args.volume.now;
+  step = volume_rests g.D.Device.honest g.D.Device.disk g.D.Device.size g.D.Device.failures g.D.Device.goes_on c.args.volume.now;
   answered = λ h w table shown.
       let m = c.args.memory.now in
       let a = c.args.asked.now in
@@ -33,7 +33,7 @@ returns-in-Err g c = record {
 
 pub returns-in-Ok-list_from : goal.returns-in-Ok-list_from
 returns-in-Ok-list_from g c = record {
-  step = asked_step g.D.Device.honest g.D.Device.disk g.D.Device.size g.D.Device.failures c.args.volume.now c.list_from.new.volume _ c.in-Ok-list_from.ensures.asked;
+  step = asked_step g.D.Device.honest g.D.Device.disk g.D.Device.size g.D.Device.failures g.D.Device.goes_on c.args.volume.now c.list_from.new.volume _ c.in-Ok-list_from.ensures.asked;
   answered = λ h w table shown.
       let m = c.args.memory.now in
       let a = c.args.asked.now in
@@ -42,7 +42,7 @@ returns-in-Ok-list_from g c = record {
       let all = λ (v : World). dirents v.tree o.serial a.cookie in
       let count : c.in-Ok-list_from.count ≡ min a.len (length (all w)) = (rw c.new-directory.ensures at done.count h) ∙ ap (λ (v : World). min a.len (length (all v))) (sym shown) in
       let bytes : c.list_from.new.memory ≡ written m a.buffer (take a.len (all w)) = (rw c.new-directory.ensures at done.listed h) ∙ ap (λ (v : World). written m a.buffer (take a.len (all v))) (sym shown) in
-      list_done g.D.Device.honest g.D.Device.disk g.D.Device.size g.D.Device.failures c.args.volume.now c.list_from.new.volume w m a o h shown (c.in-Ok.ensures.checked w table)
+      list_done g.D.Device.honest g.D.Device.disk g.D.Device.size g.D.Device.failures g.D.Device.goes_on c.args.volume.now c.list_from.new.volume w m a o h shown (c.in-Ok.ensures.checked w table)
       done.asked c.write_bytes.new.memory
       (c.write_bytes.ensures.bytes ∙ λ i. written (bytes i) a.used_at ((c.le32.ensures ∙ ap (little_bytes 4) count) i));
   io = no_29_at_0;
@@ -50,7 +50,7 @@ returns-in-Ok-list_from g c = record {
 
 pub returns-in-Err-list_from : goal.returns-in-Err-list_from
 returns-in-Err-list_from g c = record {
-  step = asked_step g.D.Device.honest g.D.Device.disk g.D.Device.size g.D.Device.failures c.args.volume.now c.list_from.new.volume _ c.in-Err-list_from.ensures.asked;
+  step = asked_step g.D.Device.honest g.D.Device.disk g.D.Device.size g.D.Device.failures g.D.Device.goes_on c.args.volume.now c.list_from.new.volume _ c.in-Err-list_from.ensures.asked;
   answered = λ h w table shown.
       let m = c.args.memory.now in
       let a = c.args.asked.now in
@@ -60,9 +60,9 @@ returns-in-Err-list_from g c = record {
       let after = c.list_from.new.memory in
       let fails = c.in-Err-list_from.ensures in
       let (io, begun) = rw c.new-directory.ensures at fails.broke h in
-      let asked = subst (λ (e : Errno). Asked g.D.Device.honest g.D.Device.disk g.D.Device.size g.D.Device.failures old new (is_io {X = ℕ} (Err e))) io fails.asked in
+      let asked = subst (λ (e : Errno). Asked g.D.Device.honest g.D.Device.disk g.D.Device.size g.D.Device.failures g.D.Device.goes_on old new (is_io {X = ℕ} (Err e))) io fails.asked in
       subst (λ (n : ℕ). Answered (λ v. list_row v m a) w m (with_volume new w) after n) (sym (c.refused.ensures ∙ ap number_of io))
-      (list_fails g.D.Device.honest g.D.Device.disk g.D.Device.size g.D.Device.failures old new w m a o h shown (c.in-Ok.ensures.checked w table)
+      (list_fails g.D.Device.honest g.D.Device.disk g.D.Device.size g.D.Device.failures g.D.Device.goes_on old new w m a o h shown (c.in-Ok.ensures.checked w table)
       asked (c.in-Ok.ensures.checked (with_volume_failed w) table) after c.in-Ok.ensures.buffer fails.idle
       (subst (λ (v : World). IsBegun m a.buffer (take a.len (dirents v.tree o.serial a.cookie)) after) (sym shown) begun));
   io = asked_29 ℕ c.in-Err-list_from.errno _ (λ fails. c.in-Err-list_from.ensures.asked.kept.failed ∙ fails) c.refused.ensures;

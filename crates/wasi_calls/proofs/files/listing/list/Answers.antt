@@ -16,7 +16,7 @@ loop-filled-preserved g c =
     let after = c.loop-filled.after in
     let end = c.put_some-filled.result in
     record {
-      works = works_on g.D.Device.honest g.D.Device.disk g.D.Device.size g.D.Device.failures old here c.next_told.new.volume was.works c.in-Ok-Some.ensures.asked;
+      works = works_on g.D.Device.honest g.D.Device.disk g.D.Device.size g.D.Device.failures g.D.Device.goes_on old here c.next_told.new.volume was.works c.in-Ok-Some.ensures.asked;
       long = omega (arith, was.long, c.put_some-filled.auto.part);
       room = omega (arith, was.long, c.put_some-filled.ensures.end);
       told = λ h.
@@ -28,7 +28,7 @@ loop-filled-preserved g c =
 
 pub returns-in-Err : goal.returns-in-Err
 returns-in-Err g c = record {
-  asked = asked_on g.D.Device.honest g.D.Device.disk g.D.Device.size g.D.Device.failures c.args.volume.now c.loop-filled.volume c.next_told.new.volume _ c.loop-filled.invariant.works c.in-Err.ensures.asked;
+  asked = asked_on g.D.Device.honest g.D.Device.disk g.D.Device.size g.D.Device.failures g.D.Device.goes_on c.args.volume.now c.loop-filled.volume c.next_told.new.volume _ c.loop-filled.invariant.works c.in-Err.ensures.asked;
   answer = λ h.
       let was = c.loop-filled.invariant in
       (c.in-Err.ensures.told (was.works.kept.honest.0 h), c.in-Err.ensures.asked.tree (was.works.kept.honest.0 h) ∙ was.works.tree h, list_begun c.args.volume.now.tree c.args.directory c.args.cookie c.loop-filled.after c.loop-filled.filled c.args.part.now c.loop-filled.part (was.told h));
@@ -37,7 +37,7 @@ returns-in-Err g c = record {
 
 pub returns-in-Ok-None : goal.returns-in-Ok-None
 returns-in-Ok-None g c = record {
-  asked = asked_on g.D.Device.honest g.D.Device.disk g.D.Device.size g.D.Device.failures c.args.volume.now c.loop-filled.volume c.next_told.new.volume _ c.loop-filled.invariant.works c.in-Ok-None.ensures.asked;
+  asked = asked_on g.D.Device.honest g.D.Device.disk g.D.Device.size g.D.Device.failures g.D.Device.goes_on c.args.volume.now c.loop-filled.volume c.next_told.new.volume _ c.loop-filled.invariant.works c.in-Ok-None.ensures.asked;
   answer = λ h.
       let was = c.loop-filled.invariant in
       let here = c.loop-filled.volume.tree in
@@ -50,7 +50,7 @@ returns-in-Ok-None g c = record {
 
 pub returns : goal.returns
 returns g c = record {
-  asked = works_as g.D.Device.honest g.D.Device.disk g.D.Device.size g.D.Device.failures c.args.volume.now c.loop-filled.volume c.loop-filled.invariant.works;
+  asked = works_as g.D.Device.honest g.D.Device.disk g.D.Device.size g.D.Device.failures g.D.Device.goes_on c.args.volume.now c.loop-filled.volume c.loop-filled.invariant.works;
   answer = λ h.
       let was = c.loop-filled.invariant in
       let all = list_full c.args.volume.now.tree c.args.directory c.args.cookie c.loop-filled.after c.loop-filled.filled c.args.part.now c.loop-filled.part (was.told h) (omega (arith, was.long, c.loop-filled-test.false)) in
@@ -61,7 +61,7 @@ returns g c = record {
 pub loop-filled-init : goal.loop-filled-init
 loop-filled-init g c =
     record {
-      works = still_works g.D.Device.honest g.D.Device.disk g.D.Device.size g.D.Device.failures c.args.volume.now c.requires;
+      works = still_works g.D.Device.honest g.D.Device.disk g.D.Device.size g.D.Device.failures g.D.Device.goes_on c.args.volume.now c.requires;
       long = refl;
       room = omega arith;
       told = λ h. record { told = []; parts = refl; count = omega arith; stands = refl };

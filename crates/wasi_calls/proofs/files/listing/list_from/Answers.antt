@@ -41,7 +41,7 @@ returns-in-Err g c = record {
 
 pub returns-then-failed : goal.returns-then-failed
 returns-then-failed g c = record {
-  asked = asked_failed g.D.Device.honest g.D.Device.disk g.D.Device.size g.D.Device.failures c.args.volume.now (sym c.failed.ensures ∙ c.if-failed.true);
+  asked = asked_failed g.D.Device.honest g.D.Device.disk g.D.Device.size g.D.Device.failures g.D.Device.goes_on c.args.volume.now (sym c.failed.ensures ∙ c.if-failed.true);
   long = refl;
   idle = λ failed. refl;
   count = λ h. tt;

@@ -18,8 +18,8 @@ pub returns-in-Ok : goal.returns-in-Ok
 returns-in-Ok g c = record {
   asked = let next = c.in-Ok-Some.ensures in
       let told = c.in-Ok.ensures in
-      asked_on g.D.Device.honest g.D.Device.disk g.D.Device.size g.D.Device.failures c.args.volume.now c.list_next.new.self c.stat.new.self _ (record { kept = next.kept; tree = λ h. (next.answer h).1; crash = next.crash })
-      (record { tree = λ h. (told.answer h).1; crash = told.crash; kept = told.kept });
+      asked_on g.D.Device.honest g.D.Device.disk g.D.Device.size g.D.Device.failures g.D.Device.goes_on c.args.volume.now c.list_next.new.self c.stat.new.self _ (record { kept = next.kept; tree = λ h. (next.answer h).1; crash = next.crash; goes = next.goes_on })
+      (record { tree = λ h. (told.answer h).1; crash = told.crash; kept = told.kept; goes = told.goes_on });
   told = λ h.
       let T : Tree = c.args.volume.now.tree in
       let serial = c.in-Ok-Some.serial in
@@ -34,7 +34,7 @@ returns-in-Ok g c = record {
 
 pub returns-in-Ok-None : goal.returns-in-Ok-None
 returns-in-Ok-None g c = record {
-  asked = let told = c.in-Ok-None.ensures in record { tree = λ h. (told.answer h).1; crash = told.crash; kept = told.kept };
+  asked = let told = c.in-Ok-None.ensures in record { tree = λ h. (told.answer h).1; crash = told.crash; kept = told.kept; goes = told.goes_on };
   told = λ h. list_ends c.args.volume.now.tree c.args.directory c.args.after (sym (c.in-Ok-None.ensures.answer h).0 ∙ c.in-Ok-None.field-0-is);
   least = tt;
   most = tt;
@@ -44,8 +44,8 @@ pub returns-in-Err-stat : goal.returns-in-Err-stat
 returns-in-Err-stat g c = record {
   asked = let next = c.in-Ok-Some.ensures in
       let told = c.in-Err-stat.ensures in
-      asked_on g.D.Device.honest g.D.Device.disk g.D.Device.size g.D.Device.failures c.args.volume.now c.list_next.new.self c.stat.new.self _ (record { kept = next.kept; tree = λ h. (next.answer h).1; crash = next.crash })
-      (record { tree = λ h. (told.answer h).1; crash = told.crash; kept = told.kept });
+      asked_on g.D.Device.honest g.D.Device.disk g.D.Device.size g.D.Device.failures g.D.Device.goes_on c.args.volume.now c.list_next.new.self c.stat.new.self _ (record { kept = next.kept; tree = λ h. (next.answer h).1; crash = next.crash; goes = next.goes_on })
+      (record { tree = λ h. (told.answer h).1; crash = told.crash; kept = told.kept; goes = told.goes_on });
   told = λ h. (c.in-Err-stat.ensures.answer (c.in-Ok-Some.ensures.kept.honest.0 h)).0;
   least = tt;
   most = tt;
@@ -53,7 +53,7 @@ returns-in-Err-stat g c = record {
 
 pub returns-in-Err : goal.returns-in-Err
 returns-in-Err g c = record {
-  asked = let told = c.in-Err.ensures in record { tree = λ h. (told.answer h).1; crash = told.crash; kept = told.kept };
+  asked = let told = c.in-Err.ensures in record { tree = λ h. (told.answer h).1; crash = told.crash; kept = told.kept; goes = told.goes_on };
   told = λ h. (c.in-Err.ensures.answer h).0;
   least = tt;
   most = tt;

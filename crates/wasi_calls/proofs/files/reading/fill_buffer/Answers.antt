@@ -24,7 +24,7 @@ loop-place-preserved g c =
       low = omega (arith, was.low, within.0);
       high = within.1;
       long = c.in-Ok.ensures.long ∙ was.long;
-      works = works_on g.D.Device.honest g.D.Device.disk g.D.Device.size g.D.Device.failures c.args.volume.now c.loop-place.volume c.fill_stretch.new.volume was.works c.in-Ok.ensures.asked;
+      works = works_on g.D.Device.honest g.D.Device.disk g.D.Device.size g.D.Device.failures g.D.Device.goes_on c.args.volume.now c.loop-place.volume c.fill_stretch.new.volume was.works c.in-Ok.ensures.asked;
       filled = λ h enough.
           let meant = λ (T : Tree). end - place ≤ length (file T) - at → BufferFilled (file T) at place c.in-Ok.until later m1 m2 in
           let next = subst meant (was.works.tree h) (c.in-Ok.ensures.filled (was.works.kept.honest.0 h)) (omega (arith, enough, was.low)) in
@@ -49,7 +49,7 @@ returns-in-Err g c = record {
       let meant = λ (T : Tree). end - place ≤ length (file T) - at → (c.in-Err.errno ≡ errno.Io) × BufferBegun (file T) at place end later m1 m2 in
       let next = subst meant (was.works.tree h) (c.in-Err.ensures.broke (was.works.kept.honest.0 h)) (omega (arith, all, was.low)) in
       (next.0, begun_more (file c.args.volume.now.tree) c.args.from at start place later c.args.memory.now m1 m2 was.low refl (was.filled h all) end was.high next.1);
-  asked = asked_on g.D.Device.honest g.D.Device.disk g.D.Device.size g.D.Device.failures c.args.volume.now c.loop-place.volume c.fill_stretch.new.volume _ c.loop-place.invariant.works c.in-Err.ensures.asked;
+  asked = asked_on g.D.Device.honest g.D.Device.disk g.D.Device.size g.D.Device.failures g.D.Device.goes_on c.args.volume.now c.loop-place.volume c.fill_stretch.new.volume _ c.loop-place.invariant.works c.in-Err.ensures.asked;
 }
 
 pub loop-place-init : goal.loop-place-init
@@ -58,7 +58,7 @@ loop-place-init g c =
       low = omega arith;
       high = omega arith;
       long = refl;
-      works = still_works g.D.Device.honest g.D.Device.disk g.D.Device.size g.D.Device.failures c.args.volume.now c.requires.works;
+      works = still_works g.D.Device.honest g.D.Device.disk g.D.Device.size g.D.Device.failures g.D.Device.goes_on c.args.volume.now c.requires.works;
       filled = λ h enough. filled_none (bytes_at c.args.volume.now.tree c.args.serial) c.args.from c.args.buffer.pointer (list_of c.args.later.now) c.args.memory.now;
     }
 
@@ -70,5 +70,5 @@ returns g c = record {
       let all : c.loop-place.place ≡ end = omega (arith, c.loop-place.invariant.high, c.loop-place-test.false) in
       subst (λ (k : ℕ). BufferFilled (bytes_at c.args.volume.now.tree c.args.serial) c.args.from c.args.buffer.pointer k (list_of c.args.later.now) c.args.memory.now c.loop-place.memory) all (c.loop-place.invariant.filled h (omega (arith, enough)));
   broke = λ h enough. tt;
-  asked = works_as g.D.Device.honest g.D.Device.disk g.D.Device.size g.D.Device.failures c.args.volume.now c.loop-place.volume c.loop-place.invariant.works;
+  asked = works_as g.D.Device.honest g.D.Device.disk g.D.Device.size g.D.Device.failures g.D.Device.goes_on c.args.volume.now c.loop-place.volume c.loop-place.invariant.works;
 }

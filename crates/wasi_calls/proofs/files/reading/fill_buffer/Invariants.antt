@@ -10,7 +10,7 @@ invariant-loop-place g l = record {
   low : l.start ≤ l.place;
   high : l.place ≤ l.end;
   long : length l.memory ≡ length l.initial.memory;
-  works : StillWorks g.D.Device.honest g.D.Device.disk g.D.Device.size g.D.Device.failures l.initial.volume l.volume;
+  works : StillWorks g.D.Device.honest g.D.Device.disk g.D.Device.size g.D.Device.failures g.D.Device.goes_on l.initial.volume l.volume;
   filled : g.D.Device.honest l.initial.volume.device → l.end - l.start ≤ length (bytes_at l.initial.volume.tree l.serial) - l.from
       → BufferFilled (bytes_at l.initial.volume.tree l.serial) l.from l.start l.place (list_of l.later) l.initial.memory l.memory;
 }

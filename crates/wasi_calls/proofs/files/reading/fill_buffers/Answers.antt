@@ -25,7 +25,7 @@ loop-index-init g c = record {
   place = refl;
   low = omega arith;
   long = refl;
-  works = still_works g.D.Device.honest g.D.Device.disk g.D.Device.size g.D.Device.failures c.args.volume.now c.requires.works;
+  works = still_works g.D.Device.honest g.D.Device.disk g.D.Device.size g.D.Device.failures g.D.Device.goes_on c.args.volume.now c.requires.works;
   filling = λ h enough. filling_begins (bytes_at c.args.volume.now.tree c.args.serial) c.args.memory.now c.args.from (list_of c.args.buffers.now) c.requires.inside;
 }
 
@@ -59,7 +59,7 @@ returns-in-Err g c = record {
       let T = c.loop-index.volume.tree in
       let both = subst (λ (U : Tree). meant U (drop (i + 1) bs)) (was.works.tree h) (subst (meant T) (take_rest bs (i + 1)) (c.in-Err.ensures.broke (was.works.kept.honest.0 h))) room in
       (both.0, filling_breaks F m last c.loop-index.memory c.fill_buffer.new.memory at (pair_of x) later room now both.1);
-  asked = asked_on g.D.Device.honest g.D.Device.disk g.D.Device.size g.D.Device.failures c.args.volume.now c.loop-index.volume c.fill_buffer.new.volume _ c.loop-index.invariant.works c.in-Err.ensures.asked;
+  asked = asked_on g.D.Device.honest g.D.Device.disk g.D.Device.size g.D.Device.failures g.D.Device.goes_on c.args.volume.now c.loop-index.volume c.fill_buffer.new.volume _ c.loop-index.invariant.works c.in-Err.ensures.asked;
 }
 
 pub loop-index-preserved : goal.loop-index-preserved
@@ -82,7 +82,7 @@ loop-index-preserved g c =
       place = omega (arith, sums, place, more);
       low = omega (arith, low);
       long = c.fill_buffer.ensures.long ∙ was.long;
-      works = works_on g.D.Device.honest g.D.Device.disk g.D.Device.size g.D.Device.failures c.args.volume.now c.loop-index.volume c.fill_buffer.new.volume was.works c.in-Ok.ensures.asked;
+      works = works_on g.D.Device.honest g.D.Device.disk g.D.Device.size g.D.Device.failures g.D.Device.goes_on c.args.volume.now c.loop-index.volume c.fill_buffer.new.volume was.works c.in-Ok.ensures.asked;
       filling = λ h enough.
           let room : x.len ≤ length F - at = omega (arith, sums, place, low, enough) in
           let now : Filling F m last c.loop-index.memory at (pair_of x ∷ later) = subst (Filling F m last c.loop-index.memory at) (next_is bs i c.loop-index-test.true) (was.filling h enough) in
@@ -104,7 +104,7 @@ returns g c = record {
       let none : list_of (drop c.loop-index.index bs) ≡ [] = ap list_of (drop_all c.loop-index.index bs c.loop-index-test.false) in
       filling_ends F m last c.loop-index.memory c.loop-index.at (subst (Filling F m last c.loop-index.memory c.loop-index.at) none (c.loop-index.invariant.filling h enough));
   broke = λ h enough. tt;
-  asked = works_as g.D.Device.honest g.D.Device.disk g.D.Device.size g.D.Device.failures c.args.volume.now c.loop-index.volume c.loop-index.invariant.works;
+  asked = works_as g.D.Device.honest g.D.Device.disk g.D.Device.size g.D.Device.failures g.D.Device.goes_on c.args.volume.now c.loop-index.volume c.loop-index.invariant.works;
 }
 
 pub overflow_add-at : goal.overflow_add-at

@@ -6,8 +6,8 @@ use Rattle.wasi_calls.proofs.files.reading.fill_stretch.Goals as goal
 
 pub returns-in-Covered-clause-asked : goal.returns-in-Covered-clause-asked
 returns-in-Covered-clause-asked g c =
-    works_as g.D.Device.honest g.D.Device.disk g.D.Device.size g.D.Device.failures c.args.volume.now c.args.volume.now
-    (still_works g.D.Device.honest g.D.Device.disk g.D.Device.size g.D.Device.failures c.args.volume.now c.requires.works)
+    works_as g.D.Device.honest g.D.Device.disk g.D.Device.size g.D.Device.failures g.D.Device.goes_on c.args.volume.now c.args.volume.now
+    (still_works g.D.Device.honest g.D.Device.disk g.D.Device.size g.D.Device.failures g.D.Device.goes_on c.args.volume.now c.requires.works)
 
 pub returns-in-Ok : goal.returns-in-Ok
 returns-in-Ok g c = record {

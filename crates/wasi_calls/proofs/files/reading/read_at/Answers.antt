@@ -51,7 +51,7 @@ returns-in-Ok-fill_buffers g c = record {
       (as_many F from n bs count, filled (cut_fits F from n bs count) ∙ cut_received F from n bs count m);
   broke = λ h. tt;
   asked = let told = c.in-Ok.ensures in
-      asked_on g.D.Device.honest g.D.Device.disk g.D.Device.size g.D.Device.failures c.args.volume.now c.size_of.new.volume c.fill_buffers.new.volume _ (record { kept = told.kept; tree = λ h. (told.answer h).1; crash = told.crash }) c.in-Ok-fill_buffers.ensures.asked;
+      asked_on g.D.Device.honest g.D.Device.disk g.D.Device.size g.D.Device.failures g.D.Device.goes_on c.args.volume.now c.size_of.new.volume c.fill_buffers.new.volume _ (record { kept = told.kept; tree = λ h. (told.answer h).1; crash = told.crash; goes = told.goes_on }) c.in-Ok-fill_buffers.ensures.asked;
 }
 
 pub returns-in-Err-fill_buffers : goal.returns-in-Err-fill_buffers
@@ -79,7 +79,7 @@ returns-in-Err-fill_buffers g c = record {
       let both = broke (cut_fits F from n bs count) in
       (both.0, subst (λ (l : List ℕ). IsMixed m l m') (cut_received F from n bs count m) both.1);
   asked = let told = c.in-Ok.ensures in
-      asked_on g.D.Device.honest g.D.Device.disk g.D.Device.size g.D.Device.failures c.args.volume.now c.size_of.new.volume c.fill_buffers.new.volume _ (record { kept = told.kept; tree = λ h. (told.answer h).1; crash = told.crash }) c.in-Err-fill_buffers.ensures.asked;
+      asked_on g.D.Device.honest g.D.Device.disk g.D.Device.size g.D.Device.failures g.D.Device.goes_on c.args.volume.now c.size_of.new.volume c.fill_buffers.new.volume _ (record { kept = told.kept; tree = λ h. (told.answer h).1; crash = told.crash; goes = told.goes_on }) c.in-Err-fill_buffers.ensures.asked;
 }
 
 pub returns-in-Err : goal.returns-in-Err
@@ -89,5 +89,5 @@ returns-in-Err g c = record {
   idle = λ failed. refl;
   read = λ h. tt;
   broke = λ h. ((c.in-Err.ensures.answer h).0, record { as_long = refl; each = λ i. inl refl });
-  asked = let told = c.in-Err.ensures in record { tree = λ h. (told.answer h).1; crash = told.crash; kept = told.kept };
+  asked = let told = c.in-Err.ensures in record { tree = λ h. (told.answer h).1; crash = told.crash; kept = told.kept; goes = told.goes_on };
 }

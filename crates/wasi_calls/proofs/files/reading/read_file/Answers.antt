@@ -22,7 +22,7 @@ use Rattle.wasi_calls.proofs.files.reading.read_file.Goals as goal
 
 pub returns-in-Err : goal.returns-in-Err
 returns-in-Err g c = record {
-  step = asked_step g.D.Device.honest g.D.Device.disk g.D.Device.size g.D.Device.failures c.args.volume.now c.read_at.new.volume _ c.in-Err.ensures.asked;
+  step = asked_step g.D.Device.honest g.D.Device.disk g.D.Device.size g.D.Device.failures g.D.Device.goes_on c.args.volume.now c.read_at.new.volume _ c.in-Err.ensures.asked;
   entries = no_more (table_of c.args.descriptors.now);
   answered = λ h w table shown.
       let m = c.args.memory.now in
@@ -34,21 +34,21 @@ returns-in-Err g c = record {
       let bs = list_of c.args.buffers.now in
       let result = c.args.request.now.result_at in
       let (io, mixed) = rw c.new-serial.ensures at c.in-Err.ensures.broke h in
-      let asked : Asked g.D.Device.honest g.D.Device.disk g.D.Device.size g.D.Device.failures old new true =
-      subst (λ (e : Errno). Asked g.D.Device.honest g.D.Device.disk g.D.Device.size g.D.Device.failures old new (is_io {X = ℕ} (Err e))) io c.in-Err.ensures.asked in
+      let asked : Asked g.D.Device.honest g.D.Device.disk g.D.Device.size g.D.Device.failures g.D.Device.goes_on old new true =
+      subst (λ (e : Errno). Asked g.D.Device.honest g.D.Device.disk g.D.Device.size g.D.Device.failures g.D.Device.goes_on old new (is_io {X = ℕ} (Err e))) io c.in-Err.ensures.asked in
       let tree : w.tree ≡ old.tree = ap (λ (w : World). w.tree) shown in
       let meant = λ (v : World). wanted v.tree o.serial o.position bs in
       let run = λ (v : World). read_file_to v fd o bs result in
       subst (λ (n : ℕ). Answered run w m (with_table (table_of c.args.descriptors.now) (with_volume new w)) m' n) (sym (c.refused.ensures ∙ ap number_of io))
       (in_table run w m (with_volume new w) m' 29 _ table
-      (broke_off g.D.Device.honest g.D.Device.disk g.D.Device.size g.D.Device.failures w m run meant (done_file fd o bs result) old new shown (row_file fd o bs result)
+      (broke_off g.D.Device.honest g.D.Device.disk g.D.Device.size g.D.Device.failures g.D.Device.goes_on w m run meant (done_file fd o bs result) old new shown (row_file fd o bs result)
       h asked m' c.in-Err.ensures.idle (subst (λ (T : Tree). IsMixed m (received m (wanted T o.serial o.position bs) bs) m') (sym tree) mixed)));
   io = asked_29 ℕ c.in-Err.errno _ (λ fails. c.in-Err.ensures.asked.kept.failed ∙ fails) c.refused.ensures;
 }
 
 pub returns-in-Ok : goal.returns-in-Ok
 returns-in-Ok g c = record {
-  step = asked_step g.D.Device.honest g.D.Device.disk g.D.Device.size g.D.Device.failures c.args.volume.now c.read_at.new.volume _ c.in-Ok.ensures.asked;
+  step = asked_step g.D.Device.honest g.D.Device.disk g.D.Device.size g.D.Device.failures g.D.Device.goes_on c.args.volume.now c.read_at.new.volume _ c.in-Ok.ensures.asked;
   entries = c.move_to.ensures.entries;
   answered = λ h w table shown.
       let m = c.args.memory.now in
@@ -68,7 +68,7 @@ returns-in-Ok g c = record {
       table_moved fd (moved_to o _) (table_of c.args.descriptors.now) (table_of c.move_to.new.descriptors) w.table c.move_to.ensures.moved table
       ∙ ap (λ (n : ℕ). with_at fd (moved_to o (o.position + n)) w.table) (c.from.ensures ∙ so_many) in
       let same : with_volume new w ≡ w = same_volume w m old new shown asked.kept.numbers (asked.tree h) (asked.kept.failed ∙ sym working) in
-      told_bytes g.D.Device.honest g.D.Device.disk g.D.Device.size g.D.Device.failures w m (λ v. read_file_to v fd o bs result) meant (done_file fd o bs result) old new shown (row_file fd o bs result)
+      told_bytes g.D.Device.honest g.D.Device.disk g.D.Device.size g.D.Device.failures g.D.Device.goes_on w m (λ v. read_file_to v fd o bs result) meant (done_file fd o bs result) old new shown (row_file fd o bs result)
       asked (with_table (table_of c.move_to.new.descriptors) (with_volume new w)) c.write_bytes.new.memory
       (λ i. with_table (tables i) (same i))
       (c.write_bytes.ensures.bytes

@@ -40,7 +40,7 @@ returns-in-Err g c = record {
         io,
         record { count = n; few = less; is = ap (refill (length m) m) same ∙ refilled (length m) (written m p xs) _ whole },
       );
-  asked = record { tree = λ h. (c.in-Err.ensures.answer h).1; crash = c.in-Err.ensures.crash; kept = c.in-Err.ensures.kept };
+  asked = record { tree = λ h. (c.in-Err.ensures.answer h).1; crash = c.in-Err.ensures.crash; kept = c.in-Err.ensures.kept; goes = c.in-Err.ensures.goes_on };
 }
 
 pub returns-in-Ok : goal.returns-in-Ok
@@ -51,5 +51,5 @@ returns-in-Ok g c = record {
       part_listed c.args.memory.now (drop c.args.at (bytes_at c.args.volume.now.tree c.args.serial)) c.part_mut.result.now c.read.new.buffer c.args.start c.args.len c.in-Ok.field-0
       c.requires.inside c.part_mut.ensures.value told.0 told.1;
   broke = λ h inside. tt;
-  asked = let told = c.in-Ok.ensures in record { tree = λ h. (told.answer h).2; crash = told.crash; kept = told.kept };
+  asked = let told = c.in-Ok.ensures in record { tree = λ h. (told.answer h).2; crash = told.crash; kept = told.kept; goes = told.goes_on };
 }

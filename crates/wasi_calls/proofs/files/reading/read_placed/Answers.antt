@@ -20,7 +20,7 @@ use Rattle.wasi_calls.proofs.files.reading.read_placed.Goals as goal
 
 pub returns-in-Err : goal.returns-in-Err
 returns-in-Err g c = record {
-  step = asked_step g.D.Device.honest g.D.Device.disk g.D.Device.size g.D.Device.failures c.args.volume.now c.read_at.new.volume _ c.in-Err.ensures.asked;
+  step = asked_step g.D.Device.honest g.D.Device.disk g.D.Device.size g.D.Device.failures g.D.Device.goes_on c.args.volume.now c.read_at.new.volume _ c.in-Err.ensures.asked;
   answered = λ h w shown.
       let m = c.args.memory.now in
       let m' = c.read_at.new.memory in
@@ -31,12 +31,12 @@ returns-in-Err g c = record {
       let bs = list_of c.args.buffers.now in
       let result = c.args.request.now.result_at in
       let (io, mixed) = rw c.new.ensures at c.in-Err.ensures.broke h in
-      let asked : Asked g.D.Device.honest g.D.Device.disk g.D.Device.size g.D.Device.failures old new true =
-      subst (λ (e : Errno). Asked g.D.Device.honest g.D.Device.disk g.D.Device.size g.D.Device.failures old new (is_io {X = ℕ} (Err e))) io c.in-Err.ensures.asked in
+      let asked : Asked g.D.Device.honest g.D.Device.disk g.D.Device.size g.D.Device.failures g.D.Device.goes_on old new true =
+      subst (λ (e : Errno). Asked g.D.Device.honest g.D.Device.disk g.D.Device.size g.D.Device.failures g.D.Device.goes_on old new (is_io {X = ℕ} (Err e))) io c.in-Err.ensures.asked in
       let tree : w.tree ≡ old.tree = ap (λ (w : World). w.tree) shown in
       let meant = λ (v : World). wanted v.tree o.serial from bs in
       subst (λ (n : ℕ). Answered (λ v. read_into v o from bs result) w m (with_volume new w) m' n) (sym (c.refused.ensures ∙ ap number_of io))
-      (broke_off g.D.Device.honest g.D.Device.disk g.D.Device.size g.D.Device.failures w m (λ v. read_into v o from bs result) meant
+      (broke_off g.D.Device.honest g.D.Device.disk g.D.Device.size g.D.Device.failures g.D.Device.goes_on w m (λ v. read_into v o from bs result) meant
       (λ v xs. record { world = v; fills = scattered xs bs; results = (result, little_bytes 4 (length xs)) ∷ [] }) old new shown (λ u. refl)
       h asked m' c.in-Err.ensures.idle (subst (λ (T : Tree). IsMixed m (received m (wanted T o.serial from bs) bs) m') (sym tree) mixed));
   io = asked_29 ℕ c.in-Err.errno _ (λ fails. c.in-Err.ensures.asked.kept.failed ∙ fails) c.refused.ensures;
@@ -44,7 +44,7 @@ returns-in-Err g c = record {
 
 pub returns-in-Ok : goal.returns-in-Ok
 returns-in-Ok g c = record {
-  step = asked_step g.D.Device.honest g.D.Device.disk g.D.Device.size g.D.Device.failures c.args.volume.now c.read_at.new.volume _ c.in-Ok.ensures.asked;
+  step = asked_step g.D.Device.honest g.D.Device.disk g.D.Device.size g.D.Device.failures g.D.Device.goes_on c.args.volume.now c.read_at.new.volume _ c.in-Ok.ensures.asked;
   answered = λ h w shown.
       let m = c.args.memory.now in
       let old = c.args.volume.now in
@@ -60,7 +60,7 @@ returns-in-Ok g c = record {
       let meant = λ (v : World). wanted v.tree o.serial from bs in
       let all : wanted old.tree o.serial from bs ≡ meant w = ap (λ (T : Tree). wanted T o.serial from bs) (sym tree) in
       let so_many : c.in-Ok.len ≡ length (meant w) = count ∙ ap (λ (xs : List ℕ). length xs) all in
-      told_bytes g.D.Device.honest g.D.Device.disk g.D.Device.size g.D.Device.failures w m (λ v. read_into v o from bs result) meant
+      told_bytes g.D.Device.honest g.D.Device.disk g.D.Device.size g.D.Device.failures g.D.Device.goes_on w m (λ v. read_into v o from bs result) meant
       (λ v xs. record { world = v; fills = scattered xs bs; results = (result, little_bytes 4 (length xs)) ∷ [] }) old new shown (λ u. refl)
       asked (with_volume new w) c.write_bytes.new.memory
       (same_volume w m old new shown asked.kept.numbers (asked.tree h) (asked.kept.failed ∙ sym working))

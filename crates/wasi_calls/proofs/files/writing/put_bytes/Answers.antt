@@ -27,6 +27,7 @@ returns-in-Ok g c = record {
   refused = λ h. tt;
   crash = c.in-Ok.ensures.crash;
   kept = c.in-Ok.ensures.kept;
+  goes_on = c.in-Ok.ensures.goes_on;
 }
 
 pub returns-in-Err : goal.returns-in-Err
@@ -45,6 +46,7 @@ returns-in-Err g c = record {
       );
   crash = c.in-Err.ensures.crash;
   kept = c.in-Err.ensures.kept;
+  goes_on = c.in-Err.ensures.goes_on;
 }
 
 pub write_from-requires-clause-piece : goal.write_from-requires-clause-piece

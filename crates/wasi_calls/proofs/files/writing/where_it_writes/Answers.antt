@@ -12,7 +12,7 @@ returns-in-Ok g c = record {
   asked = λ append h. c.in-Ok.ensures.crash h;
   moved = refl;
   step = let told = c.in-Ok.ensures in
-      asked_step g.D.Device.honest g.D.Device.disk g.D.Device.size g.D.Device.failures c.args.volume.now c.size_of.new.volume _ (record { tree = λ h. (told.answer h).1; crash = told.crash; kept = told.kept });
+      asked_step g.D.Device.honest g.D.Device.disk g.D.Device.size g.D.Device.failures g.D.Device.goes_on c.args.volume.now c.size_of.new.volume _ (record { tree = λ h. (told.answer h).1; crash = told.crash; kept = told.kept; goes = told.goes_on });
   io = λ is. absurd (false≢true is);
 }
 
@@ -24,7 +24,7 @@ returns-in-Err g c = record {
   asked = λ append h. c.in-Err.ensures.crash h;
   moved = tt;
   step = let told = c.in-Err.ensures in
-      asked_step g.D.Device.honest g.D.Device.disk g.D.Device.size g.D.Device.failures c.args.volume.now c.size_of.new.volume _ (record { tree = λ h. (told.answer h).1; crash = told.crash; kept = told.kept });
+      asked_step g.D.Device.honest g.D.Device.disk g.D.Device.size g.D.Device.failures g.D.Device.goes_on c.args.volume.now c.size_of.new.volume _ (record { tree = λ h. (told.answer h).1; crash = told.crash; kept = told.kept; goes = told.goes_on });
   io = λ is. c.in-Err.ensures.kept.failed ∙ is;
 }
 
@@ -35,6 +35,6 @@ returns-then-not-opened g c = record {
   kept = λ append. absurd (false≢true (sym c.if-not-opened.true ∙ append));
   asked = λ append. absurd (false≢true (sym c.if-not-opened.true ∙ append));
   moved = refl;
-  step = volume_rests g.D.Device.honest g.D.Device.disk g.D.Device.size g.D.Device.failures c.args.volume.now;
+  step = volume_rests g.D.Device.honest g.D.Device.disk g.D.Device.size g.D.Device.failures g.D.Device.goes_on c.args.volume.now;
   io = λ is. absurd (false≢true is);
 }

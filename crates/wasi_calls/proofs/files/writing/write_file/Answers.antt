@@ -60,9 +60,9 @@ pub returns-in-Ok-clause-step : goal.returns-in-Ok-clause-step
 returns-in-Ok-clause-step g c =
     let last = c.write_on.new.volume in
     elim (either c.args.opened.now.append) [
-      | inl is ↦ steps_after g.D.Device.honest g.D.Device.disk g.D.Device.size g.D.Device.failures c.args.volume.now c.where_it_writes.new.volume last
-          (record { kept = c.in-Ok.ensures.kept is; tree = λ h. (c.in-Ok.ensures.at_end is h).1; crash = c.in-Ok.ensures.asked is }) c.write_on.ensures.step
-      | inr is ↦ subst (λ (v : Opened g.row.D.Denot). VolumeStep g.D.Device.honest g.D.Device.disk g.D.Device.size g.D.Device.failures v last) (c.in-Ok.ensures.stays is).0 c.write_on.ensures.step
+      | inl is ↦ steps_after g.D.Device.honest g.D.Device.disk g.D.Device.size g.D.Device.failures g.D.Device.goes_on c.args.volume.now c.where_it_writes.new.volume last
+          (record { kept = c.in-Ok.ensures.kept is; tree = λ h. (c.in-Ok.ensures.at_end is h).1; crash = c.in-Ok.ensures.asked is; goes = c.in-Ok.ensures.step.goes }) c.write_on.ensures.step
+      | inr is ↦ subst (λ (v : Opened g.row.D.Denot). VolumeStep g.D.Device.honest g.D.Device.disk g.D.Device.size g.D.Device.failures g.D.Device.goes_on v last) (c.in-Ok.ensures.stays is).0 c.write_on.ensures.step
     ]
 
 pub returns-in-Ok-clause-answered : goal.returns-in-Ok-clause-answered

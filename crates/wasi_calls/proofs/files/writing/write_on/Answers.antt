@@ -21,7 +21,7 @@ use Rattle.wasi_calls.proofs.files.writing.write_on.Goals.{then-len-gt0, else-le
 
 pub returns-after-len-gt0 : goal.returns-after-len-gt0
 returns-after-len-gt0 g c = record {
-  step = steps g.D.Device.honest g.D.Device.disk g.D.Device.size g.D.Device.failures c.args.volume.now c.put_bytes.new.volume _ c.in-Ok.ensures.kept c.in-Ok.ensures.crash;
+  step = steps g.D.Device.honest g.D.Device.disk g.D.Device.size g.D.Device.failures g.D.Device.goes_on c.args.volume.now c.put_bytes.new.volume _ c.in-Ok.ensures.kept c.in-Ok.ensures.crash c.in-Ok.ensures.goes_on;
   entries = elim c.if-len-gt0.branch [
     | then-len-gt0 b ↦ subst (λ (d : Descriptors). NoMoreEntries (table_of c.args.descriptors.now) (table_of d)) (sym b.descriptors-is) b.move_to.ensures.entries
     | else-len-gt0 b ↦ subst (λ (d : Descriptors). NoMoreEntries (table_of c.args.descriptors.now) (table_of d)) (sym b.descriptors-is) (no_more (table_of c.args.descriptors.now))
@@ -65,7 +65,7 @@ returns-after-len-gt0 g c = record {
 
 pub returns-in-Err : goal.returns-in-Err
 returns-in-Err g c = record {
-  step = steps g.D.Device.honest g.D.Device.disk g.D.Device.size g.D.Device.failures c.args.volume.now c.put_bytes.new.volume _ c.in-Err.ensures.kept c.in-Err.ensures.crash;
+  step = steps g.D.Device.honest g.D.Device.disk g.D.Device.size g.D.Device.failures g.D.Device.goes_on c.args.volume.now c.put_bytes.new.volume _ c.in-Err.ensures.kept c.in-Err.ensures.crash c.in-Err.ensures.goes_on;
   entries = no_more (table_of c.args.descriptors.now);
   answered = λ h w table shown.
       let m = c.args.memory.now in

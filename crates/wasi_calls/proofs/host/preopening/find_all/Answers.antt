@@ -8,7 +8,7 @@ use Rattle.wasi_calls.proofs.host.preopening.find_all.Goals as goal
 
 pub returns-in-Err : goal.returns-in-Err
 returns-in-Err g c = record {
-  reads = reads_then g.D.Device.honest g.D.Device.disk g.D.Device.size g.D.Device.failures c.args.volume.now c.loop-i.volume c.directory_named.new.volume _ c.loop-i.invariant.reads c.in-Err.ensures.reads;
+  reads = reads_then g.D.Device.honest g.D.Device.disk g.D.Device.size g.D.Device.failures g.D.Device.goes_on c.args.volume.now c.loop-i.volume c.directory_named.new.volume _ c.loop-i.invariant.reads c.in-Err.ensures.reads;
   found = λ h.
       let ps = c.args.preopens.now in
       let i = c.loop-i.i in
@@ -23,12 +23,12 @@ pub loop-i-preserved : goal.loop-i-preserved
 loop-i-preserved g c =
     let ps = c.args.preopens.now in
     let i = c.loop-i.i in
-    so_far_more g.D.Device.honest g.D.Device.disk g.D.Device.size g.D.Device.failures c.args.volume.now c.loop-i.volume c.directory_named.new.volume ps c.loop-i.serials i c.in-Ok.serial
+    so_far_more g.D.Device.honest g.D.Device.disk g.D.Device.size g.D.Device.failures g.D.Device.goes_on c.args.volume.now c.loop-i.volume c.directory_named.new.volume ps c.loop-i.serials i c.in-Ok.serial
     (get_or ps i no_preopen) (omega arith) (slice_get-get_or ps i no_preopen c.loop-i-test.true) c.loop-i.invariant c.in-Ok.ensures.reads c.in-Ok.ensures.found c.in-Ok.ensures.number
 
 pub loop-i-init : goal.loop-i-init
 loop-i-init g c = record {
-  reads = works_as g.D.Device.honest g.D.Device.disk g.D.Device.size g.D.Device.failures c.args.volume.now c.args.volume.now (still_works g.D.Device.honest g.D.Device.disk g.D.Device.size g.D.Device.failures c.args.volume.now c.requires.working);
+  reads = works_as g.D.Device.honest g.D.Device.disk g.D.Device.size g.D.Device.failures g.D.Device.goes_on c.args.volume.now c.args.volume.now (still_works g.D.Device.honest g.D.Device.disk g.D.Device.size g.D.Device.failures g.D.Device.goes_on c.args.volume.now c.requires.working);
   found = λ h k p below. absurd (omega arith);
   numbers = λ k below. absurd (omega arith);
 }

@@ -20,10 +20,10 @@ returns-in-Err-clause-found g c = λ h.
     subst (λ (fault : HostFault). FindsOrFails {X = ℕ} (from_root T rest) (Err fault)) (sym c.fault_of.ensures) (refused_none (from_root T rest) e why)
 
 pub returns-in-Err-clause-reads : goal.returns-in-Err-clause-reads
-returns-in-Err-clause-reads g c = asked_device (Reached × Bool) ℕ g.D.Device.honest g.D.Device.disk g.D.Device.size g.D.Device.failures c.args.volume.now c.walk_from_root.new.volume c.in-Err.errno c.fault_of.result c.fault_of.ensures c.in-Err.ensures.asked
+returns-in-Err-clause-reads g c = asked_device (Reached × Bool) ℕ g.D.Device.honest g.D.Device.disk g.D.Device.size g.D.Device.failures g.D.Device.goes_on c.args.volume.now c.walk_from_root.new.volume c.in-Err.errno c.fault_of.result c.fault_of.ensures c.in-Err.ensures.asked
 
 pub returns-then-is_empty-clause-reads : goal.returns-then-is_empty-clause-reads
-returns-then-is_empty-clause-reads g c = works_as g.D.Device.honest g.D.Device.disk g.D.Device.size g.D.Device.failures c.args.volume.now c.args.volume.now (still_works g.D.Device.honest g.D.Device.disk g.D.Device.size g.D.Device.failures c.args.volume.now c.requires)
+returns-then-is_empty-clause-reads g c = works_as g.D.Device.honest g.D.Device.disk g.D.Device.size g.D.Device.failures g.D.Device.goes_on c.args.volume.now c.args.volume.now (still_works g.D.Device.honest g.D.Device.disk g.D.Device.size g.D.Device.failures g.D.Device.goes_on c.args.volume.now c.requires)
 
 pub returns-in-Ok-clause-reads : goal.returns-in-Ok-clause-reads
-returns-in-Ok-clause-reads g c = reads_then g.D.Device.honest g.D.Device.disk g.D.Device.size g.D.Device.failures c.args.volume.now c.walk_from_root.new.volume c.reached_directory.new.volume _ c.in-Ok.ensures.asked c.reached_directory.ensures.reads
+returns-in-Ok-clause-reads g c = reads_then g.D.Device.honest g.D.Device.disk g.D.Device.size g.D.Device.failures g.D.Device.goes_on c.args.volume.now c.walk_from_root.new.volume c.reached_directory.new.volume _ c.in-Ok.ensures.asked c.reached_directory.ensures.reads

@@ -31,7 +31,7 @@ returns-then-failed g c = record {
   opened = λ h. tt;
   refused = sym c.failed.ensures ∙ c.if-failed.true;
   closed = λ n. refl;
-  reads = asked_failed g.D.Device.honest g.D.Device.disk g.D.Device.size g.D.Device.failures c.args.volume.now (sym c.failed.ensures ∙ c.if-failed.true);
+  reads = asked_failed g.D.Device.honest g.D.Device.disk g.D.Device.size g.D.Device.failures g.D.Device.goes_on c.args.volume.now (sym c.failed.ensures ∙ c.if-failed.true);
   known = streams_known g.D.Device.honest c.args.volume.now (table_of c.args.descriptors.now) c.requires.streams;
 }
 

@@ -20,7 +20,7 @@ use Rattle.wasi_calls.proofs.paths.opening.find_target.Goals as goal
 
 pub returns-in-Err : goal.returns-in-Err
 returns-in-Err g c = record {
-  step = volume_rests g.D.Device.honest g.D.Device.disk g.D.Device.size g.D.Device.failures c.args.volume.now;
+  step = volume_rests g.D.Device.honest g.D.Device.disk g.D.Device.size g.D.Device.failures g.D.Device.goes_on c.args.volume.now;
   works = tt;
   inside = tt;
   can = tt;
@@ -53,7 +53,7 @@ returns-in-Err-reach g c = record {
 
 pub returns-in-Err-reached_target : goal.returns-in-Err-reached_target
 returns-in-Err-reached_target g c = record {
-  step = steps_after g.D.Device.honest g.D.Device.disk g.D.Device.size g.D.Device.failures c.args.volume.now c.reach.new.volume c.reached_target.new.volume c.in-Ok-reach.ensures.works
+  step = steps_after g.D.Device.honest g.D.Device.disk g.D.Device.size g.D.Device.failures g.D.Device.goes_on c.args.volume.now c.reach.new.volume c.reached_target.new.volume c.in-Ok-reach.ensures.works
       c.in-Err-reached_target.ensures.step;
   works = tt;
   inside = tt;
@@ -67,7 +67,7 @@ returns-in-Err-reached_target g c = record {
 
 pub returns-then-is_full : goal.returns-then-is_full
 returns-then-is_full g c = record {
-  step = steps_after g.D.Device.honest g.D.Device.disk g.D.Device.size g.D.Device.failures c.args.volume.now c.reach.new.volume c.reached_target.new.volume c.in-Ok-reach.ensures.works
+  step = steps_after g.D.Device.honest g.D.Device.disk g.D.Device.size g.D.Device.failures g.D.Device.goes_on c.args.volume.now c.reach.new.volume c.reached_target.new.volume c.in-Ok-reach.ensures.works
       c.in-Ok-reached_target.ensures.step;
   works = tt;
   inside = tt;
@@ -81,9 +81,9 @@ returns-then-is_full g c = record {
 
 pub returns : goal.returns
 returns g c = record {
-  step = steps_after g.D.Device.honest g.D.Device.disk g.D.Device.size g.D.Device.failures c.args.volume.now c.reach.new.volume c.reached_target.new.volume c.in-Ok-reach.ensures.works
+  step = steps_after g.D.Device.honest g.D.Device.disk g.D.Device.size g.D.Device.failures g.D.Device.goes_on c.args.volume.now c.reach.new.volume c.reached_target.new.volume c.in-Ok-reach.ensures.works
       c.in-Ok-reached_target.ensures.step;
-  works = works_on g.D.Device.honest g.D.Device.disk g.D.Device.size g.D.Device.failures c.args.volume.now c.reach.new.volume c.reached_target.new.volume c.in-Ok-reach.ensures.works c.in-Ok-reached_target.ensures.asked;
+  works = works_on g.D.Device.honest g.D.Device.disk g.D.Device.size g.D.Device.failures g.D.Device.goes_on c.args.volume.now c.reach.new.volume c.reached_target.new.volume c.in-Ok-reach.ensures.works c.in-Ok-reached_target.ensures.asked;
   inside = c.in-Ok.ensures.inside;
   can = c.in-Ok-reached_target.ensures.can;
   targets = λ h w table shown.

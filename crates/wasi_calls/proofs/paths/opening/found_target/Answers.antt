@@ -15,29 +15,29 @@ use Rattle.wasi_calls.proofs.paths.opening.found_target.Goals as goal
 
 pub returns-in-Err : goal.returns-in-Err
 returns-in-Err g c = record {
-  step = asked_step g.D.Device.honest g.D.Device.disk g.D.Device.size g.D.Device.failures c.args.volume.now c.is_directory.new.volume _ c.in-Err.ensures.asked;
+  step = asked_step g.D.Device.honest g.D.Device.disk g.D.Device.size g.D.Device.failures g.D.Device.goes_on c.args.volume.now c.is_directory.new.volume _ c.in-Err.ensures.asked;
   asked = tt;
   can = tt;
   checks = λ h w slash alive shown.
       let old = c.args.volume.now in
       let new = c.is_directory.new.volume in
       let io = c.in-Err.ensures.answer h in
-      let asked : Asked g.D.Device.honest g.D.Device.disk g.D.Device.size g.D.Device.failures old new true =
-      subst (Asked g.D.Device.honest g.D.Device.disk g.D.Device.size g.D.Device.failures old new) (ap (λ (e : _). is_io {X = Bool} (Err e)) io) c.in-Err.ensures.asked in
+      let asked : Asked g.D.Device.honest g.D.Device.disk g.D.Device.size g.D.Device.failures g.D.Device.goes_on old new true =
+      subst (Asked g.D.Device.honest g.D.Device.disk g.D.Device.size g.D.Device.failures g.D.Device.goes_on old new) (ap (λ (e : _). is_io {X = Bool} (Err e)) io) c.in-Err.ensures.asked in
       subst (λ (n : ℕ). StopsNext (λ v. open_checks v c.args.oflags slash (Found c.args.serial)) w new n) (sym (c.refused.ensures ∙ ap number_of io))
       (inr (record {
         answer = refl;
         never = found_checked_never c.args.oflags (directory_at w.tree c.args.serial);
-        after = asked_gone g.D.Device.honest g.D.Device.disk g.D.Device.size g.D.Device.failures w old new shown h asked;
+        after = asked_gone g.D.Device.honest g.D.Device.disk g.D.Device.size g.D.Device.failures g.D.Device.goes_on w old new shown h asked;
       }));
   io = asked_29 Bool c.in-Err.errno _ (λ fails. c.in-Err.ensures.asked.kept.failed ∙ fails) c.refused.ensures;
 }
 
 pub returns-in-Err-check_found-clause-step : goal.returns-in-Err-check_found-clause-step
-returns-in-Err-check_found-clause-step g c = asked_step g.D.Device.honest g.D.Device.disk g.D.Device.size g.D.Device.failures c.args.volume.now c.is_directory.new.volume _ c.in-Ok.ensures.asked
+returns-in-Err-check_found-clause-step g c = asked_step g.D.Device.honest g.D.Device.disk g.D.Device.size g.D.Device.failures g.D.Device.goes_on c.args.volume.now c.is_directory.new.volume _ c.in-Ok.ensures.asked
 
 pub returns-in-Ok-check_found-clause-step : goal.returns-in-Ok-check_found-clause-step
-returns-in-Ok-check_found-clause-step g c = asked_step g.D.Device.honest g.D.Device.disk g.D.Device.size g.D.Device.failures c.args.volume.now c.is_directory.new.volume _ c.in-Ok.ensures.asked
+returns-in-Ok-check_found-clause-step g c = asked_step g.D.Device.honest g.D.Device.disk g.D.Device.size g.D.Device.failures g.D.Device.goes_on c.args.volume.now c.is_directory.new.volume _ c.in-Ok.ensures.asked
 
 pub returns-in-Err-check_found-clause-checks : goal.returns-in-Err-check_found-clause-checks
 returns-in-Err-check_found-clause-checks c = grind (arith, common_steps)

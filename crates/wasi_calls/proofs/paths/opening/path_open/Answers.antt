@@ -39,8 +39,8 @@ returns-in-Err g c = record {
 
 pub returns-in-Err-settle : goal.returns-in-Err-settle
 returns-in-Err-settle g c = record {
-  step = steps_after g.D.Device.honest g.D.Device.disk g.D.Device.size g.D.Device.failures c.args.volume.now c.find_target.new.volume c.settle.new.volume c.in-Ok.ensures.works
-      (steps g.D.Device.honest g.D.Device.disk g.D.Device.size g.D.Device.failures c.find_target.new.volume c.settle.new.volume _ c.in-Err-settle.ensures.kept c.in-Err-settle.ensures.crash);
+  step = steps_after g.D.Device.honest g.D.Device.disk g.D.Device.size g.D.Device.failures g.D.Device.goes_on c.args.volume.now c.find_target.new.volume c.settle.new.volume c.in-Ok.ensures.works
+      (steps g.D.Device.honest g.D.Device.disk g.D.Device.size g.D.Device.failures g.D.Device.goes_on c.find_target.new.volume c.settle.new.volume _ c.in-Err-settle.ensures.kept c.in-Err-settle.ensures.crash c.in-Err-settle.ensures.goes_on);
   serials = λ fd o at.
       subst (λ (n : Superblock). IsSerial n o.serial) (sym (c.in-Err-settle.ensures.kept.numbers ∙ c.in-Ok.ensures.works.kept.numbers)) (c.requires.numbers fd o at);
   answered = λ h w table shown.
@@ -70,8 +70,8 @@ returns-in-Err-settle g c = record {
 
 pub returns-in-Ok-open : goal.returns-in-Ok-open
 returns-in-Ok-open g c = record {
-  step = steps_after g.D.Device.honest g.D.Device.disk g.D.Device.size g.D.Device.failures c.args.volume.now c.find_target.new.volume c.settle.new.volume c.in-Ok.ensures.works
-      (steps g.D.Device.honest g.D.Device.disk g.D.Device.size g.D.Device.failures c.find_target.new.volume c.settle.new.volume _ c.in-Ok-settle.ensures.kept c.in-Ok-settle.ensures.crash);
+  step = steps_after g.D.Device.honest g.D.Device.disk g.D.Device.size g.D.Device.failures g.D.Device.goes_on c.args.volume.now c.find_target.new.volume c.settle.new.volume c.in-Ok.ensures.works
+      (steps g.D.Device.honest g.D.Device.disk g.D.Device.size g.D.Device.failures g.D.Device.goes_on c.find_target.new.volume c.settle.new.volume _ c.in-Ok-settle.ensures.kept c.in-Ok-settle.ensures.crash c.in-Ok-settle.ensures.goes_on);
   serials = let numbers : c.settle.new.volume.numbers ≡ c.args.volume.now.numbers = c.in-Ok-settle.ensures.kept.numbers ∙ c.in-Ok.ensures.works.kept.numbers in
       serials_stand c.settle.new.volume.numbers (table_of c.args.descriptors.now) (table_of c.open.new.self) c.in-Ok-open.fd c.new_descriptor-descriptor.result c.in-Ok-settle.serial
       (λ fd o is. subst (λ (n : _). IsSerial n o.serial) (sym numbers) (c.requires.numbers fd o is))
@@ -106,8 +106,8 @@ returns-in-Ok-open g c = record {
 
 pub returns-in-Err-open : goal.returns-in-Err-open
 returns-in-Err-open g c = record {
-  step = steps_after g.D.Device.honest g.D.Device.disk g.D.Device.size g.D.Device.failures c.args.volume.now c.find_target.new.volume c.settle.new.volume c.in-Ok.ensures.works
-      (steps g.D.Device.honest g.D.Device.disk g.D.Device.size g.D.Device.failures c.find_target.new.volume c.settle.new.volume _ c.in-Ok-settle.ensures.kept c.in-Ok-settle.ensures.crash);
+  step = steps_after g.D.Device.honest g.D.Device.disk g.D.Device.size g.D.Device.failures g.D.Device.goes_on c.args.volume.now c.find_target.new.volume c.settle.new.volume c.in-Ok.ensures.works
+      (steps g.D.Device.honest g.D.Device.disk g.D.Device.size g.D.Device.failures g.D.Device.goes_on c.find_target.new.volume c.settle.new.volume _ c.in-Ok-settle.ensures.kept c.in-Ok-settle.ensures.crash c.in-Ok-settle.ensures.goes_on);
   serials = λ fd o at. subst (λ (n : Superblock). IsSerial n o.serial) (sym (c.in-Ok-settle.ensures.kept.numbers ∙ c.in-Ok.ensures.works.kept.numbers)) (c.requires.numbers fd o (ap (λ (d : Descriptors). table_of d fd) (sym c.in-Err-open.ensures.refused) ∙ at));
   answered = λ h w table shown.
       let r = c.in-Ok.ensures.targets h w table shown in

@@ -13,10 +13,13 @@ returns-in-New-clause-answer g c = λ h.
     (sym c.in-New.is) (c.create_file.ensures.answer h)
 
 pub returns-in-Entry-clause-kept : goal.returns-in-Entry-clause-kept
-returns-in-Entry-clause-kept g c = (still_works g.D.Device.honest g.D.Device.disk g.D.Device.size g.D.Device.failures c.args.volume.now c.requires.works).kept
+returns-in-Entry-clause-kept g c = (still_works g.D.Device.honest g.D.Device.disk g.D.Device.size g.D.Device.failures g.D.Device.goes_on c.args.volume.now c.requires.works).kept
 
 pub returns-in-Entry-clause-crash : goal.returns-in-Entry-clause-crash
-returns-in-Entry-clause-crash g c = (volume_rests g.D.Device.honest g.D.Device.disk g.D.Device.size g.D.Device.failures c.args.volume.now).crash
+returns-in-Entry-clause-crash g c = (volume_rests g.D.Device.honest g.D.Device.disk g.D.Device.size g.D.Device.failures g.D.Device.goes_on c.args.volume.now).crash
+
+pub returns-in-Entry-clause-goes_on : goal.returns-in-Entry-clause-goes_on
+returns-in-Entry-clause-goes_on g c end le first from = from
 
 pub create_file-requires-clause-name : goal.create_file-requires-clause-name
 create_file-requires-clause-name c = grind (arith, common_steps)

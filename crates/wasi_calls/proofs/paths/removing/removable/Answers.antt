@@ -45,7 +45,7 @@ returns-in-Err g c = record {
 
 pub returns-in-Err-is_directory : goal.returns-in-Err-is_directory
 returns-in-Err-is_directory g c = record {
-  step = asked_after g.D.Device.honest g.D.Device.disk g.D.Device.size g.D.Device.failures c.args.volume.now c.find.new.volume c.is_directory.new.volume _ c.in-Ok.ensures.works c.in-Err-is_directory.ensures.asked;
+  step = asked_after g.D.Device.honest g.D.Device.disk g.D.Device.size g.D.Device.failures g.D.Device.goes_on c.args.volume.now c.find.new.volume c.is_directory.new.volume _ c.in-Ok.ensures.works c.in-Err-is_directory.ensures.asked;
   works = tt;
   entry = tt;
   kind = λ h. tt;
@@ -56,19 +56,19 @@ returns-in-Err-is_directory g c = record {
       let new = c.is_directory.new.volume in
       let now = c.in-Ok.ensures.works.kept.honest.0 h in
       let io = c.in-Err-is_directory.ensures.answer now in
-      let asked : Asked g.D.Device.honest g.D.Device.disk g.D.Device.size g.D.Device.failures between new true =
-      subst (Asked g.D.Device.honest g.D.Device.disk g.D.Device.size g.D.Device.failures between new) (ap (λ (e : _). is_io {X = Bool} (Err e)) io) c.in-Err-is_directory.ensures.asked in
+      let asked : Asked g.D.Device.honest g.D.Device.disk g.D.Device.size g.D.Device.failures g.D.Device.goes_on between new true =
+      subst (Asked g.D.Device.honest g.D.Device.disk g.D.Device.size g.D.Device.failures g.D.Device.goes_on between new) (ap (λ (e : _). is_io {X = Bool} (Err e)) io) c.in-Err-is_directory.ensures.asked in
       subst (λ (n : ℕ). Stops (λ v. removable c.args.kind v c.args.memory.now c.args.fd (bits_of c.args.rights) c.args.path c.args.len) w new n)
       (sym (c.refused.ensures ∙ ap number_of io))
       (fails_on w part (checked c.args.kind) between c.in-Ok.serial passes new
-      (asked_gone g.D.Device.honest g.D.Device.disk g.D.Device.size g.D.Device.failures w between new (sym passes.same) now asked)
+      (asked_gone g.D.Device.honest g.D.Device.disk g.D.Device.size g.D.Device.failures g.D.Device.goes_on w between new (sym passes.same) now asked)
       (checked_never c.args.kind w c.in-Ok.serial));
   io = asked_29 Bool c.in-Err-is_directory.errno _ (λ fails. c.in-Err-is_directory.ensures.asked.kept.failed ∙ fails) c.refused.ensures;
 }
 
 pub returns-in-Err-check_removal : goal.returns-in-Err-check_removal
 returns-in-Err-check_removal g c = record {
-  step = asked_after g.D.Device.honest g.D.Device.disk g.D.Device.size g.D.Device.failures c.args.volume.now c.find.new.volume c.is_directory.new.volume _ c.in-Ok.ensures.works c.in-Ok-is_directory.ensures.asked;
+  step = asked_after g.D.Device.honest g.D.Device.disk g.D.Device.size g.D.Device.failures g.D.Device.goes_on c.args.volume.now c.find.new.volume c.is_directory.new.volume _ c.in-Ok.ensures.works c.in-Ok-is_directory.ensures.asked;
   works = tt;
   entry = tt;
   kind = λ h. tt;
@@ -78,7 +78,7 @@ returns-in-Err-check_removal g c = record {
       let now = c.in-Ok.ensures.works.kept.honest.0 h in
       let told : directory_at w.tree s ≡ c.in-Ok-is_directory.is_directory = ap (λ (v : World). directory_at v.tree s) (sym passes.same) ∙ sym (c.in-Ok-is_directory.ensures.answer now) in
       refuses_on w (λ v. found_at v c.args.memory.now c.args.fd (bits_of c.args.rights) c.args.path c.args.len) (checked c.args.kind) c.find.new.volume s passes c.is_directory.new.volume _
-      (asked_same g.D.Device.honest g.D.Device.disk g.D.Device.size g.D.Device.failures w c.find.new.volume c.is_directory.new.volume (sym passes.same) passes.working now c.in-Ok-is_directory.ensures.asked)
+      (asked_same g.D.Device.honest g.D.Device.disk g.D.Device.size g.D.Device.failures g.D.Device.goes_on w c.find.new.volume c.is_directory.new.volume (sym passes.same) passes.working now c.in-Ok-is_directory.ensures.asked)
       (stops _ _ _ ((λ i. removal_checked c.args.kind (told i) (sym (c.is_held.ensures w table) i)) ∙ c.in-Err-check_removal.ensures.checked));
   io = not_29 _ _ (removal_never c.args.kind _ _) c.in-Err-check_removal.ensures.checked;
 }
@@ -90,11 +90,11 @@ returns-in-Ok-check_removal-clause-asks g c = λ h w table shown.
     let now = c.in-Ok.ensures.works.kept.honest.0 h in
     let told : directory_at w.tree s ≡ c.in-Ok-is_directory.is_directory = ap (λ (v : World). directory_at v.tree s) (sym passes.same) ∙ sym (c.in-Ok-is_directory.ensures.answer now) in
     passes_on w (λ v. found_at v c.args.memory.now c.args.fd (bits_of c.args.rights) c.args.path c.args.len) (checked c.args.kind) c.find.new.volume s passes c.is_directory.new.volume s
-    (asked_same g.D.Device.honest g.D.Device.disk g.D.Device.size g.D.Device.failures w c.find.new.volume c.is_directory.new.volume (sym passes.same) passes.working now c.in-Ok-is_directory.ensures.asked)
+    (asked_same g.D.Device.honest g.D.Device.disk g.D.Device.size g.D.Device.failures g.D.Device.goes_on w c.find.new.volume c.is_directory.new.volume (sym passes.same) passes.working now c.in-Ok-is_directory.ensures.asked)
     (goes_on _ _ tt ((λ i. removal_checked c.args.kind (told i) (sym (c.is_held.ensures w table) i)) ∙ c.in-Ok-check_removal.ensures.checked))
 
 pub returns-in-Ok-check_removal-clause-step : goal.returns-in-Ok-check_removal-clause-step
-returns-in-Ok-check_removal-clause-step g c = asked_after g.D.Device.honest g.D.Device.disk g.D.Device.size g.D.Device.failures c.args.volume.now c.find.new.volume c.is_directory.new.volume _ c.in-Ok.ensures.works c.in-Ok-is_directory.ensures.asked
+returns-in-Ok-check_removal-clause-step g c = asked_after g.D.Device.honest g.D.Device.disk g.D.Device.size g.D.Device.failures g.D.Device.goes_on c.args.volume.now c.find.new.volume c.is_directory.new.volume _ c.in-Ok.ensures.works c.in-Ok-is_directory.ensures.asked
 
 pub returns-in-Ok-check_removal-clause-works : goal.returns-in-Ok-check_removal-clause-works
-returns-in-Ok-check_removal-clause-works g c = works_on g.D.Device.honest g.D.Device.disk g.D.Device.size g.D.Device.failures c.args.volume.now c.find.new.volume c.is_directory.new.volume c.in-Ok.ensures.works c.in-Ok-is_directory.ensures.asked
+returns-in-Ok-check_removal-clause-works g c = works_on g.D.Device.honest g.D.Device.disk g.D.Device.size g.D.Device.failures g.D.Device.goes_on c.args.volume.now c.find.new.volume c.is_directory.new.volume c.in-Ok.ensures.works c.in-Ok-is_directory.ensures.asked

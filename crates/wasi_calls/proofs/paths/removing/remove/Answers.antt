@@ -46,13 +46,13 @@ returns-in-Ok-take_out-clause-answered g c = λ h w table shown.
 
 pub returns-in-Ok-take_out-clause-step : goal.returns-in-Ok-take_out-clause-step
 returns-in-Ok-take_out-clause-step g c =
-    steps_after g.D.Device.honest g.D.Device.disk g.D.Device.size g.D.Device.failures c.args.volume.now c.removable.new.volume c.take_out.new.volume c.in-Ok.ensures.works
-    (steps g.D.Device.honest g.D.Device.disk g.D.Device.size g.D.Device.failures c.removable.new.volume c.take_out.new.volume _ c.in-Ok-take_out.ensures.kept c.in-Ok-take_out.ensures.crash)
+    steps_after g.D.Device.honest g.D.Device.disk g.D.Device.size g.D.Device.failures g.D.Device.goes_on c.args.volume.now c.removable.new.volume c.take_out.new.volume c.in-Ok.ensures.works
+    (steps g.D.Device.honest g.D.Device.disk g.D.Device.size g.D.Device.failures g.D.Device.goes_on c.removable.new.volume c.take_out.new.volume _ c.in-Ok-take_out.ensures.kept c.in-Ok-take_out.ensures.crash c.in-Ok-take_out.ensures.goes_on)
 
 pub returns-in-Err-take_out : goal.returns-in-Err-take_out
 returns-in-Err-take_out g c = record {
-  step = steps_after g.D.Device.honest g.D.Device.disk g.D.Device.size g.D.Device.failures c.args.volume.now c.removable.new.volume c.take_out.new.volume c.in-Ok.ensures.works
-      (steps g.D.Device.honest g.D.Device.disk g.D.Device.size g.D.Device.failures c.removable.new.volume c.take_out.new.volume _ c.in-Err-take_out.ensures.kept c.in-Err-take_out.ensures.crash);
+  step = steps_after g.D.Device.honest g.D.Device.disk g.D.Device.size g.D.Device.failures g.D.Device.goes_on c.args.volume.now c.removable.new.volume c.take_out.new.volume c.in-Ok.ensures.works
+      (steps g.D.Device.honest g.D.Device.disk g.D.Device.size g.D.Device.failures g.D.Device.goes_on c.removable.new.volume c.take_out.new.volume _ c.in-Err-take_out.ensures.kept c.in-Err-take_out.ensures.crash c.in-Err-take_out.ensures.goes_on);
   io = asked_29 (Unit {0}) c.in-Err-take_out.errno _ (λ fails. c.in-Err-take_out.ensures.kept.failed ∙ fails) c.refused.ensures;
   answered = λ h w table shown.
       let m = c.args.memory.now in

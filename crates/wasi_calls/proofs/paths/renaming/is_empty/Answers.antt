@@ -7,4 +7,4 @@ returns-clause-told g c = λ h.
     flipped c.is_none.result _ c.is_none.ensures ∙ (ap (λ (o : Option ℕ). not (is_some o)) (c.in_ok-list_next.ensures.answer h).0 ∙ ap not (some_next c.args.volume.now.tree c.args.directory))
 
 pub returns-clause-asked : goal.returns-clause-asked
-returns-clause-asked g c = let told = c.in_ok-list_next.ensures in record { tree = λ h. (told.answer h).1; crash = told.crash; kept = told.kept }
+returns-clause-asked g c = let told = c.in_ok-list_next.ensures in record { tree = λ h. (told.answer h).1; crash = told.crash; kept = told.kept; goes = told.goes_on }

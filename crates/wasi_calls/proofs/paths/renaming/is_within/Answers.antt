@@ -44,7 +44,7 @@ loop-step-preserved g c =
     let up : IsAbove T c.loop-step.at c.in-Ok.parent = subst (λ (U : Tree). IsAbove U c.loop-step.at c.in-Ok.parent) (was.works.tree h) (c.in-Ok.ensures.told (was.works.kept.honest.0 h) (eqb-false c.loop-step.at 1 (sym c.eq-in-loop-step-2.ensures ∙ c.if-eq-3.false))) in
     up in
     record {
-      works = works_on g.D.Device.honest g.D.Device.disk g.D.Device.size g.D.Device.failures old here c.above.new.volume was.works asked;
+      works = works_on g.D.Device.honest g.D.Device.disk g.D.Device.size g.D.Device.failures g.D.Device.goes_on old here c.above.new.volume was.works asked;
       here = record {
         number = subst (λ (n : Superblock). IsSerial n c.in-Ok.parent) (sym asked.kept.numbers) c.in-Ok.ensures.range;
         used = λ h.
@@ -60,17 +60,17 @@ loop-step-preserved g c =
     }
 
 pub returns-in-Err-clause-asked : goal.returns-in-Err-clause-asked
-returns-in-Err-clause-asked g c = asked_on g.D.Device.honest g.D.Device.disk g.D.Device.size g.D.Device.failures c.args.volume.now c.loop-step.volume c.above.new.volume _ c.loop-step.invariant.works c.in-Err.ensures.asked
+returns-in-Err-clause-asked g c = asked_on g.D.Device.honest g.D.Device.disk g.D.Device.size g.D.Device.failures g.D.Device.goes_on c.args.volume.now c.loop-step.volume c.above.new.volume _ c.loop-step.invariant.works c.in-Err.ensures.asked
 
 pub loop-step-init : goal.loop-step-init
 loop-step-init g c =
     let slots = c.stats-slots.result.slots in
     let all : slots ≡ slots - 0 = omega arith in
     record {
-      works = still_works g.D.Device.honest g.D.Device.disk g.D.Device.size g.D.Device.failures c.args.volume.now c.requires.works;
+      works = still_works g.D.Device.honest g.D.Device.disk g.D.Device.size g.D.Device.failures g.D.Device.goes_on c.args.volume.now c.requires.works;
       here = c.requires.serial;
       same = λ h. ap (λ (k : ℕ). is_within k c.args.volume.now.tree c.args.top c.args.serial) all;
     }
 
 pub returns-then-eq-clause-asked : goal.returns-then-eq-clause-asked
-returns-then-eq-clause-asked g c = works_as g.D.Device.honest g.D.Device.disk g.D.Device.size g.D.Device.failures c.args.volume.now c.args.volume.now (still_works g.D.Device.honest g.D.Device.disk g.D.Device.size g.D.Device.failures c.args.volume.now c.requires.works)
+returns-then-eq-clause-asked g c = works_as g.D.Device.honest g.D.Device.disk g.D.Device.size g.D.Device.failures g.D.Device.goes_on c.args.volume.now c.args.volume.now (still_works g.D.Device.honest g.D.Device.disk g.D.Device.size g.D.Device.failures g.D.Device.goes_on c.args.volume.now c.requires.works)

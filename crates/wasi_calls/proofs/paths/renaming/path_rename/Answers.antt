@@ -15,7 +15,7 @@ returns-in-Err-clause-answered g c = λ h w table shown.
 
 pub returns-in-Ok-clause-step : goal.returns-in-Ok-clause-step
 returns-in-Ok-clause-step g c =
-    steps_after g.D.Device.honest g.D.Device.disk g.D.Device.size g.D.Device.failures c.args.volume.now c.walk_both.new.volume c.rename_reached.new.volume c.in-Ok.ensures.works
+    steps_after g.D.Device.honest g.D.Device.disk g.D.Device.size g.D.Device.failures g.D.Device.goes_on c.args.volume.now c.walk_both.new.volume c.rename_reached.new.volume c.in-Ok.ensures.works
     c.rename_reached.ensures.step
 
 pub returns-in-Ok-clause-answered : goal.returns-in-Ok-clause-answered

@@ -29,15 +29,15 @@ rename_onto-requires-clause-below g c = λ h1.
 
 pub returns-in-Ok-clause-step : goal.returns-in-Ok-clause-step
 returns-in-Ok-clause-step g c =
-    steps_after g.D.Device.honest g.D.Device.disk g.D.Device.size g.D.Device.failures c.args.volume.now c.may_replace.new.volume c.rename_onto.new.volume
-    (asked_works g.D.Device.honest g.D.Device.disk g.D.Device.size g.D.Device.failures c.args.volume.now c.may_replace.new.volume c.in_default.ensures.asked)
-    (steps g.D.Device.honest g.D.Device.disk g.D.Device.size g.D.Device.failures c.may_replace.new.volume c.rename_onto.new.volume _ c.in-Ok.ensures.kept c.in-Ok.ensures.crash)
+    steps_after g.D.Device.honest g.D.Device.disk g.D.Device.size g.D.Device.failures g.D.Device.goes_on c.args.volume.now c.may_replace.new.volume c.rename_onto.new.volume
+    (asked_works g.D.Device.honest g.D.Device.disk g.D.Device.size g.D.Device.failures g.D.Device.goes_on c.args.volume.now c.may_replace.new.volume c.in_default.ensures.asked)
+    (steps g.D.Device.honest g.D.Device.disk g.D.Device.size g.D.Device.failures g.D.Device.goes_on c.may_replace.new.volume c.rename_onto.new.volume _ c.in-Ok.ensures.kept c.in-Ok.ensures.crash c.in-Ok.ensures.goes_on)
 
 pub returns-in-Err-rename_onto-clause-step : goal.returns-in-Err-rename_onto-clause-step
 returns-in-Err-rename_onto-clause-step g c =
-    steps_after g.D.Device.honest g.D.Device.disk g.D.Device.size g.D.Device.failures c.args.volume.now c.may_replace.new.volume c.rename_onto.new.volume
-    (asked_works g.D.Device.honest g.D.Device.disk g.D.Device.size g.D.Device.failures c.args.volume.now c.may_replace.new.volume c.in_default.ensures.asked)
-    (steps g.D.Device.honest g.D.Device.disk g.D.Device.size g.D.Device.failures c.may_replace.new.volume c.rename_onto.new.volume _ c.in-Err-rename_onto.ensures.kept c.in-Err-rename_onto.ensures.crash)
+    steps_after g.D.Device.honest g.D.Device.disk g.D.Device.size g.D.Device.failures g.D.Device.goes_on c.args.volume.now c.may_replace.new.volume c.rename_onto.new.volume
+    (asked_works g.D.Device.honest g.D.Device.disk g.D.Device.size g.D.Device.failures g.D.Device.goes_on c.args.volume.now c.may_replace.new.volume c.in_default.ensures.asked)
+    (steps g.D.Device.honest g.D.Device.disk g.D.Device.size g.D.Device.failures g.D.Device.goes_on c.may_replace.new.volume c.rename_onto.new.volume _ c.in-Err-rename_onto.ensures.kept c.in-Err-rename_onto.ensures.crash c.in-Err-rename_onto.ensures.goes_on)
 
 pub returns-in-Ok-clause-renames : goal.returns-in-Ok-clause-renames
 returns-in-Ok-clause-renames g c = λ h w slash table alive shown.
@@ -60,7 +60,7 @@ returns-in-Err-rename_onto-clause-renames g c = λ h w slash table alive shown.
     (found_never w s t slash alive (eqb-false c.args.target c.args.source (sym c.eq.ensures ∙ c.if-eq.false))) c.in-Err-rename_onto.errno c.in-Err-rename_onto.ensures.kept tree meant)
 
 pub returns-then-eq-clause-step : goal.returns-then-eq-clause-step
-returns-then-eq-clause-step g c = volume_rests g.D.Device.honest g.D.Device.disk g.D.Device.size g.D.Device.failures c.args.volume.now
+returns-then-eq-clause-step g c = volume_rests g.D.Device.honest g.D.Device.disk g.D.Device.size g.D.Device.failures g.D.Device.goes_on c.args.volume.now
 
 pub returns-then-eq-clause-renames : goal.returns-then-eq-clause-renames
 returns-then-eq-clause-renames c = grind (arith, common_steps)

@@ -24,7 +24,7 @@ use Rattle.wasi_calls.proofs.paths.renaming.walk_both.Goals as goal
 
 pub returns-in-Err : goal.returns-in-Err
 returns-in-Err g c = record {
-  step = volume_rests g.D.Device.honest g.D.Device.disk g.D.Device.size g.D.Device.failures c.args.volume.now;
+  step = volume_rests g.D.Device.honest g.D.Device.disk g.D.Device.size g.D.Device.failures g.D.Device.goes_on c.args.volume.now;
   works = tt;
   source = tt;
   reached = tt;
@@ -39,7 +39,7 @@ reach-requires g c =
 
 pub reach-requires-2 : goal.reach-requires-2
 reach-requires-2 g c =
-    rw c.new-to.ensures (entry_still g.D.Device.honest g.D.Device.disk g.D.Device.size g.D.Device.failures c.args.volume.now c.reach.new.volume c.in-Ok.ends.to.serial c.in-Ok-reach.ensures.works
+    rw c.new-to.ensures (entry_still g.D.Device.honest g.D.Device.disk g.D.Device.size g.D.Device.failures g.D.Device.goes_on c.args.volume.now c.reach.new.volume c.in-Ok.ends.to.serial c.in-Ok-reach.ensures.works
     (renames_at g.D.Device.honest c.args.volume.now (table_of c.args.descriptors.now) c.requires c.args.memory.now c.args.asked.now c.in-Ok.ends.from c.in-Ok.ends.to c.in-Ok.ensures.row).1)
 
 pub returns-in-Err-reach : goal.returns-in-Err-reach
@@ -67,7 +67,7 @@ returns-in-Err-reach g c = record {
 
 pub returns-in-Err-reach-2 : goal.returns-in-Err-reach-2
 returns-in-Err-reach-2 g c = record {
-  step = steps_after g.D.Device.honest g.D.Device.disk g.D.Device.size g.D.Device.failures c.args.volume.now c.reach.new.volume c.reach-2.new.volume c.in-Ok-reach.ensures.works c.in-Err-reach-2.ensures.step;
+  step = steps_after g.D.Device.honest g.D.Device.disk g.D.Device.size g.D.Device.failures g.D.Device.goes_on c.args.volume.now c.reach.new.volume c.reach-2.new.volume c.in-Ok-reach.ensures.works c.in-Err-reach-2.ensures.step;
   works = tt;
   source = tt;
   reached = tt;
@@ -83,8 +83,8 @@ returns-in-Err-reach-2 g c = record {
 
 pub returns-in-Err-source_of : goal.returns-in-Err-source_of
 returns-in-Err-source_of g c = record {
-  step = asked_after g.D.Device.honest g.D.Device.disk g.D.Device.size g.D.Device.failures c.args.volume.now c.reach.new.volume c.reach-2.new.volume _ c.in-Ok-reach.ensures.works
-      (works_as g.D.Device.honest g.D.Device.disk g.D.Device.size g.D.Device.failures c.reach.new.volume c.reach-2.new.volume c.in-Ok-reach-2.ensures.works);
+  step = asked_after g.D.Device.honest g.D.Device.disk g.D.Device.size g.D.Device.failures g.D.Device.goes_on c.args.volume.now c.reach.new.volume c.reach-2.new.volume _ c.in-Ok-reach.ensures.works
+      (works_as g.D.Device.honest g.D.Device.disk g.D.Device.size g.D.Device.failures g.D.Device.goes_on c.reach.new.volume c.reach-2.new.volume c.in-Ok-reach-2.ensures.works);
   works = tt;
   source = tt;
   reached = tt;
@@ -100,11 +100,11 @@ returns-in-Err-source_of g c = record {
 
 pub returns : goal.returns
 returns g c = record {
-  step = asked_after g.D.Device.honest g.D.Device.disk g.D.Device.size g.D.Device.failures c.args.volume.now c.reach.new.volume c.reach-2.new.volume _ c.in-Ok-reach.ensures.works
-      (works_as g.D.Device.honest g.D.Device.disk g.D.Device.size g.D.Device.failures c.reach.new.volume c.reach-2.new.volume c.in-Ok-reach-2.ensures.works);
-  works = works_on g.D.Device.honest g.D.Device.disk g.D.Device.size g.D.Device.failures c.args.volume.now c.reach.new.volume c.reach-2.new.volume c.in-Ok-reach.ensures.works
-      (works_as g.D.Device.honest g.D.Device.disk g.D.Device.size g.D.Device.failures c.reach.new.volume c.reach-2.new.volume c.in-Ok-reach-2.ensures.works);
-  source = entry_still g.D.Device.honest g.D.Device.disk g.D.Device.size g.D.Device.failures c.reach.new.volume c.reach-2.new.volume c.in-Ok-source_of.source c.in-Ok-reach-2.ensures.works (subst (IsReached g.D.Device.honest c.reach.new.volume) c.in-Ok-source_of.ensures.found c.in-Ok-reach.ensures.reached);
+  step = asked_after g.D.Device.honest g.D.Device.disk g.D.Device.size g.D.Device.failures g.D.Device.goes_on c.args.volume.now c.reach.new.volume c.reach-2.new.volume _ c.in-Ok-reach.ensures.works
+      (works_as g.D.Device.honest g.D.Device.disk g.D.Device.size g.D.Device.failures g.D.Device.goes_on c.reach.new.volume c.reach-2.new.volume c.in-Ok-reach-2.ensures.works);
+  works = works_on g.D.Device.honest g.D.Device.disk g.D.Device.size g.D.Device.failures g.D.Device.goes_on c.args.volume.now c.reach.new.volume c.reach-2.new.volume c.in-Ok-reach.ensures.works
+      (works_as g.D.Device.honest g.D.Device.disk g.D.Device.size g.D.Device.failures g.D.Device.goes_on c.reach.new.volume c.reach-2.new.volume c.in-Ok-reach-2.ensures.works);
+  source = entry_still g.D.Device.honest g.D.Device.disk g.D.Device.size g.D.Device.failures g.D.Device.goes_on c.reach.new.volume c.reach-2.new.volume c.in-Ok-source_of.source c.in-Ok-reach-2.ensures.works (subst (IsReached g.D.Device.honest c.reach.new.volume) c.in-Ok-source_of.ensures.found c.in-Ok-reach.ensures.reached);
   reached = c.in-Ok-reach-2.ensures.reached;
   place = λ h.
       let walked = c.in-Ok-reach-2.ensures in

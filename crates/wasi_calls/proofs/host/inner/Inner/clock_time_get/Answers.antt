@@ -11,7 +11,7 @@ pub returns : goal.returns
 returns g c =
     let s = c.args.self.now in
     let m = c.args.memory.now in
-    serves_plain g.D.Device.honest g.D.Device.disk g.D.Device.size g.D.Device.failures g.R.Read.remaining g.W1.Write.contents g.W2.Write.contents
+    serves_plain g.D.Device.honest g.D.Device.disk g.D.Device.size g.D.Device.failures g.D.Device.goes_on g.R.Read.remaining g.W1.Write.contents g.W2.Write.contents
     call.ClockTimeGet c.args.used c.args.arguments.now _ s s.descriptors s.settings m _ _ (λ o. refl) c.requires c.requires.settings refl (no_more (table_of s.descriptors))
     (λ b i. clock_time_get (world_of (state_of s) b) m c.args.used (sym c.word-id.ensures i) (sym c.word-result_at.ensures i))
     (λ b. c.clock_time_get.ensures (world_of (state_of s) b) refl)

@@ -12,7 +12,7 @@ pub returns : goal.returns
 returns g c = λ used.
     let s = c.args.self.now in
     let m = c.args.memory.now in
-    serves_plain g.D.Device.honest g.D.Device.disk g.D.Device.size g.D.Device.failures g.R.Read.remaining g.W1.Write.contents g.W2.Write.contents
+    serves_plain g.D.Device.honest g.D.Device.disk g.D.Device.size g.D.Device.failures g.D.Device.goes_on g.R.Read.remaining g.W1.Write.contents g.W2.Write.contents
     call.EnvironGet used c.args.arguments.now _ s s.descriptors s.settings m _ _ (λ o. refl) c.requires c.requires.settings refl (no_more (table_of s.descriptors))
     (λ b i. texts_get (texts_of s.settings.env.now) (world_of (state_of s) b) m (sym c.word-at.ensures i) (sym c.word-buffer.ensures i))
     (λ b. c.texts_get.ensures (world_of (state_of s) b))

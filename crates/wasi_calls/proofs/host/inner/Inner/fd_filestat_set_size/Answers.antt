@@ -9,7 +9,7 @@ use Rattle.wasi_calls.proofs.host.inner.Inner.fd_filestat_set_size.Goals as goal
 pub returns : goal.returns
 returns g c = λ m used.
     let s = c.args.self.now in
-    serves_volume g.D.Device.honest g.D.Device.disk g.D.Device.size g.D.Device.failures g.R.Read.remaining g.W1.Write.contents g.W2.Write.contents
+    serves_volume g.D.Device.honest g.D.Device.disk g.D.Device.size g.D.Device.failures g.D.Device.goes_on g.R.Read.remaining g.W1.Write.contents g.W2.Write.contents
     call.FdFilestatSetSize used c.args.arguments.now _ s c.set_size.new.volume m m _ refl c.set_size.ensures.io c.requires.set_up c.set_size.ensures.step
     (λ w i. fd_filestat_set_size w (sym c.descriptor-fd.ensures i) (sym c.long-size.ensures i))
     (λ h b. c.set_size.ensures.answered h (world_of (state_of s) b) m refl refl)

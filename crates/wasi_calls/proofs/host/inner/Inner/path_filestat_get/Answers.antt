@@ -10,7 +10,7 @@ pub returns : goal.returns
 returns g c = λ used.
     let s = c.args.self.now in
     let m = c.args.memory.now in
-    serves_volume g.D.Device.honest g.D.Device.disk g.D.Device.size g.D.Device.failures g.R.Read.remaining g.W1.Write.contents g.W2.Write.contents
+    serves_volume g.D.Device.honest g.D.Device.disk g.D.Device.size g.D.Device.failures g.D.Device.goes_on g.R.Read.remaining g.W1.Write.contents g.W2.Write.contents
     call.PathFilestatGet used c.args.arguments.now _ s c.path_filestat_get.new.volume m _ _ refl c.path_filestat_get.ensures.io c.requires.set_up c.path_filestat_get.ensures.step
     (λ w i. path_filestat_get w m (sym c.descriptor-fd.ensures i) (sym c.word-path.ensures i) (sym c.word-len.ensures i) (sym c.word-result_at.ensures i))
     (λ h b. c.path_filestat_get.ensures.answered h (world_of (state_of s) b) refl refl)

@@ -11,7 +11,7 @@ pub returns : goal.returns
 returns g c = λ used.
     let s = c.args.self.now in
     let m = c.args.memory.now in
-    serves_supplied g.D.Device.honest g.D.Device.disk g.D.Device.size g.D.Device.failures g.R.Read.remaining g.W1.Write.contents g.W2.Write.contents
+    serves_supplied g.D.Device.honest g.D.Device.disk g.D.Device.size g.D.Device.failures g.D.Device.goes_on g.R.Read.remaining g.W1.Write.contents g.W2.Write.contents
     call.RandomGet used c.args.arguments.now _ s s.descriptors (record s.settings { random = c.random_get.new.left }) c.random_get.new.generator m _ _ (λ o. refl) c.requires c.requires.settings refl (no_more (table_of s.descriptors))
     (λ b i. random_get (world_of (state_of s) b) m (sym c.word-buffer.ensures i) (sym c.word-len.ensures i))
     (λ b. c.random_get.ensures (world_of (state_of s) b) refl)
