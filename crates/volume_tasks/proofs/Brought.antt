@@ -16,7 +16,7 @@ pub opened_then : (a : Disk) (v : Superblock) (these : Tree → Type 0) (b d : D
 opened_then a v these b d T is opened next =
     any_after a v these b d v these refl (λ U part. part) (leaves_more a b (λ c. StandsAs c v T) (ReflectsAny a v these) (λ m stands. inr (T, is, stands)) opened) next
 
-module _ {D : Type 0} (honest : D → Type 0) (disk : D → Disk) (size failures : D → ℕ) (a b c : Opened D) (path : List ℕ) (directory : ℕ) (given : Option (List ℕ)) (asked : Asked honest disk size failures a b false) (is : honest a.device → directory_named a.tree path ≡ Ok directory) where
+module _ {D : Type 0} (honest : D → Type 0) (disk : D → Disk) (size failures : D → ℕ) (goes_on : ℕ → D → D → Type 0) (a b c : Opened D) (path : List ℕ) (directory : ℕ) (given : Option (List ℕ)) (asked : Asked honest disk size failures goes_on a b false) (is : honest a.device → directory_named a.tree path ≡ Ok directory) where
   pub part_left : (honest b.device → Leaves (disk b.device) (disk c.device) (ReflectsAny (disk b.device) b.numbers (IsPartOfImport (geometry b.numbers) b.tree directory given)))
       → honest a.device → Leaves (disk a.device) (disk c.device) (ReflectsAny (disk a.device) a.numbers (IsPartOfBringing a.numbers a.tree path given))
   part_left crash h =

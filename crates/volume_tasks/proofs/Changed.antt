@@ -8,7 +8,8 @@ use Rattle.vol_tree.specs.declared.errno.Errno.TheVariants as errno
 use Rattle.vol_tree.specs.declared.superblock.Superblock.{Superblock}
 use Rattle.vol_tree.specs.Tree.{Tree, Name, Directory, entry}
 use Rattle.vol_tree.specs.Calls.{created, with_unit}
-use Rattle.vol_tree.specs.Opened.{Opened, Answers, IsSerial, Keeps, ReflectsOr, is_io}
+use Rattle.vol_tree.specs.Opened.{Opened, Answers, IsSerial, Keeps, ReflectsOr, is_io, GoesOn}
+use Rattle.vol_tree.proofs.GoingOn.{goes_then}
 use Rattle.path_walk.specs.Paths.{◌>>=◌}
 use Rattle.path_walk.specs.Walk.{Asked, IsEntryOf}
 use Rattle.sandbox_words.specs.declared.request.Change.{Change}
@@ -29,36 +30,39 @@ Meaning = Tree → Result Tree Errno
 unit_refused : (r : Result Tree Errno) (e : Errno) → (r ≡ Err e) ⊎ (e ≡ errno.Io) → (with_unit r ≡ Err e) ⊎ (e ≡ errno.Io)
 unit_refused r e why = ⊎_elim (λ is. inl (ap with_unit is)) (λ io. inr io) why
 
-module _ {D : Type 0} (honest : D → Type 0) (disk : D → Disk) (size failures : D → ℕ) where
+module _ {D : Type 0} (honest : D → Type 0) (disk : D → Disk) (size failures : D → ℕ) (goes_on : ℕ → D → D → Type 0) where
   -- what is meant is said otherwise
   pub means : (m n : Meaning) (a b : Opened D) (r : Result (Unit {0}) Errno) → (honest a.device → m a.tree ≡ n a.tree)
-      → Changed honest disk size failures m a b r → Changed honest disk size failures n a b r
+      → Changed honest disk size failures goes_on m a b r → Changed honest disk size failures goes_on n a b r
   means m n a b r same done = record {
     answer = λ h. subst (λ (meant : Result Tree Errno). Answers (with_unit meant) a.tree b.tree r) (same h) (done.answer h);
     crash = done.crash;
     kept = done.kept;
+    goes = done.goes;
   }
 
   -- a change after others that only asked
-  pub asked_first : (m : Meaning) (a b c : Opened D) (r : Result (Unit {0}) Errno) → Asked honest disk size failures a b false
-      → Changed honest disk size failures m b c r → Changed honest disk size failures m a c r
+  pub asked_first : (m : Meaning) (a b c : Opened D) (r : Result (Unit {0}) Errno) → Asked honest disk size failures goes_on a b false
+      → Changed honest disk size failures goes_on m b c r → Changed honest disk size failures goes_on m a c r
   asked_first m a b c r asked done = record {
     answer = λ h. subst (λ (T : Tree). Answers (with_unit (m T)) T c.tree r) (asked.tree h) (done.answer (asked.kept.honest.0 h));
     crash = λ h. quiet_or (disk a.device) (disk b.device) (disk c.device) a.numbers b.numbers a.tree b.tree asked.kept.numbers (asked.tree h) (asked.crash h) (done.crash (asked.kept.honest.0 h));
     kept = keeps_then honest size failures a b c (is_io r) asked.kept done.kept;
+    goes = goes_then goes_on a b c asked.kept.numbers asked.goes done.goes;
   }
 
   -- a change that is refused before it begins
-  pub refused : (m : Meaning) (a b : Opened D) (e : Errno) → Asked honest disk size failures a b (is_io {X = Unit {0}} (Err e)) → (honest a.device → (m a.tree ≡ Err e) ⊎ (e ≡ errno.Io))
-      → Changed honest disk size failures m a b (Err e)
+  pub refused : (m : Meaning) (a b : Opened D) (e : Errno) → Asked honest disk size failures goes_on a b (is_io {X = Unit {0}} (Err e)) → (honest a.device → (m a.tree ≡ Err e) ⊎ (e ≡ errno.Io))
+      → Changed honest disk size failures goes_on m a b (Err e)
   refused m a b e asked why = record {
     answer = λ h. (asked.tree h, unit_refused (m a.tree) e (why h));
     crash = λ h. leaves_more (disk a.device) (disk b.device) (λ c. ⊥) (ReflectsOr (disk a.device) a.numbers a.tree) (λ c none. absurd none) (asked.crash h);
     kept = asked.kept;
+    goes = asked.goes;
   }
 
   -- nothing was asked yet
-  pub asked_nothing : (a : Opened D) → a.failed ≡ false → Asked honest disk size failures a a false
+  pub asked_nothing : (a : Opened D) → a.failed ≡ false → Asked honest disk size failures goes_on a a false
   asked_nothing a working = record {
     tree = λ h. refl;
     crash = λ h. leaves_same (disk a.device) (λ c. ⊥);
@@ -70,42 +74,45 @@ module _ {D : Type 0} (honest : D → Type 0) (disk : D → Disk) (size failures
       honest = (λ h. h, λ h. h);
       size = refl;
     };
+    goes = λ end le first from. from;
   }
 
   -- an entry is one still
-  pub entry_kept : (a b : Opened D) (s : ℕ) → Asked honest disk size failures a b false → IsEntryOf honest a s → IsEntryOf honest b s
+  pub entry_kept : (a b : Opened D) (s : ℕ) → Asked honest disk size failures goes_on a b false → IsEntryOf honest a s → IsEntryOf honest b s
   entry_kept a b s asked is = record {
     number = subst (λ (v : Superblock). IsSerial v s) (sym asked.kept.numbers) is.number;
     used = λ h. let before = asked.kept.honest.1 h in subst (λ (T : Tree). IsSome (entry T s)) (sym (asked.tree before)) (is.used before);
   }
 
   -- the same where it goes on as an error
-  pub refused_on : (m : Meaning) (a b : Opened D) (e : Errno) (r : Result (Unit {0}) Errno) → Asked honest disk size failures a b (is_io {X = Unit {0}} (Err e))
-      → (honest a.device → (m a.tree ≡ Err e) ⊎ (e ≡ errno.Io)) → IsErrAnd r (λ f. f ≡ e) → Changed honest disk size failures m a b r
+  pub refused_on : (m : Meaning) (a b : Opened D) (e : Errno) (r : Result (Unit {0}) Errno) → Asked honest disk size failures goes_on a b (is_io {X = Unit {0}} (Err e))
+      → (honest a.device → (m a.tree ≡ Err e) ⊎ (e ≡ errno.Io)) → IsErrAnd r (λ f. f ≡ e) → Changed honest disk size failures goes_on m a b r
   refused_on m a b e (Ok x) asked why err = absurd err
-  refused_on m a b e (Err f) asked why err = subst (λ (d : Errno). Changed honest disk size failures m a b (Err d)) (sym err) (refused m a b e asked why)
+  refused_on m a b e (Err f) asked why err = subst (λ (d : Errno). Changed honest disk size failures goes_on m a b (Err d)) (sym err) (refused m a b e asked why)
 
   -- a directory was made, or that was refused
   abbrev made_in : ℕ → Name → Meaning
   made_in parent name T = created T parent name Directory >>= λ made. Ok made.0
 
   pub created_ok : (parent : ℕ) (name : Name) (a b : Opened D) (serial : ℕ) → (honest a.device → Answers (created a.tree parent name Directory) a.tree b.tree (Ok serial))
-      → (honest a.device → Leaves (disk a.device) (disk b.device) (ReflectsOr (disk a.device) a.numbers a.tree)) → Keeps honest size failures a b false
-      → Changed honest disk size failures (made_in parent name) a b (Ok tt)
-  created_ok parent name a b serial answer crash kept = record {
+      → (honest a.device → Leaves (disk a.device) (disk b.device) (ReflectsOr (disk a.device) a.numbers a.tree)) → Keeps honest size failures a b false → GoesOn goes_on a b
+      → Changed honest disk size failures goes_on (made_in parent name) a b (Ok tt)
+  created_ok parent name a b serial answer crash kept goes = record {
     answer = λ h. ap (λ (r : Result (Tree × ℕ) Errno). with_unit (r >>= λ made. Ok made.0)) (answer h);
     crash = crash;
     kept = kept;
+    goes = goes;
   }
 
   pub created_err : (parent : ℕ) (name : Name) (a b : Opened D) (e : Errno) (r : Result (Unit {0}) Errno) → (honest a.device → Answers (created a.tree parent name Directory) a.tree b.tree (Err e))
-      → (honest a.device → Leaves (disk a.device) (disk b.device) (ReflectsOr (disk a.device) a.numbers a.tree)) → Keeps honest size failures a b (is_io {X = Unit {0}} (Err e)) → IsErrAnd r (λ f. f ≡ e)
-      → Changed honest disk size failures (made_in parent name) a b r
-  created_err parent name a b e (Ok x) answer crash kept err = absurd err
-  created_err parent name a b e (Err f) answer crash kept err = subst (λ (d : Errno). Changed honest disk size failures (made_in parent name) a b (Err d)) (sym err) (record {
+      → (honest a.device → Leaves (disk a.device) (disk b.device) (ReflectsOr (disk a.device) a.numbers a.tree)) → Keeps honest size failures a b (is_io {X = Unit {0}} (Err e)) → GoesOn goes_on a b → IsErrAnd r (λ f. f ≡ e)
+      → Changed honest disk size failures goes_on (made_in parent name) a b r
+  created_err parent name a b e (Ok x) answer crash kept goes err = absurd err
+  created_err parent name a b e (Err f) answer crash kept goes err = subst (λ (d : Errno). Changed honest disk size failures goes_on (made_in parent name) a b (Err d)) (sym err) (record {
     answer = λ h. let (same, why) = answer h in (same, ⊎_elim (λ is. inl (ap (λ (r : Result (Tree × ℕ) Errno). with_unit (r >>= λ made. Ok made.0)) is)) (λ io. inr io) why);
     crash = crash;
     kept = kept;
+    goes = goes;
   })
 
 -- ---- and then a sync

@@ -6,7 +6,8 @@ use Rattle.vol_tree.specs.declared.errno.Errno.{Errno}
 use Rattle.vol_tree.specs.declared.errno.Errno.TheVariants as errno
 use Rattle.vol_tree.specs.Tree.{Tree, IsTree, changed, entry}
 use Rattle.vol_tree.specs.Calls.{parent_at, with_unit}
-use Rattle.vol_tree.specs.Opened.{Opened, Answers, Keeps, ReflectsOr, is_io}
+use Rattle.vol_tree.specs.Opened.{Opened, Answers, Keeps, ReflectsOr, is_io, GoesOn}
+use Rattle.vol_tree.proofs.GoingOn.{goes_then}
 use Rattle.path_walk.specs.Paths.{◌>>=◌}
 use Rattle.path_walk.specs.Walk.{Asked}
 use Rattle.volume_tasks.specs.Tasks.{ReflectsAny, serial_named}
@@ -30,20 +31,21 @@ part_of : (T U : Tree) (r : Result (Unit {0}) Errno) (meant : Result Tree Errno)
 part_of T U (Ok x) meant P same ok done = ok
 part_of T U (Err e) meant P same ok done = subst P (sym done.0) same
 
-module _ {D : Type 0} (honest : D → Type 0) (disk : D → Disk) (size failures : D → ℕ) where
+module _ {D : Type 0} (honest : D → Type 0) (disk : D → Disk) (size failures : D → ℕ) (goes_on : ℕ → D → D → Type 0) where
   -- a change by one call
   pub applies : (m : Meaning) (P : Tree → Tree → Type 0) (a b : Opened D) (r : Result (Unit {0}) Errno) → P a.tree a.tree → (honest a.device → OnOk r (P a.tree b.tree))
-      → Changed honest disk size failures m a b r → Applied honest disk size failures m P a b r
+      → Changed honest disk size failures goes_on m a b r → Applied honest disk size failures goes_on m P a b r
   applies m P a b r same ok done = record {
     answer = λ h. answer_of (m a.tree) a.tree b.tree r (done.answer h);
     part = λ h. part_of a.tree b.tree r (m a.tree) (P a.tree) same (ok h) (done.answer h);
     crash = λ h. any_then (disk a.device) a.numbers (P a.tree) (disk a.device) (disk b.device) a.numbers a.tree refl same (any_same (disk a.device) a.numbers (P a.tree)) (done.crash h);
     kept = done.kept;
+    goes = done.goes;
   }
 
   -- of which a stop leaves the tree before it, or the one that is meant
-  pub applies_or_not : (m : Meaning) (a b : Opened D) (r : Result (Unit {0}) Errno) → Changed honest disk size failures m a b r
-      → Applied honest disk size failures m (λ T U. (U ≡ T) ⊎ (m T ≡ Ok U)) a b r
+  pub applies_or_not : (m : Meaning) (a b : Opened D) (r : Result (Unit {0}) Errno) → Changed honest disk size failures goes_on m a b r
+      → Applied honest disk size failures goes_on m (λ T U. (U ≡ T) ⊎ (m T ≡ Ok U)) a b r
   applies_or_not m a b r done = applies m (λ T U. (U ≡ T) ⊎ (m T ≡ Ok U)) a b r (inl refl) (λ h. made r (done.answer h)) done
     where
       made : (r : Result (Unit {0}) Errno) → Answers (with_unit (m a.tree)) a.tree b.tree r → OnOk r ((b.tree ≡ a.tree) ⊎ (m a.tree ≡ Ok b.tree))
@@ -51,8 +53,8 @@ module _ {D : Type 0} (honest : D → Type 0) (disk : D → Disk) (size failures
       made (Err e) is = tt
 
   -- one after others that only asked, where the same is said otherwise
-  pub applied_after : (m n : Meaning) (P Q : Tree → Tree → Type 0) (a b c : Opened D) (r : Result (Unit {0}) Errno) → Asked honest disk size failures a b false → (honest a.device → m a.tree ≡ n a.tree)
-      → (honest a.device → (U : Tree) → P a.tree U → Q a.tree U) → Applied honest disk size failures m P b c r → Applied honest disk size failures n Q a c r
+  pub applied_after : (m n : Meaning) (P Q : Tree → Tree → Type 0) (a b c : Opened D) (r : Result (Unit {0}) Errno) → Asked honest disk size failures goes_on a b false → (honest a.device → m a.tree ≡ n a.tree)
+      → (honest a.device → (U : Tree) → P a.tree U → Q a.tree U) → Applied honest disk size failures goes_on m P b c r → Applied honest disk size failures goes_on n Q a c r
   applied_after m n P Q a b c r asked same more done = record {
     answer = λ h. subst (λ (meant : Result Tree Errno). AnswersOrStops meant a.tree c.tree r) (same h)
         (subst (λ (T : Tree). AnswersOrStops (m T) T c.tree r) (asked.tree h) (done.answer (asked.kept.honest.0 h)));
@@ -62,18 +64,20 @@ module _ {D : Type 0} (honest : D → Type 0) (disk : D → Disk) (size failures
         (leaves_more (disk a.device) (disk b.device) (λ x. ⊥) (ReflectsAny (disk a.device) a.numbers (Q a.tree)) (λ x none. absurd none) (asked.crash h))
         (done.crash (asked.kept.honest.0 h));
     kept = keeps_then honest size failures a b c (is_io r) asked.kept done.kept;
+    goes = goes_then goes_on a b c asked.kept.numbers asked.goes done.goes;
   }
 
   -- one that the device stops
-  pub stopped : (m : Meaning) (P : Tree → Tree → Type 0) (a b c : Opened D) (e : Errno) (r : Result (Unit {0}) Errno) → Keeps honest size failures a b false → Keeps honest size failures b c (is_io {X = Unit {0}} (Err e))
+  pub stopped : (m : Meaning) (P : Tree → Tree → Type 0) (a b c : Opened D) (e : Errno) (r : Result (Unit {0}) Errno) → Keeps honest size failures a b false → Keeps honest size failures b c (is_io {X = Unit {0}} (Err e)) → GoesOn goes_on a b → GoesOn goes_on b c
       → (honest a.device → e ≡ errno.Io) → (honest a.device → P a.tree c.tree) → (honest a.device → Leaves (disk a.device) (disk c.device) (ReflectsAny (disk a.device) a.numbers (P a.tree)))
-      → IsErrAnd r (λ f. f ≡ e) → Applied honest disk size failures m P a c r
-  stopped m P a b c e (Ok x) first next io part crash err = absurd err
-  stopped m P a b c e (Err f) first next io part crash err = subst (λ (d : Errno). Applied honest disk size failures m P a c (Err d)) (sym err) (record {
+      → IsErrAnd r (λ f. f ≡ e) → Applied honest disk size failures goes_on m P a c r
+  stopped m P a b c e (Ok x) first next goes on io part crash err = absurd err
+  stopped m P a b c e (Err f) first next goes on io part crash err = subst (λ (d : Errno). Applied honest disk size failures goes_on m P a c (Err d)) (sym err) (record {
     answer = λ h. inr (io h);
     part = part;
     crash = crash;
     kept = keeps_then honest size failures a b c (is_io {X = Unit {0}} (Err e)) first next;
+    goes = goes_then goes_on a b c first.numbers goes on;
   })
 
 -- ---- the tree of a path
@@ -120,15 +124,15 @@ turned T top U M V here leaf next turns amid t other used at same there done =
       last = λ same. ap Ok (sym (amid_last T top M here turns leaf amid_now t other used at_now there same) ∙ is.0);
     }
 
-module _ {D : Type 0} (honest : D → Type 0) (disk : D → Disk) (size failures : D → ℕ) (a b c : Opened D) (these : Tree → Type 0) (numbers : b.numbers ≡ a.numbers) (h : honest b.device) where
+module _ {D : Type 0} (honest : D → Type 0) (disk : D → Disk) (size failures : D → ℕ) (goes_on : ℕ → D → D → Type 0) (a b c : Opened D) (these : Tree → Type 0) (numbers : b.numbers ≡ a.numbers) (h : honest b.device) where
   -- a step that only asks leaves nothing else
-  pub quiet_left : (io : Bool) → Asked honest disk size failures b c io → Leaves (disk a.device) (disk b.device) (ReflectsAny (disk a.device) a.numbers these) → Leaves (disk a.device) (disk c.device) (ReflectsAny (disk a.device) a.numbers these)
+  pub quiet_left : (io : Bool) → Asked honest disk size failures goes_on b c io → Leaves (disk a.device) (disk b.device) (ReflectsAny (disk a.device) a.numbers these) → Leaves (disk a.device) (disk c.device) (ReflectsAny (disk a.device) a.numbers these)
   quiet_left io asked first =
       any_after (disk a.device) a.numbers these (disk b.device) (disk c.device) b.numbers (λ U. ⊥) numbers (λ U none. absurd none) first
       (leaves_more (disk b.device) (disk c.device) (λ x. ⊥) (ReflectsAny (disk b.device) b.numbers (λ U. ⊥)) (λ x none. absurd none) (asked.crash h))
 
   -- and then one that changes the tree
-  pub turn_left : (d : Opened D) → Asked honest disk size failures b c false → these b.tree → Leaves (disk a.device) (disk b.device) (ReflectsAny (disk a.device) a.numbers these)
+  pub turn_left : (d : Opened D) → Asked honest disk size failures goes_on b c false → these b.tree → Leaves (disk a.device) (disk b.device) (ReflectsAny (disk a.device) a.numbers these)
       → Leaves (disk c.device) (disk d.device) (ReflectsOr (disk c.device) c.numbers c.tree) → Leaves (disk a.device) (disk d.device) (ReflectsAny (disk a.device) a.numbers these)
   turn_left d asked is first next =
       any_then (disk a.device) a.numbers these (disk c.device) (disk d.device) c.numbers c.tree (asked.kept.numbers ∙ numbers) (subst these (sym (asked.tree h)) is) (quiet_left false asked first) next

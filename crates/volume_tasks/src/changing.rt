@@ -6,7 +6,7 @@ ghost use Rattle.vol_tree.specs.Stands.{StandsAs};
 ghost use Rattle.vol_inode.specs.Name.{IsName};
 ghost use Rattle.vol_tree.specs.Tree.{IsDirectory};
 ghost use Rattle.vol_tree.specs.Calls.{renamed, name_at, parent_at};
-ghost use Rattle.vol_tree.specs.Opened.{Keeps};
+ghost use Rattle.vol_tree.specs.Opened.{Keeps, GoesOn};
 ghost use Rattle.path_walk.specs.Paths.{Missing};
 ghost use Rattle.path_walk.specs.Walk.{IsEntryOf, IsReached, reached_as};
 ghost use Rattle.volume_tasks.specs.Tasks.{ReflectsAny};
@@ -28,7 +28,7 @@ use vol_tree::{Errno, Serial, Volume};
 /// Makes the directory that a path misses; one that is there is refused with 20.
 fn make_directory<D: Device>(volume: &mut Volume<D>, path: &str) -> Result<(), Errno>
     requires { IsWorking volume.old }
-    ensures { Changed D.honest D.disk D.size D.failures (λ T. directory_made T path.now)
+    ensures { Changed D.honest D.disk D.size D.failures D.goes_on (λ T. directory_made T path.now)
         volume.old volume.new result }
 {
     let (found, _) = reached(volume, path)?;
@@ -44,7 +44,7 @@ fn make_directory<D: Device>(volume: &mut Volume<D>, path: &str) -> Result<(), E
 /// Removes the file of a path, or the directory, where it is empty and not the root.
 fn remove<D: Device>(volume: &mut Volume<D>, path: &str) -> Result<(), Errno>
     requires { IsWorking volume.old }
-    ensures { Changed D.honest D.disk D.size D.failures (λ T. entry_removed T path.now)
+    ensures { Changed D.honest D.disk D.size D.failures D.goes_on (λ T. entry_removed T path.now)
         volume.old volume.new result }
 {
     let (serial, is_directory) = entry_named(volume, path)?;
@@ -59,7 +59,7 @@ fn remove<D: Device>(volume: &mut Volume<D>, path: &str) -> Result<(), Errno>
 fn replace_root<D: Device>(volume: &mut Volume<D>, source: Serial) -> Result<(), Errno>
     requires working { IsWorking volume.old }
     requires source { IsEntryOf D.honest volume.old source }
-    ensures { Changed D.honest D.disk D.size D.failures
+    ensures { Changed D.honest D.disk D.size D.failures D.goes_on
         (λ T. renamed T source (parent_at T 1) (name_at T 1)) volume.old volume.new result }
 {
     volume.is_a_tree();
@@ -78,7 +78,7 @@ fn move_onto<D: Device>(volume: &mut Volume<D>, source: Serial, target: Serial) 
     requires working { IsWorking volume.old }
     requires source { IsEntryOf D.honest volume.old source }
     requires target { IsEntryOf D.honest volume.old target }
-    ensures { Changed D.honest D.disk D.size D.failures
+    ensures { Changed D.honest D.disk D.size D.failures D.goes_on
         (λ T. renamed T source (parent_at T target) (name_at T target)) volume.old volume.new result }
 {
     if target == Serial::ROOT {
@@ -105,7 +105,7 @@ fn move_into<D: Device>(
     requires parent { IsEntryOf D.honest volume.old parent }
     requires name { IsName name.now }
     requires directory { D.honest volume.old.device → IsDirectory volume.old.tree parent }
-    ensures { Changed D.honest D.disk D.size D.failures
+    ensures { Changed D.honest D.disk D.size D.failures D.goes_on
         (λ T. moved_to T source (Missing parent name.now, wants_dir)) volume.old volume.new result }
 {
     let is_directory = is_directory(volume, source)?;
@@ -126,7 +126,7 @@ fn move_to<D: Device>(
     requires source { IsEntryOf D.honest volume.old source }
     requires reached { IsReached D.honest volume.old target }
     requires place { D.honest volume.old.device → IsPlace volume.old.tree (reached_as target) }
-    ensures { Changed D.honest D.disk D.size D.failures
+    ensures { Changed D.honest D.disk D.size D.failures D.goes_on
         (λ T. moved_to T source (reached_as target.entry, wants_dir)) volume.old volume.new result }
 {
     match target {
@@ -141,7 +141,7 @@ fn move_to<D: Device>(
 /// be there.
 fn move_entry<D: Device>(volume: &mut Volume<D>, from: &str, to: &str) -> Result<(), Errno>
     requires { IsWorking volume.old }
-    ensures { Changed D.honest D.disk D.size D.failures (λ T. entry_moved T from.now to.now)
+    ensures { Changed D.honest D.disk D.size D.failures D.goes_on (λ T. entry_moved T from.now to.now)
         volume.old volume.new result }
 {
     let (source, _) = reached(volume, from)?;
@@ -155,7 +155,7 @@ fn move_entry<D: Device>(volume: &mut Volume<D>, from: &str, to: &str) -> Result
 /// Does a change, which a sync makes last.
 fn apply<D: Device>(volume: &mut Volume<D>, change: Change<'_>) -> Result<(), Errno>
     requires { IsWorking volume.old }
-    ensures { Applied D.honest D.disk D.size D.failures (λ T. meant T change.entry)
+    ensures { Applied D.honest D.disk D.size D.failures D.goes_on (λ T. meant T change.entry)
         (λ T. IsPartOfChange T change.entry) volume.old volume.new result }
 {
     match change {
@@ -174,6 +174,7 @@ pub(crate) fn change_tree<D: Device>(
 ) -> Result<(), Failure>
     requires { IsWorking volume.old }
     ensures kept { Keeps D.honest D.size D.failures volume.old volume.new (blames_device result) }
+    ensures goes_on { GoesOn D.goes_on volume.old volume.new }
     ensures changes { D.honest volume.old.device
         → Changes volume.old.tree change.entry volume.new.tree result }
     ensures crash { D.honest volume.old.device

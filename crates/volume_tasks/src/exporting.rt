@@ -48,7 +48,7 @@ fn print_directory<D: Device, W: Write>(
     out: &mut W,
 ) -> Result<(), ExportFailure>
     requires { IsWorking volume.old }
-    ensures asked { Asked D.honest D.disk D.size D.failures volume.old volume.new
+    ensures asked { Asked D.honest D.disk D.size D.failures D.goes_on volume.old volume.new
         (blames_export result) }
     ensures prints { D.honest volume.old.device → PrintsDirectory volume.old.tree path.now
         (W.contents out.old) (W.contents out.new) result }

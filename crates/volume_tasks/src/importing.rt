@@ -2,7 +2,7 @@
 
 ghost use Rattle.std.specs.Prelude.{◌≡◌, OnErr, OnOk};
 ghost use Rattle.vol_sector.specs.Disk.{Image, Leaves};
-ghost use Rattle.vol_tree.specs.Opened.{Keeps};
+ghost use Rattle.vol_tree.specs.Opened.{Keeps, GoesOn};
 ghost use Rattle.vol_tree.specs.Stands.{StandsAs};
 ghost use Rattle.volume_tasks.specs.declared.importing.ImportFailure.TheVariants.{Path, Halted};
 ghost use Rattle.volume_tasks.specs.Importing.{Brings, IsPartOfBringing, PerformsImport, blames_import};
@@ -52,6 +52,7 @@ fn bring<D: Device, R: Read>(
 ) -> Result<u64, ImportFailure>
     requires { IsWorking volume.old }
     ensures kept { Keeps D.honest D.size D.failures volume.old volume.new (blames_import result) }
+    ensures goes_on { GoesOn D.goes_on volume.old volume.new }
     ensures brings { D.honest volume.old.device
         → Brings volume.old.numbers volume.old.tree path.now (R.remaining input.old)
         (R.remaining input.new) volume.new.tree result }

@@ -4,7 +4,7 @@ ghost use Rattle.std.specs.Prelude.{◌≡◌, ◌≢◌, true, Ok, None, IfOk, 
 ghost use Rattle.vol_sector.specs.Disk.{Leaves};
 ghost use Rattle.vol_tree.specs.Tree.{changed, is_empty};
 ghost use Rattle.vol_tree.specs.Calls.{parent_at};
-ghost use Rattle.vol_tree.specs.Opened.{Answers, IsSerial, Keeps, ReflectsOr, is_io};
+ghost use Rattle.vol_tree.specs.Opened.{Answers, IsSerial, Keeps, GoesOn, ReflectsOr, is_io};
 ghost use Rattle.path_walk.specs.Walk.{Asked, IsEntryOf};
 ghost use Rattle.volume_tasks.specs.Changes.{IsPartOfRemoval, IsThinned, tree_removed, without};
 ghost use Rattle.volume_tasks.specs.internal.Changing.{Applied, IsLeafBelow};
@@ -20,7 +20,8 @@ use vol_tree::{Errno, Serial, Volume};
 fn leaf_below<D: Device>(volume: &mut Volume<D>, from: Serial) -> Result<Serial, Errno>
     requires working { IsWorking volume.old }
     requires from { IsEntryOf D.honest volume.old from }
-    ensures asked { Asked D.honest D.disk D.size D.failures volume.old volume.new (is_io result) }
+    ensures asked { Asked D.honest D.disk D.size D.failures D.goes_on volume.old volume.new
+        (is_io result) }
     ensures entry { IfOk result (IsEntryOf D.honest volume.new) }
     ensures answer { D.honest volume.old.device → MatchResult result
         (IsLeafBelow volume.old.tree from) (λ e. e ≡ Errno.Io) }
@@ -49,6 +50,7 @@ fn remove_leaf<D: Device>(volume: &mut Volume<D>, leaf: Serial) -> Result<Serial
         → Leaves (D.disk volume.old.device) (D.disk volume.new.device)
         (ReflectsOr (D.disk volume.old.device) volume.old.numbers volume.old.tree) }
     ensures kept { Keeps D.honest D.size D.failures volume.old volume.new (is_io result) }
+    ensures goes_on { GoesOn D.goes_on volume.old volume.new }
     ensures range { IfOk result (IsSerial volume.old.numbers) }
 {
     volume.is_a_tree();
@@ -65,7 +67,7 @@ fn remove_tree<D: Device>(volume: &mut Volume<D>, top: Serial) -> Result<(), Err
     requires working { IsWorking volume.old }
     requires top { IsEntryOf D.honest volume.old top }
     requires root { top ≢ 1 }
-    ensures { Applied D.honest D.disk D.size D.failures (λ T. Ok (without T top))
+    ensures { Applied D.honest D.disk D.size D.failures D.goes_on (λ T. Ok (without T top))
         (λ T. IsThinned T top) volume.old volume.new result }
 {
     volume.is_a_tree(); // a law: there are no more entries than slots
@@ -83,7 +85,7 @@ fn remove_tree<D: Device>(volume: &mut Volume<D>, top: Serial) -> Result<(), Err
 /// Removes the entry of a path and all below it. The root stays, with all that is there.
 pub(crate) fn remove_all<D: Device>(volume: &mut Volume<D>, path: &str) -> Result<(), Errno>
     requires { IsWorking volume.old }
-    ensures { Applied D.honest D.disk D.size D.failures (λ T. tree_removed T path.now)
+    ensures { Applied D.honest D.disk D.size D.failures D.goes_on (λ T. tree_removed T path.now)
         (λ T. IsPartOfRemoval T path.now) volume.old volume.new result }
 {
     let top = serial_named(volume, path)?;

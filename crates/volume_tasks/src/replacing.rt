@@ -3,7 +3,7 @@
 ghost use Rattle.std.specs.Prelude.{◌≡◌, ◌++◌, Err, IfErr, IfOk, OnOk, codes, false, string_bytes};
 ghost use Rattle.vol_sector.specs.Disk.{Image, Leaves};
 ghost use Rattle.vol_tree.specs.Stands.{StandsAs};
-ghost use Rattle.vol_tree.specs.Opened.{Keeps, is_io};
+ghost use Rattle.vol_tree.specs.Opened.{Keeps, GoesOn, is_io};
 ghost use Rattle.path_walk.specs.Walk.{Asked};
 ghost use Rattle.volume_tasks.specs.Blame.{blames_device};
 ghost use Rattle.volume_tasks.specs.Changes.{entry_removed};
@@ -37,7 +37,8 @@ fn path_beside(alloc: Global, path: &str) -> Result<String, AllocError>
 /// Refuses a path that is neither that of a file nor of an entry that isn't there.
 fn ask_place<D: Device>(volume: &mut Volume<D>, path: &str) -> Result<(), Errno>
     requires { IsWorking volume.old }
-    ensures asked { Asked D.honest D.disk D.size D.failures volume.old volume.new (is_io result) }
+    ensures asked { Asked D.honest D.disk D.size D.failures D.goes_on volume.old volume.new
+        (is_io result) }
     ensures place { D.honest volume.old.device
         → OnOk result (IsFilesPlace volume.old.tree path.now) }
     ensures refused { D.honest volume.old.device
@@ -54,6 +55,7 @@ fn take_back<D: Device>(volume: &mut Volume<D>, beside: &str, failure: Failure) 
     requires working { IsWorking volume.old }
     requires blameless { blames_device (Err failure) ≡ false }
     ensures kept { Keeps D.honest D.size D.failures volume.old volume.new (blames_device (Err result)) }
+    ensures goes_on { GoesOn D.goes_on volume.old volume.new }
     ensures back { D.honest volume.old.device
         → TakesBack volume.old.tree beside.now volume.new.tree failure result }
     ensures crash { D.honest volume.old.device
@@ -78,6 +80,7 @@ fn write_beside<D: Device, R: Read>(
 ) -> Result<(), Failure>
     requires { IsWorking volume.old }
     ensures kept { Keeps D.honest D.size D.failures volume.old volume.new (blames_device result) }
+    ensures goes_on { GoesOn D.goes_on volume.old volume.new }
     ensures writes { D.honest volume.old.device
         → WritesBeside volume.old.numbers volume.old.tree beside.now path.now
         (R.remaining input.old) (R.remaining input.new) volume.new.tree result }
@@ -112,6 +115,7 @@ pub(crate) fn put_whole<D: Device, R: Read>(
 ) -> Result<(), Failure>
     requires { IsWorking volume.old }
     ensures kept { Keeps D.honest D.size D.failures volume.old volume.new (blames_device result) }
+    ensures goes_on { GoesOn D.goes_on volume.old volume.new }
     ensures puts { D.honest volume.old.device
         → PutsWhole volume.old.numbers volume.old.tree path.now (R.remaining input.old)
         (R.remaining input.new) volume.new.tree result }

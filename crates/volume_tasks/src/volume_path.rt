@@ -23,7 +23,8 @@ pub(crate) fn reached<'p, D: Device>(
     requires { IsWorking volume.old }
     ensures answer { D.honest volume.old.device
         → GivesBoth (reached volume.old.tree path.now) result }
-    ensures asked { Asked D.honest D.disk D.size D.failures volume.old volume.new (is_io result) }
+    ensures asked { Asked D.honest D.disk D.size D.failures D.goes_on volume.old volume.new
+        (is_io result) }
     ensures reached { IfOk result (λ r. IsReached D.honest volume.new r.0) }
 {
     match path.as_bytes() {
@@ -37,7 +38,8 @@ pub(crate) fn serial_named<D: Device>(volume: &mut Volume<D>, path: &str) -> Res
     requires { IsWorking volume.old }
     ensures answer { D.honest volume.old.device
         → Answered (serial_named volume.old.tree path.now) result }
-    ensures asked { Asked D.honest D.disk D.size D.failures volume.old volume.new (is_io result) }
+    ensures asked { Asked D.honest D.disk D.size D.failures D.goes_on volume.old volume.new
+        (is_io result) }
     ensures entry { IfOk result (IsEntryOf D.honest volume.new) }
 {
     match reached(volume, path)? {
@@ -54,7 +56,8 @@ pub(crate) fn entry_named<D: Device>(
     requires { IsWorking volume.old }
     ensures answer { D.honest volume.old.device
         → Answered (entry_named volume.old.tree path.now) result }
-    ensures asked { Asked D.honest D.disk D.size D.failures volume.old volume.new (is_io result) }
+    ensures asked { Asked D.honest D.disk D.size D.failures D.goes_on volume.old volume.new
+        (is_io result) }
     ensures entry { IfOk result (λ r. IsEntryOf D.honest volume.new r.0) }
     ensures kind { D.honest volume.old.device
         → IfOk result (λ r. r.1 ≡ directory_at volume.new.tree r.0) }
@@ -72,7 +75,8 @@ pub(crate) fn directory_named<D: Device>(
     requires { IsWorking volume.old }
     ensures answer { D.honest volume.old.device
         → Answered (directory_named volume.old.tree path.now) result }
-    ensures asked { Asked D.honest D.disk D.size D.failures volume.old volume.new (is_io result) }
+    ensures asked { Asked D.honest D.disk D.size D.failures D.goes_on volume.old volume.new
+        (is_io result) }
     ensures entry { IfOk result (IsEntryOf D.honest volume.new) }
 {
     match entry_named(volume, path)? {
@@ -86,7 +90,8 @@ pub(crate) fn file_named<D: Device>(volume: &mut Volume<D>, path: &str) -> Resul
     requires { IsWorking volume.old }
     ensures answer { D.honest volume.old.device
         → Answered (file_named volume.old.tree path.now) result }
-    ensures asked { Asked D.honest D.disk D.size D.failures volume.old volume.new (is_io result) }
+    ensures asked { Asked D.honest D.disk D.size D.failures D.goes_on volume.old volume.new
+        (is_io result) }
     ensures entry { IfOk result (IsEntryOf D.honest volume.new) }
     ensures file { D.honest volume.old.device
         → IfOk result (λ serial. directory_at volume.new.tree serial ≡ false) }

@@ -8,14 +8,15 @@ use Rattle.vol_tree.specs.declared.errno.Errno.TheVariants as errno
 use Rattle.vol_tree.specs.Tree.{Tree, Name, IsDirectory, is_empty}
 use Rattle.vol_tree.specs.PathLaws.{IsBelow}
 use Rattle.vol_tree.specs.Calls.{with_unit}
-use Rattle.vol_tree.specs.Opened.{Opened, Answers, Keeps, ReflectsOr, is_io}
+use Rattle.vol_tree.specs.Opened.{Opened, Answers, Keeps, GoesOn, ReflectsOr, is_io}
 use Rattle.path_walk.specs.Paths.{Reached, Missing}
 use Rattle.volume_tasks.specs.Tasks.{ReflectsAny}
 
-pub record Changed {D : Type 0} (honest : D → Type 0) (disk : D → Disk) (size failures : D → ℕ) (meant : Tree → Result Tree Errno) (old new : Opened D) (result : Result (Unit {0}) Errno) : Type 0 where
+pub record Changed {D : Type 0} (honest : D → Type 0) (disk : D → Disk) (size failures : D → ℕ) (goes_on : ℕ → D → D → Type 0) (meant : Tree → Result Tree Errno) (old new : Opened D) (result : Result (Unit {0}) Errno) : Type 0 where
   pub answer : honest old.device → Answers (with_unit (meant old.tree)) old.tree new.tree result
   pub crash : honest old.device → Leaves (disk old.device) (disk new.device) (ReflectsOr (disk old.device) old.numbers old.tree)
   pub kept : Keeps honest size failures old new (is_io result)
+  pub goes : GoesOn goes_on old new
 
 -- what is missing is missing in a directory
 abbrev pub IsPlace : Tree → Reached → Type 0
@@ -27,11 +28,12 @@ AnswersOrStops meant old new (Ok x) = meant ≡ Ok new
 AnswersOrStops meant old new (Err e) = ((meant ≡ Err e) × (new ≡ old)) ⊎ (e ≡ errno.Io)
 
 -- The same of several calls: a stop between them leaves a part of what is meant, and so does 29.
-pub record Applied {D : Type 0} (honest : D → Type 0) (disk : D → Disk) (size failures : D → ℕ) (meant : Tree → Result Tree Errno) (IsPart : Tree → Tree → Type 0) (old new : Opened D) (result : Result (Unit {0}) Errno) : Type 0 where
+pub record Applied {D : Type 0} (honest : D → Type 0) (disk : D → Disk) (size failures : D → ℕ) (goes_on : ℕ → D → D → Type 0) (meant : Tree → Result Tree Errno) (IsPart : Tree → Tree → Type 0) (old new : Opened D) (result : Result (Unit {0}) Errno) : Type 0 where
   pub answer : honest old.device → AnswersOrStops (meant old.tree) old.tree new.tree result
   pub part : honest old.device → IsPart old.tree new.tree
   pub crash : honest old.device → Leaves (disk old.device) (disk new.device) (ReflectsAny (disk old.device) old.numbers (IsPart old.tree))
   pub kept : Keeps honest size failures old new (is_io result)
+  pub goes : GoesOn goes_on old new
 
 -- an entry at another one or below it, in which nothing stands
 pub record IsLeafBelow (T : Tree) (top leaf : ℕ) : Type 0 where

@@ -1,4 +1,5 @@
 use Rattle.volume_tasks.proofs.Changed.{change_refused, sync_left, sync_refused, synced}
+use Rattle.vol_tree.proofs.GoingOn.{goes_then}
 use Rattle.volume_tasks.proofs.changing.change_tree.Goals as goal
 
 pub returns-in_err-apply-clause-changes : goal.returns-in_err-apply-clause-changes
@@ -38,3 +39,9 @@ returns-clause-crash g c h =
 
 pub returns-clause-durable : goal.returns-clause-durable
 returns-clause-durable g c h = c.in_ok-sync.ensures.durable (c.in_ok-apply.ensures.kept.honest.0 h)
+
+pub returns-in_err-sync-clause-goes_on : goal.returns-in_err-sync-clause-goes_on
+returns-in_err-sync-clause-goes_on g c = goes_then g.D.Device.goes_on c.args.volume.now c.apply.new.volume c.sync.new.self c.in_ok-apply.ensures.kept.numbers c.in_ok-apply.ensures.goes c.in_err-sync.ensures.goes_on
+
+pub returns-clause-goes_on : goal.returns-clause-goes_on
+returns-clause-goes_on g c = goes_then g.D.Device.goes_on c.args.volume.now c.apply.new.volume c.sync.new.self c.in_ok-apply.ensures.kept.numbers c.in_ok-apply.ensures.goes c.in_ok-sync.ensures.goes_on

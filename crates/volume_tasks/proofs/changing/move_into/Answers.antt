@@ -20,13 +20,13 @@ returns g c =
       | else-wants_dir-via-then-wants_dir+else-not-is_directory w ↦ grind (arith, common_steps)
       | else-wants_dir-via-else-wants_dir w ↦ grind (arith, common_steps)
     ] in
-    means g.D.Device.honest g.D.Device.disk g.D.Device.size g.D.Device.failures (λ T. renamed T s c.args.parent name) (λ T. moved_to T s (Missing c.args.parent name, wants)) v c.rename.new.self c.rename.result
+    means g.D.Device.honest g.D.Device.disk g.D.Device.size g.D.Device.failures g.D.Device.goes_on (λ T. renamed T s c.args.parent name) (λ T. moved_to T s (Missing c.args.parent name, wants)) v c.rename.new.self c.rename.result
     (λ h. into_done v.tree s c.args.parent name wants d (sym (c.in_ok-is_directory.ensures.answer h)) may)
-    (asked_first g.D.Device.honest g.D.Device.disk g.D.Device.size g.D.Device.failures (λ T. renamed T s c.args.parent name) v c.is_directory.new.volume c.rename.new.self c.rename.result c.in_ok-is_directory.ensures.asked
-    (record { answer = call.answer; crash = call.crash; kept = call.kept }))
+    (asked_first g.D.Device.honest g.D.Device.disk g.D.Device.size g.D.Device.failures g.D.Device.goes_on (λ T. renamed T s c.args.parent name) v c.is_directory.new.volume c.rename.new.self c.rename.result c.in_ok-is_directory.ensures.asked
+    (record { answer = call.answer; crash = call.crash; kept = call.kept; goes = call.goes_on }))
 
 -- the device failed
 pub returns-in_err-is_directory : goal.returns-in_err-is_directory
 returns-in_err-is_directory g c =
-    refused_on g.D.Device.honest g.D.Device.disk g.D.Device.size g.D.Device.failures (λ T. moved_to T c.args.source (Missing c.args.parent c.args.name.now, c.args.wants_dir)) c.args.volume.now c.is_directory.new.volume c.in_err-is_directory.field-0.0 c.from_residual.result
+    refused_on g.D.Device.honest g.D.Device.disk g.D.Device.size g.D.Device.failures g.D.Device.goes_on (λ T. moved_to T c.args.source (Missing c.args.parent c.args.name.now, c.args.wants_dir)) c.args.volume.now c.is_directory.new.volume c.in_err-is_directory.field-0.0 c.from_residual.result
     c.in_err-is_directory.ensures.asked (λ h. inr (c.in_err-is_directory.ensures.answer h)) c.from_residual.ensures.1

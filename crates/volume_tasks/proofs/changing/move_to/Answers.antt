@@ -12,14 +12,14 @@ returns-in-Found g c =
     let v = c.args.volume.now in
     let s = c.args.source in
     let t = c.new.result in
-    means g.D.Device.honest g.D.Device.disk g.D.Device.size g.D.Device.failures (λ T. renamed T s (parent_at T t) (name_at T t)) (λ T. moved_to T s (reached_as c.args.target, c.args.wants_dir)) v c.move_onto.new.volume c.move_onto.result
+    means g.D.Device.honest g.D.Device.disk g.D.Device.size g.D.Device.failures g.D.Device.goes_on (λ T. renamed T s (parent_at T t) (name_at T t)) (λ T. moved_to T s (reached_as c.args.target, c.args.wants_dir)) v c.move_onto.new.volume c.move_onto.result
     (λ h. rw c.new.ensures (ap (λ (r : Reached). moved_to v.tree s (reached_as r, c.args.wants_dir)) (sym c.in-Found.is))) c.move_onto.ensures
 
 pub returns-in-Missing : goal.returns-in-Missing
 returns-in-Missing g c =
     let v = c.args.volume.now in
     let s = c.args.source in
-    means g.D.Device.honest g.D.Device.disk g.D.Device.size g.D.Device.failures (λ T. moved_to T s (Missing c.new-in-Missing.result c.in-Missing.name.now, c.args.wants_dir)) (λ T. moved_to T s (reached_as c.args.target, c.args.wants_dir)) v c.move_into.new.volume c.move_into.result
+    means g.D.Device.honest g.D.Device.disk g.D.Device.size g.D.Device.failures g.D.Device.goes_on (λ T. moved_to T s (Missing c.new-in-Missing.result c.in-Missing.name.now, c.args.wants_dir)) (λ T. moved_to T s (reached_as c.args.target, c.args.wants_dir)) v c.move_into.new.volume c.move_into.result
     (λ h. rw c.new-in-Missing.ensures (ap (λ (r : Reached). moved_to v.tree s (reached_as r, c.args.wants_dir)) (sym c.in-Missing.is))) c.move_into.ensures
 
 pub move_onto-requires-clause-target : goal.move_onto-requires-clause-target

@@ -17,12 +17,12 @@ printed_on T path a b (Err e) f is p = subst (λ (x : ExportFailure). PrintsDire
 
 pub returns-clause-asked : goal.returns-clause-asked
 returns-clause-asked g c =
-    asked_then g.D.Device.honest g.D.Device.disk g.D.Device.size g.D.Device.failures c.args.volume.now c.directory_named.new.volume c.export.new.volume false c.in_ok-directory.ensures.asked c.in_ok-export.ensures.asked
+    asked_then g.D.Device.honest g.D.Device.disk g.D.Device.size g.D.Device.failures g.D.Device.goes_on c.args.volume.now c.directory_named.new.volume c.export.new.volume false c.in_ok-directory.ensures.asked c.in_ok-export.ensures.asked
 
 pub returns-in_err-export-clause-asked : goal.returns-in_err-export-clause-asked
 returns-in_err-export-clause-asked g c =
-    asked_on g.D.Device.honest g.D.Device.disk g.D.Device.size g.D.Device.failures blames_export c.from_residual-in_err-export.result (Stopped c.in_err-export.field-0.0) c.from_residual-in_err-export.ensures.1 c.args.volume.now c.export.new.volume
-    (asked_then g.D.Device.honest g.D.Device.disk g.D.Device.size g.D.Device.failures c.args.volume.now c.directory_named.new.volume c.export.new.volume _ c.in_ok-directory.ensures.asked c.in_err-export.ensures.asked)
+    asked_on g.D.Device.honest g.D.Device.disk g.D.Device.size g.D.Device.failures g.D.Device.goes_on blames_export c.from_residual-in_err-export.result (Stopped c.in_err-export.field-0.0) c.from_residual-in_err-export.ensures.1 c.args.volume.now c.export.new.volume
+    (asked_then g.D.Device.honest g.D.Device.disk g.D.Device.size g.D.Device.failures g.D.Device.goes_on c.args.volume.now c.directory_named.new.volume c.export.new.volume _ c.in_ok-directory.ensures.asked c.in_err-export.ensures.asked)
 
 pub returns-clause-prints : goal.returns-clause-prints
 returns-clause-prints g c h =

@@ -6,16 +6,17 @@ use Rattle.vol_tree.specs.declared.superblock.Superblock.{Superblock}
 use Rattle.vol_tree.specs.Opened.{geometry}
 use Rattle.volume_archive.specs.Import.{Imports}
 use Rattle.volume_archive.proofs.Kept.{keeps_then}
+use Rattle.vol_tree.proofs.GoingOn.{goes_then}
 use Rattle.volume_tasks.proofs.importing.bring.Goals as goal
 
 pub returns-clause-crash : goal.returns-clause-crash
 returns-clause-crash g c =
-    part_left g.D.Device.honest g.D.Device.disk g.D.Device.size g.D.Device.failures c.args.volume.now c.directory_named.new.volume c.import.new.volume c.args.path.now c.in_ok-directory.directory (g.R.Read.remaining c.args.input.now)
+    part_left g.D.Device.honest g.D.Device.disk g.D.Device.size g.D.Device.failures g.D.Device.goes_on c.args.volume.now c.directory_named.new.volume c.import.new.volume c.args.path.now c.in_ok-directory.directory (g.R.Read.remaining c.args.input.now)
     c.in_ok-directory.ensures.asked c.in_ok-directory.ensures.answer c.in_ok-import.ensures.crash
 
 pub returns-in_err-import-clause-crash : goal.returns-in_err-import-clause-crash
 returns-in_err-import-clause-crash g c =
-    part_left g.D.Device.honest g.D.Device.disk g.D.Device.size g.D.Device.failures c.args.volume.now c.directory_named.new.volume c.import.new.volume c.args.path.now c.in_ok-directory.directory (g.R.Read.remaining c.args.input.now)
+    part_left g.D.Device.honest g.D.Device.disk g.D.Device.size g.D.Device.failures g.D.Device.goes_on c.args.volume.now c.directory_named.new.volume c.import.new.volume c.args.path.now c.in_ok-directory.directory (g.R.Read.remaining c.args.input.now)
     c.in_ok-directory.ensures.asked c.in_ok-directory.ensures.answer c.in_err-import.ensures.crash
 
 pub returns-in_err-directory-clause-crash : goal.returns-in_err-directory-clause-crash
@@ -38,3 +39,9 @@ returns-clause-brings g c h =
       named.answer h,
       subst (λ (v : Superblock). imported v c.args.volume.now.tree) named.asked.kept.numbers (subst (λ (T : Tree). imported N.numbers T) (named.asked.tree h) (c.in_ok-import.ensures.imports (named.asked.kept.honest.0 h))),
     )
+
+pub returns-clause-goes_on : goal.returns-clause-goes_on
+returns-clause-goes_on g c = goes_then g.D.Device.goes_on c.args.volume.now c.directory_named.new.volume c.import.new.volume c.in_ok-directory.ensures.asked.kept.numbers c.in_ok-directory.ensures.asked.goes c.in_ok-import.ensures.goes_on
+
+pub returns-in_err-import-clause-goes_on : goal.returns-in_err-import-clause-goes_on
+returns-in_err-import-clause-goes_on g c = goes_then g.D.Device.goes_on c.args.volume.now c.directory_named.new.volume c.import.new.volume c.in_ok-directory.ensures.asked.kept.numbers c.in_ok-directory.ensures.asked.goes c.in_err-import.ensures.goes_on

@@ -58,10 +58,10 @@ returns-clause-prints g c h =
 pub returns-clause-asked : goal.returns-clause-asked
 returns-clause-asked g c =
     let told = c.in_ok-stat.ensures in
-    asked_then g.D.Device.honest g.D.Device.disk g.D.Device.size g.D.Device.failures c.args.volume.now c.serial_named.new.volume c.stat.new.self false c.in_ok-serial.ensures.asked (record { tree = λ h. (told.answer h).1; crash = told.crash; kept = told.kept })
+    asked_then g.D.Device.honest g.D.Device.disk g.D.Device.size g.D.Device.failures g.D.Device.goes_on c.args.volume.now c.serial_named.new.volume c.stat.new.self false c.in_ok-serial.ensures.asked (record { tree = λ h. (told.answer h).1; crash = told.crash; kept = told.kept; goes = told.goes_on })
 
 pub returns-in_err-stat-clause-asked : goal.returns-in_err-stat-clause-asked
 returns-in_err-stat-clause-asked g c =
     let told = c.in_err-stat.ensures in
-    asked_on g.D.Device.honest g.D.Device.disk g.D.Device.size g.D.Device.failures blames_device c.from_residual-in_err-stat.result (failure.Tree c.in_err-stat.field-0.0) c.from_residual-in_err-stat.ensures.1 c.args.volume.now c.stat.new.self
-    (asked_then g.D.Device.honest g.D.Device.disk g.D.Device.size g.D.Device.failures c.args.volume.now c.serial_named.new.volume c.stat.new.self _ c.in_ok-serial.ensures.asked (record { tree = λ h. (told.answer h).1; crash = told.crash; kept = told.kept }))
+    asked_on g.D.Device.honest g.D.Device.disk g.D.Device.size g.D.Device.failures g.D.Device.goes_on blames_device c.from_residual-in_err-stat.result (failure.Tree c.in_err-stat.field-0.0) c.from_residual-in_err-stat.ensures.1 c.args.volume.now c.stat.new.self
+    (asked_then g.D.Device.honest g.D.Device.disk g.D.Device.size g.D.Device.failures g.D.Device.goes_on c.args.volume.now c.serial_named.new.volume c.stat.new.self _ c.in_ok-serial.ensures.asked (record { tree = λ h. (told.answer h).1; crash = told.crash; kept = told.kept; goes = told.goes_on }))

@@ -17,11 +17,11 @@ pub loop-n-preserved : goal.loop-n-preserved
 loop-n-preserved g c =
     let now = c.in_ok-read.ensures in
     let before = c.loop-n.invariant in
-    let step : Asked g.D.Device.honest g.D.Device.disk g.D.Device.size g.D.Device.failures c.loop-n.volume c.read.new.self false =
-    record { tree = λ h. (now.answer h).2; crash = now.crash; kept = now.kept } in
+    let step : Asked g.D.Device.honest g.D.Device.disk g.D.Device.size g.D.Device.failures g.D.Device.goes_on c.loop-n.volume c.read.new.self false =
+    record { tree = λ h. (now.answer h).2; crash = now.crash; kept = now.kept; goes = now.goes_on } in
     record {
-      working = works_on g.D.Device.honest g.D.Device.disk g.D.Device.size g.D.Device.failures c.loop-n.volume c.read.new.self before.working step;
-      asked = asked_then g.D.Device.honest g.D.Device.disk g.D.Device.size g.D.Device.failures c.args.volume.now c.loop-n.volume c.read.new.self false before.asked step;
+      working = works_on g.D.Device.honest g.D.Device.disk g.D.Device.size g.D.Device.failures g.D.Device.goes_on c.loop-n.volume c.read.new.self before.working step;
+      asked = asked_then g.D.Device.honest g.D.Device.disk g.D.Device.size g.D.Device.failures g.D.Device.goes_on c.args.volume.now c.loop-n.volume c.read.new.self false before.asked step;
       printed = λ h.
           let told = now.answer (before.asked.kept.honest.0 h) in
           let same : bytes_at c.loop-n.volume.tree c.args.file ≡ bytes_at c.args.volume.now.tree c.args.file = ap (λ (T : Tree). bytes_at T c.args.file) (before.asked.tree h) in
@@ -45,8 +45,8 @@ returns-clause-prints c = grind (arith, common_steps)
 pub returns-in_err-read-clause-asked : goal.returns-in_err-read-clause-asked
 returns-in_err-read-clause-asked g c =
     let now = c.in_err-read.ensures in
-    asked_on g.D.Device.honest g.D.Device.disk g.D.Device.size g.D.Device.failures blames_device c.from_residual-in_err-read.result (failure.Tree c.in_err-read.field-0.0) c.from_residual-in_err-read.ensures.1 c.args.volume.now c.read.new.self
-    (asked_then g.D.Device.honest g.D.Device.disk g.D.Device.size g.D.Device.failures c.args.volume.now c.loop-n.volume c.read.new.self _ c.loop-n.invariant.asked (record { tree = λ h. (now.answer h).1; crash = now.crash; kept = now.kept }))
+    asked_on g.D.Device.honest g.D.Device.disk g.D.Device.size g.D.Device.failures g.D.Device.goes_on blames_device c.from_residual-in_err-read.result (failure.Tree c.in_err-read.field-0.0) c.from_residual-in_err-read.ensures.1 c.args.volume.now c.read.new.self
+    (asked_then g.D.Device.honest g.D.Device.disk g.D.Device.size g.D.Device.failures g.D.Device.goes_on c.args.volume.now c.loop-n.volume c.read.new.self _ c.loop-n.invariant.asked (record { tree = λ h. (now.answer h).1; crash = now.crash; kept = now.kept; goes = now.goes_on }))
 
 pub slice_bounds-print_all-end : goal.slice_bounds-print_all-end
 slice_bounds-print_all-end c = grind (arith, common_steps)
@@ -80,8 +80,8 @@ returns-in_err-print_all-clause-prints g c h =
 pub returns-in_err-print_all-clause-asked : goal.returns-in_err-print_all-clause-asked
 returns-in_err-print_all-clause-asked g c =
     let now = c.in_ok-read.ensures in
-    asked_on g.D.Device.honest g.D.Device.disk g.D.Device.size g.D.Device.failures blames_device c.from_residual-in_err-print_all.result failure.Stream c.from_residual-in_err-print_all.ensures.1 c.args.volume.now c.read.new.self
-    (asked_then g.D.Device.honest g.D.Device.disk g.D.Device.size g.D.Device.failures c.args.volume.now c.loop-n.volume c.read.new.self false c.loop-n.invariant.asked (record { tree = λ h. (now.answer h).2; crash = now.crash; kept = now.kept }))
+    asked_on g.D.Device.honest g.D.Device.disk g.D.Device.size g.D.Device.failures g.D.Device.goes_on blames_device c.from_residual-in_err-print_all.result failure.Stream c.from_residual-in_err-print_all.ensures.1 c.args.volume.now c.read.new.self
+    (asked_then g.D.Device.honest g.D.Device.disk g.D.Device.size g.D.Device.failures g.D.Device.goes_on c.args.volume.now c.loop-n.volume c.read.new.self false c.loop-n.invariant.asked (record { tree = λ h. (now.answer h).2; crash = now.crash; kept = now.kept; goes = now.goes_on }))
 
 -- the device failed before anything was printed
 pub returns-in_err-size-clause-prints : goal.returns-in_err-size-clause-prints

@@ -9,6 +9,6 @@ use Rattle.volume_tasks.specs.internal.Working.{IsWorking}
 abbrev pub invariant-loop-n : goal.invariant-loop-n
 invariant-loop-n g l = record {
   working : IsWorking l.volume;
-  asked : Asked g.D.Device.honest g.D.Device.disk g.D.Device.size g.D.Device.failures l.fn.volume l.volume false;
+  asked : Asked g.D.Device.honest g.D.Device.disk g.D.Device.size g.D.Device.failures g.D.Device.goes_on l.fn.volume l.volume false;
   printed : g.D.Device.honest l.fn.volume.device → Appends (g.W.Write.contents l.initial.out) (g.W.Write.contents l.out) (take (l.n * 16384) (bytes_at l.fn.volume.tree l.file));
 }

@@ -23,12 +23,12 @@ loop-serial-preserved g c =
     let before = c.loop-serial.invariant in
     let next = c.in_ok-serial.ensures in
     let told = c.in_ok-stat.ensures in
-    let stat : Asked g.D.Device.honest g.D.Device.disk g.D.Device.size g.D.Device.failures c.next_entry.new.volume c.stat.new.self false =
-    record { tree = λ h. (told.answer h).1; crash = told.crash; kept = told.kept } in
-    let two = asked_then g.D.Device.honest g.D.Device.disk g.D.Device.size g.D.Device.failures c.loop-serial.volume c.next_entry.new.volume c.stat.new.self false next.asked stat in
+    let stat : Asked g.D.Device.honest g.D.Device.disk g.D.Device.size g.D.Device.failures g.D.Device.goes_on c.next_entry.new.volume c.stat.new.self false =
+    record { tree = λ h. (told.answer h).1; crash = told.crash; kept = told.kept; goes = told.goes_on } in
+    let two = asked_then g.D.Device.honest g.D.Device.disk g.D.Device.size g.D.Device.failures g.D.Device.goes_on c.loop-serial.volume c.next_entry.new.volume c.stat.new.self false next.asked stat in
     record {
-      working = works_on g.D.Device.honest g.D.Device.disk g.D.Device.size g.D.Device.failures c.loop-serial.volume c.stat.new.self before.working two;
-      asked = asked_then g.D.Device.honest g.D.Device.disk g.D.Device.size g.D.Device.failures c.args.volume.now c.loop-serial.volume c.stat.new.self false before.asked two;
+      working = works_on g.D.Device.honest g.D.Device.disk g.D.Device.size g.D.Device.failures g.D.Device.goes_on c.loop-serial.volume c.stat.new.self before.working two;
+      asked = asked_then g.D.Device.honest g.D.Device.disk g.D.Device.size g.D.Device.failures g.D.Device.goes_on c.args.volume.now c.loop-serial.volume c.stat.new.self false before.asked two;
       printed = λ h.
           let T = c.args.volume.now.tree in
           let now : g.D.Device.honest c.loop-serial.volume.device = before.asked.kept.honest.0 h in

@@ -10,7 +10,7 @@ use Rattle.volume_tasks.specs.internal.Working.{IsWorking}
 abbrev pub invariant-loop-serial : goal.invariant-loop-serial
 invariant-loop-serial g l = record {
   working : IsWorking l.volume;
-  asked : Asked g.D.Device.honest g.D.Device.disk g.D.Device.size g.D.Device.failures l.initial.volume l.volume false;
+  asked : Asked g.D.Device.honest g.D.Device.disk g.D.Device.size g.D.Device.failures g.D.Device.goes_on l.initial.volume l.volume false;
   printed : g.D.Device.honest l.initial.volume.device → (text : List ℕ) × Appends (g.W.Write.contents l.initial.out) (g.W.Write.contents l.out) text
       × (listing l.form l.initial.volume.tree l.directory ≡ text ++ flat_map (line_in l.form l.directory) (drop l.last l.initial.volume.tree));
 }

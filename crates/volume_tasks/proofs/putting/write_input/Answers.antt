@@ -7,6 +7,7 @@ use Rattle.vol_tree.specs.declared.errno.Errno.TheVariants as errno
 use Rattle.vol_tree.specs.Calls.{with_unit, written}
 use Rattle.vol_tree.specs.Opened.{geometry}
 use Rattle.volume_tasks.specs.Tasks.{HasBeginning}
+use Rattle.vol_tree.proofs.GoingOn.{goes_then}
 use Rattle.volume_archive.proofs.Kept.{keeps_then}
 use Rattle.volume_tasks.proofs.Asking.{works_after}
 use Rattle.volume_archive.proofs.Moments.{any_then}
@@ -74,6 +75,7 @@ loop-preserved g c =
     record {
       working = works_after g.D.Device.honest g.D.Device.size g.D.Device.failures c.loop.volume c.write.new.self before.working c.in_ok-write.ensures.kept;
       kept = kept;
+      goes = goes_then g.D.Device.goes_on c.args.volume.now c.loop.volume c.write.new.self before.kept.numbers before.goes c.in_ok-write.ensures.goes_on;
       filled = λ h.
           let so_far = before.filled h in
           let answer = subst (λ (w : Superblock). with_unit (written (geometry w) c.loop.volume.tree c.args.file c.loop.offset p) ≡ Ok (c.write.new.self.tree, tt))
@@ -104,3 +106,9 @@ returns-in_err-count-clause-fills g c h =
     let before = g.R.Read.remaining c.args.input.now in
     fill_stopped (geometry c.args.volume.now.numbers) c.args.volume.now.tree c.loop.volume.tree c.args.file before (g.R.Read.remaining c.read_piece.new.input) c.from_residual.result
     (so_far.0, consumed_begins before (g.R.Read.remaining c.loop.input) so_far.0 so_far.1, so_far.2) c.from_residual.ensures.1
+
+pub returns-in_err-write-clause-goes_on : goal.returns-in_err-write-clause-goes_on
+returns-in_err-write-clause-goes_on g c = goes_then g.D.Device.goes_on c.args.volume.now c.loop.volume c.write.new.self c.loop.invariant.kept.numbers c.loop.invariant.goes c.in_err-write.ensures.goes_on
+
+pub returns-then-count-lt-PIECE-clause-goes_on : goal.returns-then-count-lt-PIECE-clause-goes_on
+returns-then-count-lt-PIECE-clause-goes_on g c = goes_then g.D.Device.goes_on c.args.volume.now c.loop.volume c.write.new.self c.loop.invariant.kept.numbers c.loop.invariant.goes c.in_ok-write.ensures.goes_on

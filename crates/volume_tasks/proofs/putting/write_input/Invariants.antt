@@ -2,7 +2,7 @@ use Rattle.std.proofs.Common.{◌≡◌, ◌≤◌, ℕ, List, length, false}
 use Rattle.std.specs.Io.KnownBytes.{Consumes}
 use Rattle.vol_sector.specs.Disk.{Leaves}
 use Rattle.vol_tree.specs.Calls.{with_bytes}
-use Rattle.vol_tree.specs.Opened.{Keeps}
+use Rattle.vol_tree.specs.Opened.{Keeps, GoesOn}
 use Rattle.volume_tasks.specs.Tasks.{HasBeginning, ReflectsAny}
 use Rattle.volume_tasks.proofs.putting.write_input.Given as goal
 use Rattle.vol_inode.specs.declared.version.TheConstants.{LARGEST_SIZE}
@@ -13,6 +13,7 @@ abbrev pub invariant-loop : goal.invariant-loop
 invariant-loop g l = record {
   working : IsWorking l.volume;
   kept : Keeps g.D.Device.honest g.D.Device.size g.D.Device.failures l.initial.volume l.volume false;
+  goes : GoesOn g.D.Device.goes_on l.initial.volume l.volume;
   filled : g.D.Device.honest l.initial.volume.device → (bytes : List ℕ) × Consumes (g.R.Read.remaining l.initial.input) (g.R.Read.remaining l.input) bytes
       × (l.volume.tree ≡ with_bytes l.initial.volume.tree l.file bytes) × (l.offset ≡ length bytes) × (length bytes ≤ LARGEST_SIZE);
   crash : g.D.Device.honest l.initial.volume.device → Leaves (g.D.Device.disk l.initial.volume.device) (g.D.Device.disk l.volume.device)

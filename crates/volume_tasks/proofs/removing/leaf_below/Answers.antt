@@ -11,8 +11,8 @@ loop-depth-preserved g c =
     let before = c.loop-depth.invariant in
     let next = c.in_ok-child.ensures in
     record {
-      working = works_on g.D.Device.honest g.D.Device.disk g.D.Device.size g.D.Device.failures c.loop-depth.volume c.next_entry.new.volume before.working next.asked;
-      asked = asked_then g.D.Device.honest g.D.Device.disk g.D.Device.size g.D.Device.failures c.args.volume.now c.loop-depth.volume c.next_entry.new.volume _ before.asked next.asked;
+      working = works_on g.D.Device.honest g.D.Device.disk g.D.Device.size g.D.Device.failures g.D.Device.goes_on c.loop-depth.volume c.next_entry.new.volume before.working next.asked;
+      asked = asked_then g.D.Device.honest g.D.Device.disk g.D.Device.size g.D.Device.failures g.D.Device.goes_on c.args.volume.now c.loop-depth.volume c.next_entry.new.volume _ before.asked next.asked;
       here = rw c.in-Some.is at next.range;
       way = λ h.
           let found = rw c.in-Some.is at next.answer (before.asked.kept.honest.0 h) in
@@ -36,4 +36,4 @@ returns-clause-answer g c h =
 
 pub returns-in-None-clause-asked : goal.returns-in-None-clause-asked
 returns-in-None-clause-asked g c =
-    asked_then g.D.Device.honest g.D.Device.disk g.D.Device.size g.D.Device.failures c.args.volume.now c.loop-depth.volume c.next_entry.new.volume false c.loop-depth.invariant.asked c.in_ok-child.ensures.asked
+    asked_then g.D.Device.honest g.D.Device.disk g.D.Device.size g.D.Device.failures g.D.Device.goes_on c.args.volume.now c.loop-depth.volume c.next_entry.new.volume false c.loop-depth.invariant.asked c.in_ok-child.ensures.asked

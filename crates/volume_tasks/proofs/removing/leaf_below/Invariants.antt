@@ -8,7 +8,7 @@ use Rattle.volume_tasks.proofs.removing.leaf_below.Given as goal
 abbrev pub invariant-loop-depth : goal.invariant-loop-depth
 invariant-loop-depth g l = record {
   working : IsWorking l.volume;
-  asked : Asked g.D.Device.honest g.D.Device.disk g.D.Device.size g.D.Device.failures l.initial.volume l.volume false;
+  asked : Asked g.D.Device.honest g.D.Device.disk g.D.Device.size g.D.Device.failures g.D.Device.goes_on l.initial.volume l.volume false;
   here : IsEntryOf g.D.Device.honest l.volume l.here;
   way : g.D.Device.honest l.initial.volume.device → IsWayDown l.initial.volume.tree l.fn.from l.here l._depth;
 }

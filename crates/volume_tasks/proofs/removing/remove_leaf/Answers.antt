@@ -1,5 +1,6 @@
 use Rattle.volume_archive.proofs.Moments.{quiet_or}
 use Rattle.vol_log.proofs.Moments.{leaves_any}
+use Rattle.vol_tree.proofs.GoingOn.{goes_then}
 use Rattle.volume_tasks.proofs.removing.remove_leaf.Goals as goal
 
 pub returns-in_err-rmdir-in-Directory-clause-crash : goal.returns-in_err-rmdir-in-Directory-clause-crash
@@ -20,3 +21,9 @@ returns-in_err-unlink-in-File-clause-crash g c h =
 
 pub returns-in_err-stat-clause-crash : goal.returns-in_err-stat-clause-crash
 returns-in_err-stat-clause-crash g c h = leaves_any (g.D.Device.disk c.args.volume.now.device) (g.D.Device.disk c.stat.new.self.device) _ (c.in_err-stat.ensures.crash h)
+
+pub returns-in_err-rmdir-in-Directory-clause-goes_on : goal.returns-in_err-rmdir-in-Directory-clause-goes_on
+returns-in_err-rmdir-in-Directory-clause-goes_on g c = goes_then g.D.Device.goes_on c.args.volume.now c.stat.new.self c.rmdir.new.self c.in_ok-stat.ensures.kept.numbers c.in_ok-stat.ensures.goes_on c.in_err-rmdir-in-Directory.ensures.goes_on
+
+pub returns-in_err-unlink-in-File-clause-goes_on : goal.returns-in_err-unlink-in-File-clause-goes_on
+returns-in_err-unlink-in-File-clause-goes_on g c = goes_then g.D.Device.goes_on c.args.volume.now c.stat.new.self c.unlink.new.self c.in_ok-stat.ensures.kept.numbers c.in_ok-stat.ensures.goes_on c.in_err-unlink-in-File.ensures.goes_on

@@ -3,6 +3,7 @@ use Rattle.vol_log.proofs.Moments.{leaves_any}
 use Rattle.volume_archive.proofs.Moments.{any_after}
 use Rattle.volume_tasks.specs.Replacing.{IsPartOfWhole, path_beside}
 use Rattle.volume_tasks.proofs.Replaced.{whole_same}
+use Rattle.vol_tree.proofs.GoingOn.{goes_then}
 use Rattle.volume_tasks.proofs.replacing.put_whole.Goals as goal
 
 pub returns-in-Ok-clause-crash : goal.returns-in-Ok-clause-crash
@@ -17,3 +18,6 @@ returns-in-Ok-clause-crash g c h =
     any_after (disk v.device) v.numbers these (disk M.device) (disk c.write_beside.new.volume.device) M.numbers (IsPartOfWhole M.numbers M.tree c.as_str.result.now path before) asked.kept.numbers
     (λ U part. whole_same v.numbers M.numbers v.tree M.tree (path_beside path) c.as_str.result.now path before U asked.kept.numbers (asked.tree h) (c.as_str.ensures.value ∙ c.in-Ok.ensures) part)
     (leaves_any (disk v.device) (disk M.device) _ (asked.crash h)) (c.write_beside.ensures.crash (asked.kept.honest.0 h))
+
+pub returns-in-Ok-clause-goes_on : goal.returns-in-Ok-clause-goes_on
+returns-in-Ok-clause-goes_on g c = goes_then g.D.Device.goes_on c.args.volume.now c.ask_place.new.volume c.write_beside.new.volume c.in_ok-ask_place.ensures.asked.kept.numbers c.in_ok-ask_place.ensures.asked.goes c.write_beside.ensures.goes_on

@@ -4,6 +4,7 @@ use Rattle.volume_archive.proofs.Moments.{any_after, any_same}
 use Rattle.volume_tasks.specs.Replacing.{IsPartOfWhole, IsRemovalPart}
 use Rattle.volume_tasks.specs.Tasks.{IsPartOfPut}
 use Rattle.volume_tasks.proofs.Replaced.{moved_part, put_part, taken_part}
+use Rattle.vol_tree.proofs.GoingOn.{goes_then}
 use Rattle.volume_tasks.proofs.replacing.write_beside.Goals as goal
 
 pub returns-in-Ok-clause-crash : goal.returns-in-Ok-clause-crash
@@ -41,3 +42,9 @@ returns-in-Err-2-clause-crash g c h =
     let first = any_after (disk v.device) v.numbers these (disk v.device) (disk P.device) v.numbers (IsPartOfPut v.numbers v.tree beside before) refl (λ U some. inl some) (any_same (disk v.device) v.numbers these) (c.put.ensures.crash h) in
     any_after (disk v.device) v.numbers these (disk P.device) (disk c.take_back.new.volume.device) P.numbers (IsRemovalPart P.tree beside) c.put.ensures.kept.numbers
     (λ U next. taken_part v.numbers v.tree P.tree U beside path before part next) first (c.take_back.ensures.crash (c.put.ensures.kept.honest.0 h))
+
+pub returns-in-Ok-clause-goes_on : goal.returns-in-Ok-clause-goes_on
+returns-in-Ok-clause-goes_on g c = goes_then g.D.Device.goes_on c.args.volume.now c.put.new.volume c.change_tree.new.volume c.put.ensures.kept.numbers c.put.ensures.goes_on c.change_tree.ensures.goes_on
+
+pub returns-in-Err-2-clause-goes_on : goal.returns-in-Err-2-clause-goes_on
+returns-in-Err-2-clause-goes_on g c = goes_then g.D.Device.goes_on c.args.volume.now c.put.new.volume c.take_back.new.volume c.put.ensures.kept.numbers c.put.ensures.goes_on c.take_back.ensures.goes_on
