@@ -7,6 +7,8 @@ use Rattle.std.specs.Option.{option_map, option_map_or}
 use Rattle.vol_tree.specs.declared.errno.Errno.{Errno as TreeErrno}
 use Rattle.vol_tree.specs.Tree.{Tree, IsTree, IsDirectory, root}
 use Rattle.vol_tree.specs.Calls.{directory_at}
+use Rattle.vol_tree.specs.Opened.{GoesOn}
+use Rattle.vol_tree.proofs.GoingOn.{goes_same, goes_then}
 use Rattle.vol_tree.proofs.Trees.{directory_is}
 use Rattle.path_walk.specs.Paths.{Reached, Found, Missing, slash}
 use Rattle.wasi_fd.specs.declared.descriptor.Descriptor.{Descriptor}
@@ -265,6 +267,11 @@ module _ {D R W1 W2 : Type 0} (on : Devices D R W1 W2) where
   sizes [] s s' same = ap (λ (s : S). on.device.size s.host.volume.device) same
   sizes (r ∷ rs) s s' ((units, resumes), rest) = sizes rs r.1 s' rest ∙ resumes.size
 
+  goes_on : (rs : History S) (s s' : S) → Follows s rs s' → GoesOn on.device.goes_on s.host.volume s'.host.volume
+  goes_on [] s s' same = goes_same on.device.goes_on s.host.volume s'.host.volume (ap (λ (s : S). s.host.volume.device) same)
+  goes_on (r ∷ rs) s s' ((units, resumes), rest) =
+      goes_then on.device.goes_on s.host.volume r.1.host.volume s'.host.volume resumes.numbers resumes.goes (goes_on rs r.1 s' rest)
+
   module _ (now : (d : D) (t : ℕ) (image : Image) → on.device.honest d → t ≤ (on.device.disk d).operation_count → (on.device.disk d).may_leave image → (on.device.disk d).left_since t image)
       (only : (d : D) (image : Image) → on.device.honest d → (on.device.disk d).left_since (on.device.disk d).operation_count image → (on.device.disk d).may_leave image) where
     counts : (d : D) → on.device.honest d → CountsMoments (on.device.disk d)
@@ -332,8 +339,9 @@ module _ {D R W1 W2 : Type 0} (on : Devices D R W1 W2) where
             over_paths = over.2;
             kept = keeps_all disk_of numbers_of tree_of (turns_of s rs) s.host trees from (safe trees from before) (turns rs s s' follow still);
             size = sizes rs s s' follow;
+            goes = goes_on rs s s' follow;
             confined = λ w w' shown shown_after. confines_host Calls Shows honest_of first.instance s.host s'.host w w' (first_configuration first.entered first.store) run.0 (answered (pauses_of rs))
-                (are_rows on.device.honest on.device.disk on.device.size on.device.failures on.input.remaining on.out.contents on.err.contents) still shown
+                (are_rows on.device.honest on.device.disk on.device.size on.device.failures on.device.goes_on on.input.remaining on.out.contents on.err.contents) still shown
                 (subst HasOnlyDirectoriesOpen (sym shown.1) (world_begins opens.fits shown.0)) run.2 shown_after;
           }
 

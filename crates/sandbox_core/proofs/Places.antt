@@ -1,5 +1,7 @@
--- The volume's numbers stay over a resume, and its device's size.
+-- The volume's numbers stay over a resume, and its device's size; and the device goes on.
 use Rattle.std.proofs.Common.{◌≡◌, ℕ, List, [], refl, ◌∙◌, ap, inl, inr}
+use Rattle.vol_tree.specs.Opened.{GoesOn}
+use Rattle.vol_tree.proofs.GoingOn.{goes_same, goes_then}
 use Rattle.wasm_store.specs.declared.call.HostCall.{HostCall}
 use Rattle.wasm_store.specs.declared.call.Errno.{Errno}
 use Rattle.wasm_steps.specs.declared.pause.Pause.{Pause}
@@ -21,28 +23,37 @@ module _ {D R W1 W2 : Type 0} (on : Devices D R W1 W2) where
 
   abbrev SamePlace : H → H → Type 0
   SamePlace h h' = (h'.volume.numbers ≡ h.volume.numbers) × (on.device.size h'.volume.device ≡ on.device.size h.volume.device)
+      × GoesOn on.device.goes_on h.volume h'.volume
 
   same_place : (h h' : H) → h' ≡ h → SamePlace h h'
-  same_place h h' same = (ap (λ (h : H). h.volume.numbers) same, ap (λ (h : H). on.device.size h.volume.device) same)
+  same_place h h' same = (
+    ap (λ (h : H). h.volume.numbers) same,
+    ap (λ (h : H). on.device.size h.volume.device) same,
+    goes_same on.device.goes_on h.volume h'.volume (ap (λ (h : H). h.volume.device) same),
+  )
+
+  place_then : (h g h' : H) → SamePlace h g → SamePlace g h' → SamePlace h h'
+  place_then h g h' first rest =
+      (rest.0 ∙ first.0, rest.1 ∙ first.1, goes_then on.device.goes_on h.volume g.volume h'.volume first.0 first.2 rest.2)
 
   -- steps of the machine, and calls that it answers
   reach_stays : (i : Instance) (h : H) (c : Configuration) (es : List (HostCall × Errno)) (h' : H) (c' : Configuration) → Reach H Calls i h c es h' c' → SamePlace h h'
-  reach_stays i h c es h' c' stays = (refl, refl)
+  reach_stays i h c es h' c' stays = same_place h h refl
   reach_stays i h c es h' c' (goes {h' = g} {c' = d} silent later s r) =
       let rest = reach_stays i g d later h' c' r in
       elim (step_changes Calls i 0 h c silent g d s) [
-        | inl same ↦ let first = same_place h g same in (rest.0 ∙ first.0, rest.1 ∙ first.1)
-        | inr (m, m', used, x, args, status, a) ↦ let first = same_place h g (a.exits status refl) in (rest.0 ∙ first.0, rest.1 ∙ first.1)
+        | inl same ↦ place_then h g h' (same_place h g same) rest
+        | inr (m, m', used, x, args, status, a) ↦ place_then h g h' (same_place h g (a.exits status refl)) rest
       ]
   reach_stays i h c es h' c' (goes {h' = g} {c' = d} (answers x e) later s r) =
       let rest = reach_stays i g d later h' c' r in
       let (m, m', used, args, a) = step_changes Calls i 0 h c (answers x e) g d s in
-      (rest.0 ∙ a.volume.kept.numbers, rest.1 ∙ a.volume.kept.size)
+      place_then h g h' (a.volume.kept.numbers, a.volume.kept.size, a.volume.goes) rest
 
   paused_stays : (p : Pause) (i : Instance) (h h' : H) (c d : Configuration) → Paused H Calls i p h c h' d → SamePlace h h'
   paused_stays (Called x e) i h h' c d (before, run, step) =
       let (m, m', used, args, a) = step_changes Calls i 0 h before (answers x e) h' d step in
-      (a.volume.kept.numbers, a.volume.kept.size)
+      (a.volume.kept.numbers, a.volume.kept.size, a.volume.goes)
   paused_stays Spent i h h' c d (run, same, plain) = same_place h h' same
   paused_stays (Ended o) i h h' c d (run, ends) = reach_stays i h c [] h' d run
 

@@ -36,5 +36,5 @@ module _ {D R W1 W2 : Type 0} where
 
   -- how a host answers calls
   abbrev pub Calls : Devices D R W1 W2 → CallsOf (HostState D R W1 W2)
-  Calls on = HostCalls on.device.honest on.device.disk on.device.size on.device.failures
+  Calls on = HostCalls on.device.honest on.device.disk on.device.size on.device.failures on.device.goes_on
       on.input.remaining on.out.contents on.err.contents

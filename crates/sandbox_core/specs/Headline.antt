@@ -3,6 +3,7 @@
 -- (`README.md`, "What is proved").
 use Rattle.std.specs.Prelude.{◌≡◌, ℕ, List, [], ◌∷◌}
 use Rattle.vol_tree.specs.Tree.{Tree}
+use Rattle.vol_tree.specs.Opened.{GoesOn}
 use Rattle.wasm_module.specs.declared.module.Module.{Module}
 use Rattle.wasm_store.specs.Instantiation.{Instantiates}
 use Rattle.wasm_steps.specs.Configuration.{Instance, Store, Configuration, first_configuration}
@@ -63,8 +64,9 @@ module _ {D R W1 W2 : Type 0} (on : Devices D R W1 W2) where
         (answered (pauses_of rs)) (world_of s'.host (after_moving moved others)) last
     -- each image in a resume stands for a tree of the run, from that of the last sync on, under the volume's numbers
     pub kept : AllKept (disk_of on) numbers_of tree_of (numbers_of s.host) trees from (turns_of s rs)
-    -- on a device of the same size
+    -- on a device of the same size, which goes on
     pub size : on.device.size s'.host.volume.device ≡ on.device.size s.host.volume.device
+    pub goes : GoesOn on.device.goes_on s.host.volume s'.host.volume
     -- entries outside the directories that were open at first stay as they are, and aren't reached
     pub confined : (w w' : World) → Shows s.host w → Shows s'.host w'
         → IsConfined w.tree (named_by w.table) w'.tree w'.table

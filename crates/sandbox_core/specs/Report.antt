@@ -3,6 +3,7 @@
 -- "How a run ends").
 use Rattle.std.specs.Prelude.{◌≡◌, ℕ, ◌≤◌, ◌/◌, length, None}
 use Rattle.vol_sector.specs.Disk.{Leaves}
+use Rattle.vol_tree.specs.Opened.{GoesOn}
 use Rattle.wasm_steps.specs.Configuration.{Instance, Configuration}
 use Rattle.wasm_interp.specs.Machine.{Represents, outcome_of}
 use Rattle.wasm_interp.specs.Promise.{HasItsUnit}
@@ -37,9 +38,10 @@ module _ {D R W1 W2 : Type 0} (on : Devices D R W1 W2) where
     pub crash : IsHonest on session.host → (i : Instance) (c : Configuration) (stands : Represents session.machine i c)
         → Leaves (disk_of on session.host) (on.device.disk volume.new.device)
         (LeftInRun (Calls on) (disk_of on) numbers_of tree_of (run i c stands))
-    -- on any device the volume's numbers stayed so far, and the device's size
+    -- on any device the volume's numbers stayed so far, and the device's size; and it went on, also in the commit
     pub numbers : last.host.volume.numbers ≡ session.host.volume.numbers
     pub size : on.device.size last.host.volume.device ≡ on.device.size session.host.volume.device
+    pub goes : GoesOn on.device.goes_on session.host.volume volume.new
     pub honest_after : IsHonest on session.host → IsHonest on last.host
     pub input : report.input ≡ last.host.input.reader
     pub out : report.out ≡ last.host.out.writer

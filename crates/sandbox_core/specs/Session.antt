@@ -8,7 +8,7 @@ use Rattle.vol_sector.specs.declared.device.Device.{Ghosts}
 use Rattle.vol_sector.specs.declared.fault.Refused.{Refused}
 use Rattle.vol_sector.specs.declared.fault.VolumeFault.TheVariants as fault
 use Rattle.vol_tree.specs.Tree.{IsTree}
-use Rattle.vol_tree.specs.Opened.{Opened, Keeps, ReflectsOr}
+use Rattle.vol_tree.specs.Opened.{Opened, Keeps, GoesOn, ReflectsOr}
 use Rattle.vol_tree.specs.Stands.{StandsAs}
 use Rattle.wasm_module.specs.declared.module.Module.{Module}
 use Rattle.wasm_store.specs.declared.fault.InstanceFault.TheVariants.{Memory as NoMemory}
@@ -79,7 +79,7 @@ module _ {D R W1 W2 : Type 0} where
 module _ {D : Type 0} (device : Ghosts D) where
   -- the volume after its directories were asked for, and whether it failed then
   abbrev pub AskedOn : Opened D → Opened D → Bool → Type 0
-  AskedOn = Asked device.honest device.disk device.size device.failures
+  AskedOn = Asked device.honest device.disk device.size device.failures device.goes_on
 
   -- Nothing was done with the volume before its directories were asked for.
   abbrev pub KeepsVolume : SessionFault → Opened D → Opened D → Type 0
@@ -133,13 +133,14 @@ is_synced (Called c e) = is_sync c && (e.0 == 0)
 is_synced other = false
 
 module _ {D R W1 W2 : Type 0} (on : Devices D R W1 W2) where
-  -- A resume is one of the machine over the host. On any device the volume's numbers stay, and the device's size. Each
-  -- image that a crash may leave since it began could be left before, or stands under these numbers for a tree that one
+  -- A resume is one of the machine over the host. On any device the volume's numbers stay, and the device's size, and the
+  -- device goes on. Each image that a crash may leave since it began could be left before, or stands under these numbers for a tree that one
   -- could leave then, or for the tree before or after; and for the tree after where the resume answered a sync.
   pub record Resumes (old new : SessionState D R W1 W2) (units : ℕ) (p : Pause) : Type 0 where
     pub run : Resumed (HostState D R W1 W2) (Calls on) old.host new.host old.machine new.machine units p
     pub numbers : new.host.volume.numbers ≡ old.host.volume.numbers
     pub size : on.device.size new.host.volume.device ≡ on.device.size old.host.volume.device
+    pub goes : GoesOn on.device.goes_on old.host.volume new.host.volume
     pub honest_after : IsHonest on old.host → IsHonest on new.host
     pub crash : IsHonest on old.host
         → IsTurn (disk_of on old.host) (disk_of on new.host) (numbers_of old.host) (tree_of old.host) (tree_of new.host)
@@ -156,13 +157,15 @@ module _ {D : Type 0} where
   IsHandedBack v (Ok w) = w ≡ v
   IsHandedBack v (Err r) = (r.device ≡ v.device) × (r.fault ≡ fault.Device)
 
-  -- All calls so far are committed, or the volume has failed. Its numbers stay, and the device's size (`kept`). Each
+  -- All calls so far are committed, or the volume has failed. Its numbers stay, and the device's size (`kept`); and the
+  -- device goes on. Each
   -- image that a crash may leave since could be left before, or stands under these numbers for a tree that one could
   -- leave then, or for the tree; and at success for the tree.
   pub record Commits (device : Ghosts D) (old : Opened D) (result : Result (Opened D) (Refused D)) : Type 0 where
     pub new : Opened D
     pub handed_back : IsHandedBack new result
     pub kept : Keeps device.honest device.size device.failures old new (is_err result)
+    pub goes : GoesOn device.goes_on old new
     pub tree : device.honest old.device → new.tree ≡ old.tree
     pub crash : device.honest old.device → Leaves (device.disk old.device) (device.disk new.device)
         (ReflectsOr (device.disk old.device) old.numbers old.tree)

@@ -2,6 +2,7 @@
 -- commit at its end (`RunsTo`). Callers of `run` see only what its report says of the run with the commit.
 use Rattle.std.specs.Prelude.{◌≡◌, ℕ, None}
 use Rattle.vol_sector.specs.Disk.{Leaves}
+use Rattle.vol_tree.specs.Opened.{GoesOn}
 use Rattle.wasm_steps.specs.declared.pause.Outcome.{Outcome}
 use Rattle.wasm_steps.specs.declared.pause.Pause.TheVariants.{Ended}
 use Rattle.wasm_steps.specs.Configuration.{Instance, Configuration}
@@ -31,6 +32,7 @@ module _ {D R W1 W2 : Type 0} (on : Devices D R W1 W2) where
       (tally : Tally) : Type 0 where
     pub numbers : new.host.volume.numbers ≡ old.host.volume.numbers
     pub size : on.device.size new.host.volume.device ≡ on.device.size old.host.volume.device
+    pub goes : GoesOn on.device.goes_on old.host.volume new.host.volume
     pub honest_after : IsHonest on old.host → IsHonest on new.host
     pub followed : Followed old new tally
     pub run : (i : Instance) (c : Configuration) → Represents old.machine i c

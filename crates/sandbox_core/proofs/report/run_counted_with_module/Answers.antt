@@ -1,4 +1,5 @@
 use Rattle.std.proofs.Common.{arith, ◌∙◌}
+use Rattle.vol_tree.proofs.GoingOn.{goes_then}
 use Rattle.sandbox_core.specs.Devices.{Calls, devices, disk_of, numbers_of, tree_of}
 use Rattle.sandbox_core.specs.Report.{Reports}
 use Rattle.sandbox_core.proofs.Reaching.{commit_after}
@@ -28,6 +29,7 @@ returns-clause-counted g c =
           (ran.crash is i d stands) (finishes.volume.crash (ran.honest_after is));
       numbers = ran.numbers;
       size = ran.size;
+      goes = goes_then g.D.Device.goes_on c.args.session.host.volume last.host.volume finishes.volume.new ran.numbers ran.goes finishes.volume.goes;
       honest_after = ran.honest_after;
       input = finishes.input;
       out = finishes.out;

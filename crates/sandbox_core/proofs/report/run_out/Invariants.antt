@@ -1,5 +1,6 @@
 use Rattle.std.proofs.Common.{◌≡◌, ◌+◌, ◌-◌, ◌≤◌, None}
 use Rattle.wasm_interp.specs.Machine.{entries_left, outcome_of}
+use Rattle.vol_tree.specs.Opened.{GoesOn}
 use Rattle.sandbox_core.specs.Devices.{Calls, devices, disk_of, numbers_of, tree_of}
 use Rattle.sandbox_core.specs.internal.Running.{Followed}
 use Rattle.sandbox_core.proofs.Reaching.{SafeSoFar}
@@ -11,6 +12,7 @@ invariant-running g l = record {
   same : l.session.machine.valid ≡ l.initial.session.machine.valid;
   going : outcome_of l.initial.session.machine ≡ None → outcome_of l.session.machine ≡ None;
   size : g.D.Device.size l.session.host.volume.device ≡ g.D.Device.size l.initial.session.host.volume.device;
+  goes : GoesOn g.D.Device.goes_on l.initial.session.host.volume l.session.host.volume;
   followed : Followed (devices g.D.Device g.R.Read g.W1.Write g.W2.Write) l.initial.session l.session l.tally;
   so_far : SafeSoFar _ (Calls (devices g.D.Device g.R.Read g.W1.Write g.W2.Write))
       (disk_of (devices g.D.Device g.R.Read g.W1.Write g.W2.Write))

@@ -37,6 +37,7 @@ returns-then-failed g c =
           (sym told.kept.failed ∙ (sym c.failed.ensures ∙ c.if-failed.true)) told.kept;
       tree = λ is. same_tree c.args.volume.tree c.sync-answer.new.self.tree c.sync-answer.result (told.answer is);
       crash = told.crash;
+      goes = told.goes_on;
       durable = λ is never. cc;
     }
 
@@ -51,6 +52,7 @@ returns g c =
       kept = subst (λ (b : Bool). Keeps g.D.Device.honest g.D.Device.size g.D.Device.failures c.args.volume c.sync-answer.new.self b) works told.kept;
       tree = λ is. same_tree c.args.volume.tree c.sync-answer.new.self.tree c.sync-answer.result (told.answer is);
       crash = told.crash;
+      goes = told.goes_on;
       durable = λ is fine image may.
           let there = as_at_success c.args.volume.tree c.sync-answer.new.self.tree c.sync-answer.result _ (told.answer is) works (told.durable is) image may in
           let numbered = subst (λ (v : Superblock). StandsAs image v c.sync-answer.new.self.tree) told.kept.numbers there in
