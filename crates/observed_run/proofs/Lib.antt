@@ -1,0 +1,4 @@
+-- What proofs cite.
+pub mod Telling
+pub mod Charging
+pub mod Going
