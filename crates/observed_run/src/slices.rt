@@ -147,9 +147,9 @@ where
     W2: Write + Drop,
     requires unused { used_by (S.state session) ≡ 0 }
     requires few { sum profile.old.units + fuel < 2 ^ 64 }
-    ensures kept { S.gives_back (S.state session.entry).machine.valid result.kept }
+    ensures kept { S.gives_back (S.state session).machine.valid result.kept }
     ensures profiled { ReportsProfiled (devices D.Device R.Read W1.Write W2.Write)
-        (S.state session.entry) fuel every result.report result.tally room.new result.depth profile.old profile.new }
+        (S.state session) fuel every result.report result.tally room.new result.depth profile.old profile.new }
 {
     let mut session = session;
     let (outcome, tally) = run_in_slices(alloc, &mut session, fuel, every, profile);

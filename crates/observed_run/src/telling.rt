@@ -76,9 +76,9 @@ where
     W1: Write + Drop,
     W2: Write + Drop,
     requires { used_by (S.state session) ≡ 0 }
-    ensures kept { S.gives_back (S.state session.entry).machine.valid result.kept }
+    ensures kept { S.gives_back (S.state session).machine.valid result.kept }
     ensures told { ReportsTold (devices D.Device R.Read W1.Write W2.Write)
-        (S.state session.entry) fuel result.report result.tally room.new result.depth }
+        (S.state session) fuel result.report result.tally room.new result.depth }
 {
     let mut session = session;
     let (end, tally) = run_slice(&mut session, fuel, Tally { calls: 0, syncs: 0 });

@@ -5,19 +5,19 @@ use Rattle.wasm_steps.specs.declared.pause.Pause.{Pause}
 use Rattle.wasm_steps.specs.declared.pause.Pause.TheVariants.{Called, Spent, Ended}
 use Rattle.wasm_steps.specs.declared.pause.Outcome.{Outcome}
 use Rattle.wasm_steps.specs.declared.pause.Outcome.TheVariants.{Exited, Trapped, OutOfFuel, OutOfMemory}
-use Rattle.wasm_steps.specs.Configuration.{Instance, Configuration}
+use Rattle.wasm_steps.specs.Configuration.{Instance, Configuration, at}
 use Rattle.wasm_interp.specs.Machine.{Represents, outcome_of}
-use Rattle.wasm_interp.specs.Promise.{HasItsUnit, UnitsRise}
+use Rattle.wasm_interp.specs.Promise.{EndsAs, HasItsUnit, UnitsRise}
 use Rattle.wasi_calls.specs.host.Worlds.{HostState, stream_failed}
 use Rattle.sandbox_core.specs.declared.session.Finished.{Finished}
 use Rattle.sandbox_core.specs.declared.tally.Tally.{Tally}
 use Rattle.sandbox_core.specs.Devices.{Devices, Calls, IsHonest, disk_of, numbers_of, tree_of}
 use Rattle.sandbox_core.specs.Session.{SessionState, Resumes, Finishes, History, Follow, used_by}
-use Rattle.sandbox_core.specs.Runs.{RunsWithin, LeftInRun}
+use Rattle.sandbox_core.specs.Runs.{StopsAs, RunsWithin, LeftInRun}
 use Rattle.sandbox_core.specs.Report.{Reports}
 use Rattle.sandbox_core.specs.Slices.{AreCalls, stop_of, outcome_after, Stops, RunsSlice, StopsAfter, ReportsStop}
 use Rattle.sandbox_core.proofs.Following.{follow_on}
-use Rattle.sandbox_core.proofs.Reaching.{SafeSoFar, safe_so_far, safe_on, so_far_on, runs_to_end, ran_out, commit_after}
+use Rattle.sandbox_core.proofs.Reaching.{SafeSoFar, safe_so_far, safe_on, ran_out, ran_to_end, commit_after}
 
 -- a refused step that has its unit has it with more fuel, too
 has_its_unit : (o : Outcome) (fewer fuel : ℕ) (c : Configuration) → fewer ≤ fuel → HasItsUnit (Ended o) fewer c → HasItsUnit (Ended o) fuel c
@@ -131,18 +131,41 @@ module _ {D R W1 W2 : Type 0} (on : Devices D R W1 W2) where
     pub unit : outcome_of first.machine ≡ None → (i : Instance) (c : Configuration) (stands : Represents first.machine i c)
         → HasItsUnit (Ended outcome) fuel (run i c stands).last
 
-  ran_to_end : (first middle last : S) (units fuel : ℕ) (o : Outcome) → Safe first middle → Resumes on middle last units (Ended o) → used_by middle + units ≤ fuel
+  -- no machine ends out of fuel
+  never_ends : (i : Instance) (h : HostState D R W1 W2) (c : Configuration) → EndsAs (HostState D R W1 W2) (Calls on) i OutOfFuel h c → ⊥
+  never_ends i h (at store f c) ends = ends
+
+  -- a run that has ended ends so with more fuel, too
+  stops_so : (i : Instance) (o : Outcome) (fewer fuel used : ℕ) (h : HostState D R W1 W2) (c : Configuration) → (o ≡ OutOfFuel → ⊥) → StopsAs (Calls on) i o fewer used h c
+      → StopsAs (Calls on) i o fuel used h c
+  stops_so i (Exited n) fewer fuel used h c isnt stops = stops
+  stops_so i (Trapped t) fewer fuel used h c isnt stops = stops
+  stops_so i OutOfFuel fewer fuel used h c isnt stops = absurd (isnt refl)
+  stops_so i OutOfMemory fewer fuel used h c isnt stops = stops
+
+  ends_in_time : (first middle last : S) (units : ℕ) (o : Outcome) → Safe first middle → Resumes on middle last units (Ended o) → (i : Instance) (c : Configuration) → Represents first.machine i c
+      → o ≡ OutOfFuel → ⊥
+  ends_in_time first middle last units o safe more i c a is =
+      let next = more.run.run i (safe.run.last i c a) (safe.run.stands i c a) in
+      never_ends i last.host next.0 (subst (λ (out : Outcome). EndsAs (HostState D R W1 W2) (Calls on) i out last.host next.0) is next.2.1)
+
+  ran_at_end : (first middle last : S) (units fuel : ℕ) (o : Outcome) → Safe first middle → Resumes on middle last units (Ended o) → used_by middle + units ≤ fuel
       → (outcome_of first.machine ≡ None → outcome_of middle.machine ≡ None) → Ran first last fuel o
-  unfolding so_far_on runs_to_end safe_on
-  ran_to_end first middle last units fuel o safe more within running =
-      let all = safe_on (HostState D R W1 W2) (Calls on) (disk_of on) numbers_of tree_of (IsHonest on) first.host middle.host last.host first.machine middle.machine last.machine units (Ended o)
-      safe more.run more.numbers more.honest_after more.crash in
+  ran_at_end first middle last units fuel o safe more within running =
+      let ended = ran_to_end (HostState D R W1 W2) (Calls on) (disk_of on) numbers_of tree_of (IsHonest on) first.host middle.host last.host first.machine middle.machine last.machine
+      units (used_by middle + units) o safe more.run refl more.numbers more.honest_after more.crash in
       record {
-        run = runs_to_end (HostState D R W1 W2) (Calls on) first.host middle.host last.host first.machine middle.machine last.machine units fuel o safe.run more.run;
-        crash = all.crash;
-        unit = λ ran i c a.
-            let next = more.run.run i (safe.run.last i c a) (safe.run.stands i c a) in
-            has_its_unit o (used_by middle + units) fuel next.0 within (next.5 (running ran));
+        run = λ i c a.
+            let run = ended.1.0 i c a in
+            record {
+              last = run.last;
+              answers = run.answers;
+              reach = run.reach;
+              units = run.units;
+              stops = stops_so i o (used_by middle + units) fuel (used_by last) last.host run.last (ends_in_time first middle last units o safe more i c a) run.stops;
+            };
+        crash = ended.1.1;
+        unit = λ runs i c a. has_its_unit o (used_by middle + units) fuel (ended.1.0 i c a).last within (ended.1.2 (running runs) i c a);
       }
 
   ran : (first middle last : S) (units fuel : ℕ) (p : Pause) (outcome : Outcome) → Safe first middle → Resumes on middle last units p → used_by middle + units ≤ fuel
@@ -153,7 +176,7 @@ module _ {D R W1 W2 : Type 0} (on : Devices D R W1 W2) where
       safe more.run used more.numbers more.honest_after more.crash in
       subst (λ (o : Outcome). Ran first last fuel o) (sym is) (record { run = out.1.0; crash = out.1.1; unit = λ ran i c a. tt })
   ran first middle last units fuel (Ended o) outcome safe more within running is =
-      subst (λ (o : Outcome). Ran first last fuel o) (sym is) (ran_to_end first middle last units fuel o safe more within running)
+      subst (λ (o : Outcome). Ran first last fuel o) (sym is) (ran_at_end first middle last units fuel o safe more within running)
 
   -- what a run and its commit left
   pub reports_stop : (last : S) (outcome : Outcome) (used pages : ℕ) (broken : Bool) (finished : Finished D R W1 W2)

@@ -50,8 +50,8 @@ pub trait Resumable<D: Device, R: Read, W1: Write, W2: Write> {
 
     /// Commits all calls so far, and gives back the volume, the streams, and of the module what nobody else owns.
     fn finish(self) -> (Self::Kept, Finished<D, R, W1, W2>)
-        ensures kept { gives_back (state self.entry).machine.valid result.0 }
-        ensures finishes { Finishes D.Device (state self.entry) result.1 };
+        ensures kept { gives_back (state self).machine.valid result.0 }
+        ensures finishes { Finishes D.Device (state self) result.1 };
 }
 
 impl<'a, 's, 't, D, R, W1, W2> Resumable<D, R, W1, W2> for Session<'a, 's, 't, D, R, W1, W2>

@@ -51,9 +51,9 @@ where
     R: Read + Drop,
     W1: Write + Drop,
     W2: Write + Drop,
-    ensures kept { S.gives_back (S.state session.entry).machine.valid result.0 }
+    ensures kept { S.gives_back (S.state session).machine.valid result.0 }
     ensures reports { ReportsStop (devices D.Device R.Read W1.Write W2.Write)
-        (S.state session.entry) outcome result.1 }
+        (S.state session) outcome result.1 }
 {
     let used = session.used();
     let pages = session.pages();
