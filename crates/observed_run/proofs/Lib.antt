@@ -1,4 +1,5 @@
 -- What proofs cite.
-pub mod Telling
+pub mod Room
 pub mod Charging
 pub mod Going
+pub mod Ending

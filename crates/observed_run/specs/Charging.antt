@@ -3,7 +3,8 @@
 use Rattle.std.specs.Prelude.{◌≡◌, ℕ, ◌+◌, ◌-◌, ◌<◌, ◌≤◌, ◌==◌, List, [], ◌∷◌, ◌++◌, if◌then◌else◌, map, max, sum, slice_index}
 use Rattle.std.specs.List.{All}
 use Rattle.wasm_steps.specs.declared.pause.Pause.TheVariants.{Called, Spent, Ended}
-use Rattle.wasm_interp.specs.Frames.{Frame, frames_of}
+use Rattle.wasm_interp.specs.declared.frames.Frame.{Frame}
+use Rattle.wasm_interp.specs.Frames.{frames_of}
 use Rattle.sandbox_core.specs.declared.report.Report.{Report}
 use Rattle.sandbox_core.specs.declared.tally.Tally.{Tally}
 use Rattle.sandbox_core.specs.Devices.{Devices}
@@ -16,6 +17,10 @@ use Rattle.observed_run.specs.Telling.{ReportsTold}
 pub record Slice (D R W1 W2 : Type 0) : Type 0 where
   pub start : SessionState D R W1 W2
   pub units : ℕ
+
+-- these units more at a node
+abbrev pub charged : (ℕ → ℕ) → ℕ → ℕ → ℕ → ℕ
+charged at node units k = if k == node then at k + units else at k
 
 module _ {D R W1 W2 : Type 0} where
   -- the functions at work, the innermost first, each by its index among the module's own
@@ -34,10 +39,6 @@ module _ {D R W1 W2 : Type 0} where
   slices_from start now ((Called call e, s) ∷ rs) = slices_from start s rs
   slices_from start now ((Spent, s) ∷ rs) = slice start s ∷ slices_from s s rs
   slices_from start now ((Ended o, s) ∷ rs) = slices_from start s rs
-
-  -- these units more at a node
-  abbrev pub charged : (ℕ → ℕ) → ℕ → ℕ → ℕ → ℕ
-  charged at node units k = if k == node then at k + units else at k
 
   -- The slices were charged one after another, each to a node; where it took units, that of the functions at work where it
   -- began. The nodes' units were these before, and are those now.

@@ -43,11 +43,7 @@ where
 }
 
 /// The node of the functions at work. Where they can't be read it is the bottom, and the profile says that it is cut.
-fn enter<S, D, R, W1, W2>(
-    session: &S,
-    profile: &mut Profile,
-    functions: &mut Vec<usize>,
-) -> usize
+fn enter<S, D, R, W1, W2>(session: &S, profile: &mut Profile, functions: &mut Vec<usize>) -> usize
 where
     S: Resumable<D, R, W1, W2>,
     D: Device,

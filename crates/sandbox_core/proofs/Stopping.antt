@@ -95,7 +95,6 @@ module _ {D R W1 W2 : Type 0} (on : Devices D R W1 W2) where
     pub slice_spends : RunsSlice on old new until Spent before after → used_by new ≡ until
     slice_spends slice = let rise = slice.last.run.units_rise in omega (arith, rise, slice.within)
 
-
     pub slice_follows : (p : Pause) (slice : RunsSlice on old new until p before after) → Follow on old (slice.calls ++ (p, new) ∷ []) new
     slice_follows p slice = follow_on on slice.calls old slice.middle new (until - used_by slice.middle) p slice.follow slice.last
 

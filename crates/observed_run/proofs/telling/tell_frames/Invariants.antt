@@ -1,5 +1,5 @@
 use Rattle.wasm_interp.specs.Frames.{frames_of}
-use Rattle.observed_run.proofs.Telling.{ToldSoFar}
+use Rattle.observed_run.proofs.Room.{ToldSoFar}
 use Rattle.observed_run.proofs.telling.tell_frames.Given as goal
 
 abbrev pub invariant-loop-index : goal.invariant-loop-index
