@@ -21,11 +21,8 @@ use Rattle.observed_run.specs.internal.Going.{ChargesSlice, GoesInSlices, RunsIn
 use Rattle.observed_run.proofs.Charging.{same_units, same_sum, adds_there, charges_kept, charges_to, charges_more}
 
 module _ {D R W1 W2 : Type 0} where
-  abbrev S : Type 0
-  S = SessionState D R W1 W2
-
   -- answered calls begin no slice
-  slices_past_calls : (calls : History S) → AreCalls calls → (start now : S) (p : Pause) (new : S) (more : History S)
+  slices_past_calls : (calls : History (SessionState D R W1 W2)) → AreCalls calls → (start now : SessionState D R W1 W2) (p : Pause) (new : SessionState D R W1 W2) (more : History (SessionState D R W1 W2))
       → slices_from start now (calls ++ ((p, new) ∷ more)) ≡ slices_from start now ((p, new) ∷ more)
   slices_past_calls [] answered start now (Called call e) new more = refl
   slices_past_calls [] answered start now Spent new more = refl
@@ -36,14 +33,24 @@ module _ {D R W1 W2 : Type 0} where
   slices_past_calls ((Spent, s) ∷ calls) (is, answered) start now p new more = absurd (true≢false (sym is))
   slices_past_calls ((Ended o, s) ∷ calls) (is, answered) start now p new more = absurd (true≢false (sym is))
 
+  pub charges_slice : (start end : SessionState D R W1 W2) (old grown new : Stacks) (node began used : ℕ) → Grows old grown → IsNodeOf grown (functions_of start) node → AddsUnits grown new node (used - began)
+      → began ≡ used_by start → used ≡ used_by end → ChargesSlice start end old new
+  charges_slice start end old grown new node began used grows is adds began_is used_is = record {
+    grown = grown;
+    grows = grows;
+    node = node;
+    is = is;
+    adds = let same : used - began ≡ used_by end - used_by start = omega (arith, began_is, used_is) in subst (λ (n : ℕ). AddsUnits grown new node n) same adds;
+  }
+
   -- a short slice
   all_one : (most : ℕ) (s : Slice D R W1 W2) → s.units ≤ most → All (λ (t : Slice D R W1 W2). t.units ≤ most) (s ∷ [])
   all_one most s short zero d low = short
   all_one most s short (suc k) d low = absurd (omega (arith, low))
 
-  module _ (on : Devices D R W1 W2) (every : ℕ) (first : S) (old : Stacks) where
+  module _ (on : Devices D R W1 W2) (every : ℕ) (first : SessionState D R W1 W2) (old : Stacks) where
     -- no slice yet
-    pub goes_first : (tally : Tally) → Tallies {S} [] tally → GoesInSlices on every first first tally old old
+    pub goes_first : (tally : Tally) → Tallies {S = SessionState D R W1 W2} [] tally → GoesInSlices on every first first tally old old
     goes_first tally none = record {
       resumes = [];
       follow = refl;
@@ -60,7 +67,7 @@ module _ {D R W1 W2 : Type 0} where
     }
 
     -- stacks were added
-    goes_grown : (now : S) (tally : Tally) (a b : Stacks) → GoesInSlices on every first now tally old a → Grows a b → GoesInSlices on every first now tally old b
+    goes_grown : (now : SessionState D R W1 W2) (tally : Tally) (a b : Stacks) → GoesInSlices on every first now tally old a → Grows a b → GoesInSlices on every first now tally old b
     goes_grown now tally a b goes grows = record {
       resumes = goes.resumes;
       follow = goes.follow;
@@ -78,7 +85,7 @@ module _ {D R W1 W2 : Type 0} where
       in_all = ap sum grows.units ∙ same_sum a.units (length grows.added) ∙ goes.in_all;
     }
 
-    module _ (now new : S) (until : ℕ) (before after : Tally) (c b : Stacks) (so_far : GoesInSlices on every first now before old c) (charges : ChargesSlice now new c b)
+    module _ (now new : SessionState D R W1 W2) (until : ℕ) (before after : Tally) (c b : Stacks) (so_far : GoesInSlices on every first now before old c) (charges : ChargesSlice now new c b)
         (few : until - used_by now ≤ max every 1) where
       abbrev a : Stacks
       a = charges.grown
@@ -94,14 +101,14 @@ module _ {D R W1 W2 : Type 0} where
       with_it = goes.slices ++ slice now new ∷ []
 
       module _ (p : Pause) (ran : RunsSlice on now new until p before after) where
-        abbrev resumes_with_it : History S
+        abbrev resumes_with_it : History (SessionState D R W1 W2)
         resumes_with_it = goes.resumes ++ (ran.calls ++ (p, new) ∷ [])
 
-        parts_with_it : (more : History S) → slices_from first first (resumes_with_it ++ more) ≡ goes.slices ++ slices_from now now ((p, new) ∷ more)
+        parts_with_it : (more : History (SessionState D R W1 W2)) → slices_from first first (resumes_with_it ++ more) ≡ goes.slices ++ slices_from now now ((p, new) ∷ more)
         parts_with_it more =
-            ap (λ (rs : History S). slices_from first first rs) (append_assoc goes.resumes (ran.calls ++ (p, new) ∷ []) more)
+            ap (λ (rs : History (SessionState D R W1 W2)). slices_from first first rs) (append_assoc goes.resumes (ran.calls ++ (p, new) ∷ []) more)
             ∙ goes.parts ((ran.calls ++ (p, new) ∷ []) ++ more)
-            ∙ ap (λ (rs : History S). goes.slices ++ slices_from now now rs) (append_assoc ran.calls ((p, new) ∷ []) more)
+            ∙ ap (λ (rs : History (SessionState D R W1 W2)). goes.slices ++ slices_from now now rs) (append_assoc ran.calls ((p, new) ∷ []) more)
             ∙ ap (λ (slices : List (Slice D R W1 W2)). goes.slices ++ slices) (slices_past_calls ran.calls ran.answered now now p new more)
 
         short_with_it : All (λ (s : Slice D R W1 W2). s.units ≤ max every 1) with_it
@@ -144,7 +151,7 @@ module _ {D R W1 W2 : Type 0} where
       pub ends_in_slices : (fuel : ℕ) (o : Outcome) → until ≤ fuel → RunsSlice on now new until (Ended o) before after → RunsInSlices on first fuel every new o after old b
       ends_in_slices fuel o within ran =
           let all : slices_from first first (resumes_with_it (Ended o) ran) ≡ with_it =
-          ap (λ (rs : History S). slices_from first first rs) (sym (append-nil (resumes_with_it (Ended o) ran))) ∙ parts_with_it (Ended o) ran [] in
+          ap (λ (rs : History (SessionState D R W1 W2)). slices_from first first rs) (sym (append-nil (resumes_with_it (Ended o) ran))) ∙ parts_with_it (Ended o) ran [] in
           record {
             resumes = resumes_with_it (Ended o) ran;
             stops = stops_after on now new until before after first goes.resumes fuel o (Ended o) ran goes.follow goes.running within refl;
@@ -164,7 +171,7 @@ module _ {D R W1 W2 : Type 0} where
           let last = slice new new in
           let none : last.units ≡ 0 = omega arith in
           let all : slices_from first first (resumes_with_it Spent ran) ≡ with_it ++ last ∷ [] =
-          ap (λ (rs : History S). slices_from first first rs) (sym (append-nil (resumes_with_it Spent ran))) ∙ parts_with_it Spent ran []
+          ap (λ (rs : History (SessionState D R W1 W2)). slices_from first first rs) (sym (append-nil (resumes_with_it Spent ran))) ∙ parts_with_it Spent ran []
           ∙ sym (append_assoc goes.slices (slice now new ∷ []) (last ∷ [])) in
           record {
             resumes = resumes_with_it Spent ran;

@@ -1,6 +1,7 @@
 //! Runs in slices, each of which is charged to the functions that are at work where it begins.
 
-ghost use Rattle.std.specs.Prelude.{◌≡◌, ◌+◌, ◌-◌, ◌<◌, ◌≤◌, ◌^◌, ℕ, OnTrue, length, sum};
+ghost use Rattle.std.specs.Prelude.{◌≡◌, ◌+◌, ◌-◌, ◌<◌, ◌≤◌, ◌^◌, ℕ, length, sum};
+ghost use Rattle.std.specs.Bool.{OnTrue};
 ghost use Rattle.sandbox_core.specs.Devices.{devices};
 ghost use Rattle.sandbox_core.specs.Session.{used_by};
 ghost use Rattle.sandbox_core.specs.Slices.{RunsSlice, stop_of};
@@ -8,7 +9,7 @@ ghost use Rattle.run_profile.specs.Stacks.{Grows, IsNodeOf};
 ghost use Rattle.observed_run.specs.Charging.{ReportsProfiled, functions_of};
 ghost use Rattle.observed_run.specs.internal.Going.{ChargesSlice, RunsInSlices};
 
-use crate::telling::{Told, outcome_of, tell_frames};
+use crate::telling::{Told, tell_frames};
 use run_profile::Profile;
 use sandbox_core::{Frame, Outcome, Resumable, Tally, finish_run, run_slice};
 use std::alloc::Global;
@@ -113,8 +114,11 @@ where
     let mut tally = Tally { calls: 0, syncs: 0 };
     loop {
         let (end, counted) = run_charged(session, until, tally, profile, &mut functions);
-        if end.is_some() || until >= fuel {
-            return (outcome_of(end), counted);
+        if let Some(outcome) = end {
+            return (outcome, counted);
+        }
+        if until >= fuel {
+            return (Outcome::OutOfFuel, counted);
         }
         tally = counted;
         until += every.max(1).min(fuel - until);

@@ -24,7 +24,7 @@ pub struct Told<K, D: Device, R, W1, W2> {
 }
 
 /// How a run has ended that is stopped where its fuel is used.
-pub(crate) fn outcome_of(end: Option<Outcome>) -> Outcome
+fn outcome_of(end: Option<Outcome>) -> Outcome
     ensures { result ≡ outcome_after end }
 {
     end.unwrap_or(Outcome::OutOfFuel)
