@@ -1,7 +1,6 @@
 -- What is told of a run that has stopped, by its resumes alone.
-use Rattle.std.proofs.Common.{◌≡◌, ◌-◌, ℕ, List, [], ◌∷◌, ◌++◌, Option, Some, None, refl, sym, ap, subst, ◌∙◌, arith}
+use Rattle.std.proofs.Common.{◌≡◌, ◌-◌, ℕ, List, [], ◌∷◌, ◌++◌, Option, refl, sym, ap, subst, arith}
 use Rattle.wasm_steps.specs.declared.pause.Outcome.{Outcome}
-use Rattle.wasm_steps.specs.declared.pause.Pause.TheVariants.{Spent}
 use Rattle.wasm_interp.specs.declared.frames.Frame.{Frame}
 use Rattle.wasm_interp.specs.Frames.{frames_of}
 use Rattle.sandbox_core.specs.declared.report.Report.{Report}
@@ -14,7 +13,6 @@ use Rattle.sandbox_core.proofs.Stopping.{slice_spends, stops_after, stops_at_end
 use Rattle.run_profile.specs.Stacks.{Stacks}
 use Rattle.observed_run.specs.Telling.{ReportsTold, TellsFrames}
 use Rattle.observed_run.specs.Charging.{ChargesRun, ReportsProfiled}
-use Rattle.observed_run.specs.internal.Going.{RunsInSlices}
 
 module _ {D R W1 W2 : Type 0} (on : Devices D R W1 W2) where
   abbrev S : Type 0

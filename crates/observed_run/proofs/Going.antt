@@ -1,5 +1,5 @@
 -- One slice more of a run in slices, and its end.
-use Rattle.std.proofs.Common.{◌≡◌, ◌<◌, ◌≤◌, ◌+◌, ◌-◌, ◌==◌, ℕ, zero, suc, Bool, true, false, List, [], ◌∷◌, ◌++◌, Option, Some, None, length, max, sum, slice_index, append_assoc, append-nil, if◌then◌else◌, refl, sym, ap, subst, ◌∙◌, true≢false, inl, inr, arith}
+use Rattle.std.proofs.Common.{◌≡◌, ◌≤◌, ◌+◌, ◌-◌, ℕ, zero, suc, Bool, List, [], ◌∷◌, ◌++◌, length, max, sum, slice_index, append_assoc, append-nil, if◌then◌else◌, refl, sym, ap, subst, ◌∙◌, true≢false, inl, inr, arith}
 use Rattle.std.specs.List.{All}
 use Rattle.std.proofs.lemmas.List.Elements.{All-nil, All-append}
 use Rattle.std.proofs.lemmas.Bool.Decides.{eqb_tells}
@@ -7,16 +7,15 @@ use Rattle.wasm_steps.specs.declared.pause.Pause.{Pause}
 use Rattle.wasm_steps.specs.declared.pause.Pause.TheVariants.{Called, Spent, Ended}
 use Rattle.wasm_steps.specs.declared.pause.Outcome.{Outcome}
 use Rattle.wasm_steps.specs.declared.pause.Outcome.TheVariants.{OutOfFuel}
-use Rattle.wasm_interp.specs.Machine.{outcome_of}
 use Rattle.sandbox_core.specs.declared.tally.Tally.{Tally}
 use Rattle.sandbox_core.specs.Devices.{Devices}
-use Rattle.sandbox_core.specs.Session.{SessionState, History, Follow, is_called, used_by}
+use Rattle.sandbox_core.specs.Session.{SessionState, History, Follow, used_by}
 use Rattle.sandbox_core.specs.Tally.{Tallies}
-use Rattle.sandbox_core.specs.Slices.{AreCalls, RunsSlice, Stops, StopsAfter}
+use Rattle.sandbox_core.specs.Slices.{AreCalls, RunsSlice}
 use Rattle.sandbox_core.proofs.Stopping.{follow_append, slice_rises, slice_spends, slice_follows, stops_after}
 use Rattle.run_profile.specs.declared.stacks.Call.{Call}
 use Rattle.run_profile.specs.Stacks.{Stacks, AddsUnits, Grows, IsNodeOf}
-use Rattle.observed_run.specs.Charging.{Slice, Charges, ChargesRun, charged, functions_of, slice, slices_from}
+use Rattle.observed_run.specs.Charging.{Slice, Charges, charged, functions_of, slice, slices_from}
 use Rattle.observed_run.specs.internal.Going.{ChargesSlice, GoesInSlices, RunsInSlices}
 use Rattle.observed_run.proofs.Charging.{same_units, same_sum, adds_there, charges_kept, charges_to, charges_more}
 

@@ -1,12 +1,12 @@
 -- One call more in a slice, and its end.
-use Rattle.std.proofs.Common.{◌≡◌, ◌≤◌, ◌-◌, ℕ, List, [], ◌∷◌, ◌++◌, true, false, refl, sym, subst, append_assoc, append-nil}
+use Rattle.std.proofs.Common.{◌≡◌, ◌≤◌, ◌-◌, ℕ, [], ◌∷◌, ◌++◌, false, refl, sym, subst, append_assoc, append-nil}
 use Rattle.wasm_store.specs.declared.call.HostCall.{HostCall}
 use Rattle.wasm_store.specs.declared.call.Errno.{Errno}
 use Rattle.wasm_steps.specs.declared.pause.Pause.{Pause}
 use Rattle.wasm_steps.specs.declared.pause.Pause.TheVariants.{Called}
 use Rattle.sandbox_core.specs.declared.tally.Tally.{Tally}
 use Rattle.sandbox_core.specs.Devices.{Devices}
-use Rattle.sandbox_core.specs.Session.{SessionState, Resumes, History, Follow, is_called, is_synced, used_by}
+use Rattle.sandbox_core.specs.Session.{SessionState, Resumes, History, is_called, is_synced, used_by}
 use Rattle.sandbox_core.specs.Tally.{Tallies}
 use Rattle.sandbox_core.specs.Slices.{AreCalls, RunsSlice}
 use Rattle.sandbox_core.specs.internal.Slicing.{AnsweredSince}

@@ -1,5 +1,5 @@
 -- Runs by their resumes alone: slices one after another, and the report at the end.
-use Rattle.std.proofs.Common.{◌≡◌, ◌≤◌, ◌+◌, ◌-◌, ◌/◌, ℕ, List, [], ◌∷◌, ◌++◌, Bool, Option, Some, None, length, append_assoc, refl, sym, ◌∙◌, subst, true≢false, arith}
+use Rattle.std.proofs.Common.{◌≡◌, ◌≤◌, ◌+◌, ◌-◌, ◌/◌, ℕ, [], ◌∷◌, ◌++◌, Bool, Option, Some, None, length, append_assoc, refl, sym, ◌∙◌, subst, true≢false, arith}
 use Rattle.vol_sector.specs.Disk.{Leaves}
 use Rattle.wasm_steps.specs.declared.pause.Pause.{Pause}
 use Rattle.wasm_steps.specs.declared.pause.Pause.TheVariants.{Called, Spent, Ended}

@@ -1,4 +1,4 @@
-use Rattle.std.proofs.Common.{refl, arith, ap, ◌-◌, ◌∙◌}
+use Rattle.std.proofs.Common.{refl, arith, ap, ◌-◌}
 use Rattle.sandbox_core.specs.Devices.{devices}
 use Rattle.sandbox_core.proofs.Slicing.{none_since, one_since, slice_ends}
 use Rattle.sandbox_core.proofs.slice.run_slice.Goals as goal
