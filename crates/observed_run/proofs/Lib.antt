@@ -1,0 +1,6 @@
+-- What proofs cite.
+pub mod Room
+pub mod Functions
+pub mod Charging
+pub mod Going
+pub mod Ending
