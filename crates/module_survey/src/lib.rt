@@ -9,10 +9,12 @@ mod places;
 mod printing;
 mod refusal;
 mod sections;
+mod sites;
 mod surveying;
 mod words;
 
 pub use links::Links;
 pub use naming::{add_called, called};
 pub use places::{function_name, instruction_offset, instructions_stand_in_the_bytes};
+pub use sites::add_site;
 pub use surveying::survey;
