@@ -1,10 +1,9 @@
 //! Where functions are at work, in words.
 
-ghost use Rattle.std.specs.Prelude.{◌≡◌, ◌++◌, ◌+◌, List, ℕ, OnOk, IfSome, Some, length, slice_get};
-ghost use Rattle.std.specs.Option.{option_map_or};
+ghost use Rattle.std.specs.Prelude.{◌≡◌, ◌++◌, List, ℕ, OnOk, IfSome, Some, slice_get};
 ghost use Rattle.wasm_module.specs.declared.module.Body.{Body as BodyValue};
-ghost use Rattle.module_survey.specs.Places.{IsInstructionAt, called};
-ghost use Rattle.module_survey.specs.Sites.{IsSite, offset_text, site_text};
+ghost use Rattle.module_survey.specs.Places.{IsInstructionAt};
+ghost use Rattle.module_survey.specs.Sites.{IsSite, offset_text};
 
 use crate::naming::add_called;
 use crate::places::instruction_offset;
@@ -17,7 +16,7 @@ fn own_offset(bytes: &[u8], module: &Module<'_>, own: usize, index: usize) -> Op
     ensures { IfSome result (λ offset. (body : BodyValue) × (slice_get «module».now.bodies own ≡ Some body)
         × IsInstructionAt bytes.now own body index offset) }
 {
-    let body = module.bodies.get(own)?;
+    let body = module.bodies.as_slice().get(own)?;
     instruction_offset(bytes, own, body, index)
 }
 
@@ -42,7 +41,8 @@ pub fn add_site(
 ) -> io::Result<()>
     ensures { OnOk result ((site : List ℕ) × IsSite bytes.now «module».now own index site × (text.new.items ≡ text.old.items ++ site)) }
 {
-    let function = module.imports.len() as u64 + own as u64;
+    let imported = module.imports.as_slice().len() as u64;
+    let function = imported.saturating_add(own as u64);
     add_offset(text, own_offset(bytes, module, own, index))?;
     write!(text, " {function} ")?;
     add_called(text, bytes, function)
