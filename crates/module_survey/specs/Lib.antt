@@ -5,6 +5,7 @@ pub mod Words
 pub mod Survey
 pub mod Places
 pub mod Sites
+pub mod Culprits
 pub mod Refusal
 pub mod Printing
 pub mod internal
