@@ -6,7 +6,8 @@ ghost use Rattle.sandbox_command.specs.Status.{ended_status, export_status, fail
 ghost use Rattle.sandbox_command.specs.Streams.{AppendsSome};
 
 use crate::output::{tell, tell_of_member};
-use crate::program::{Executed, FAULT, out_of_memory, refuse_file};
+use crate::program::{Executed, FAULT, executed, out_of_memory, refuse_file};
+use crate::streams::Streams;
 use std::io::Write;
 use vol_sector::VolumeFault;
 use volume_archive::{Refusal, Why};
@@ -97,27 +98,20 @@ pub(crate) fn ended<
     R: Drop,
     W1: Write + Drop,
     W2: Write + Drop,
->(done: Result<X, F>, device: D, input: R, mut out: W1, mut err: W2) -> Executed<D, R, W1, W2>
+>(done: Result<X, F>, device: D, given: Streams<R, W1, W2>) -> Executed<D, R, W1, W2>
     ensures status { result.status ≡ ended_status F.fails_with done result.flushed }
     ensures summary { result.summary ≡ None }
     ensures device { result.device ≡ device }
-    ensures input { result.input ≡ input }
-    ensures out { Keeps (W1.contents out) (W1.contents result.out) }
-    ensures err { AppendsSome (W2.contents err) (W2.contents result.err) }
+    ensures input { result.input ≡ given.input }
+    ensures out { Keeps (W1.contents given.out) (W1.contents result.out) }
+    ensures err { AppendsSome (W2.contents given.err) (W2.contents result.err) }
 {
-    let flushed = out.flush().is_ok();
+    let mut given = given;
+    let flushed = given.out.flush().is_ok();
     let status = match done {
         Ok(_) if flushed => 0,
-        Ok(_) => refuse_file(&mut err),
-        Err(failed) => failed.say(&mut err),
+        Ok(_) => refuse_file(&mut given.err),
+        Err(failed) => failed.say(&mut given.err),
     };
-    Executed {
-        status,
-        summary: None,
-        flushed,
-        device,
-        input,
-        out,
-        err,
-    }
+    executed(status, None, flushed, device, given)
 }

@@ -21,6 +21,7 @@ mod runs;
 mod streams;
 mod supplies;
 mod testing;
+mod work;
 
 pub use files::{exit_code, perform, perform_in};
 pub use host_volume::HostVolume;
@@ -32,3 +33,4 @@ pub use sandbox_words::{Change, Invocation, Limits, ListForm, Run, Task, invocat
 pub use streams::{Sink, Source, Spare, Streams};
 pub use testing::run_list;
 pub use volume_tasks::FRESH_SECTORS;
+pub use work::VolumeWork;
