@@ -1,5 +1,5 @@
 -- A run on a volume whose tree each crash leaves.
-use Rattle.std.proofs.Common.{◌≡◌, ◌⊎◌, ⊎_elim, ℕ, List, [], Option, Some, None, Result, Ok, Err, refl, sym, ◌∙◌, ap, subst, inl, inr}
+use Rattle.std.proofs.Common.{◌≡◌, ◌⊎◌, ◌-◌, ◌^◌, ⊎_elim, ℕ, List, [], Option, Some, None, Result, Ok, Err, refl, sym, ◌∙◌, ap, subst, inl, inr}
 use Rattle.std.specs.Borrow.{Bor}
 use Rattle.vol_sector.specs.Disk.{Image, Disk, Leaves}
 use Rattle.vol_sector.specs.declared.fault.Refused.{Refused}
@@ -25,7 +25,7 @@ use Rattle.volume_tasks.specs.Volumes.{IsOpenFor, LeftByOpening}
 use Rattle.sandbox_command.specs.declared.program.Executed.{Executed}
 use Rattle.sandbox_words.specs.declared.request.Run.{Run}
 use Rattle.run_report.specs.declared.counted.Counted.{Counted}
-use Rattle.sandbox_command.specs.Reporting.{counting, from_here}
+use Rattle.sandbox_command.specs.Reporting.{counting, from_here, output_of}
 use Rattle.sandbox_command.specs.Running.{Launches, LeftByRun, returned_device, known_of}
 
 module _ (H : Type 0) (Calls : CallsOf H) (disk : H → Disk) (numbers : H → Superblock) (tree : H → Tree) where
@@ -48,11 +48,12 @@ module _ (H : Type 0) (Calls : CallsOf H) (disk : H → Disk) (numbers : H → S
       on m (inr other) = other
 
 -- what a host is made of, of streams that are counted from here on
-pub counting_from : {D R W1 W2 : Type 0} (parts : HostParts D R W1 W2) (input : Counted R) (out : Counted W1) (err : Counted W2) → input ≡ from_here parts.input → out ≡ from_here parts.out → err ≡ from_here parts.err
-    → given parts.settings parts.volume input out err ≡ counting parts
-counting_from parts input out err in_is out_is err_is =
-    ap (λ r. given parts.settings parts.volume r out err) in_is ∙ ap (λ w. given parts.settings parts.volume (from_here parts.input) w err) out_is
-    ∙ ap (λ w. given parts.settings parts.volume (from_here parts.input) (from_here parts.out) w) err_is
+pub counting_from : {D R W1 W2 : Type 0} (run : Run) (parts : HostParts D R W1 W2) (input : Counted R) (out : Counted W1) (err : Counted W2)
+    → input ≡ from_here (2 ^ 64 - 1) parts.input → out ≡ from_here (output_of run) parts.out → err ≡ from_here (output_of run) parts.err
+    → given parts.settings parts.volume input out err ≡ counting run parts
+counting_from run parts input out err in_is out_is err_is =
+    ap (λ r. given parts.settings parts.volume r out err) in_is ∙ ap (λ w. given parts.settings parts.volume (from_here (2 ^ 64 - 1) parts.input) w err) out_is
+    ∙ ap (λ w. given parts.settings parts.volume (from_here (2 ^ 64 - 1) parts.input) (from_here (output_of run) parts.out) w) err_is
 
 -- the device of what is handed back
 pub device_back : {D : Type 0} (v : Opened D) (result : Result (Opened D) (Refused D)) → IsHandedBack v result → returned_device result ≡ v.device

@@ -61,7 +61,7 @@ module _ {D R W1 W2 : Type 0} (is_honest : D → Type 0) (disk : D → Disk) (se
   -- The module gets no session, and nothing but reads was done with the volume.
   pub record NotOpened (m : Module) (run : Run) (parts : HostParts D R W1 W2) (left : Executed D R W1 W2) : Type 0 where
     pub fault : SessionFault
-    pub refused : IsRefused is_honest fault m (counting parts)
+    pub refused : IsRefused is_honest fault m (counting run parts)
     pub volume : Opened D
     pub kept : KeepsVolume counted_devices.device fault parts.volume volume
     pub device : left.device ≡ volume.device
@@ -74,8 +74,8 @@ module _ {D R W1 W2 : Type 0} (is_honest : D → Type 0) (disk : D → Disk) (se
   -- the words name one.
   pub record Ran (m : Module) (run : Run) (parts : HostParts D R W1 W2) (left : Executed D R W1 W2) : Type 0 where
     pub session : SessionState D (Counted R) (Counted W1) (Counted W2)
-    pub opens : OpensWith run.seed m (counting parts) session
-    pub shares : Shares counted_devices.device (counting parts) session
+    pub opens : OpensWith run.seed m (counting run parts) session
+    pub shares : Shares counted_devices.device (counting run parts) session
     pub report : Report D (Counted R) (Counted W1) (Counted W2)
     pub tally : Tally
     pub counted : ReportsCounted counted_devices session run.limits.fuel report tally

@@ -10,7 +10,7 @@ ghost use Rattle.sandbox_core.specs.Report.{ReportsCounted};
 ghost use Rattle.sandbox_command.specs.Status.{status_of, EndsWith, load_status, session_status};
 ghost use Rattle.sandbox_command.specs.Status.{volume_status, words_status, command_line_status};
 ghost use Rattle.sandbox_command.specs.Streams.{AppendsSome, IsSilent};
-ghost use Rattle.sandbox_command.specs.Reporting.{kept_where_not_begun, not_run, run_summary, session_reason, volume_of};
+ghost use Rattle.sandbox_command.specs.Reporting.{broken_in, kept_where_not_begun, not_run, output_of, run_summary, session_reason, volume_of};
 ghost use Rattle.sandbox_command.specs.Running.{Launches, returned_device};
 ghost use Rattle.sandbox_command.specs.internal.Seeds.{with_seed};
 ghost use Rattle.sandbox_command.specs.internal.Supplies.{AreSupplies};
@@ -25,7 +25,7 @@ use crate::reporting::{
 use crate::streams::Streams;
 use crate::supplies::{Supplies, settings, supplied};
 use crate::work::VolumeWork;
-use run_report::{Counted, End, Fault, Kept, Summary};
+use run_report::{Counted, Cut, End, Fault, Kept, Summary};
 use sandbox_core::{
     HostParts, LoadFault, Outcome, RefusedSession, Report, Session, SessionFault, Tally, Valid,
     Volume, run_counted_with_module,
@@ -227,6 +227,28 @@ pub(crate) fn executed<D: Drop, R: Drop, W1: Drop, W2: Drop>(
     }
 }
 
+/// Which outputs of a run were refused more than they take.
+fn cut_of<D: Device, R, W1, W2>(report: &Report<D, Counted<R>, Counted<W1>, Counted<W2>>) -> Cut
+    ensures { result ≡ record { output = report.now.out.full; errors = report.now.err.full } }
+{
+    Cut {
+        output: report.out.full,
+        errors: report.err.full,
+    }
+}
+
+/// Whether a stream of a run failed, which one that is cut doesn't.
+fn is_broken<D: Device, R, W1, W2>(
+    report: &Report<D, Counted<R>, Counted<W1>, Counted<W2>>,
+) -> bool
+    ensures { result ≡ broken_in report.now }
+{
+    if report.out.full || report.err.full {
+        return report.input.failed || report.out.failed || report.err.failed;
+    }
+    report.broken
+}
+
 /// Ends a run whose streams were counted, and says what its report is. Gives the device of the volume and the streams back.
 fn reported<D: Device + Drop, R: Drop, W1: Write + Drop, W2: Write + Drop>(
     run: &Run<'_>,
@@ -240,15 +262,16 @@ fn reported<D: Device + Drop, R: Drop, W1: Write + Drop, W2: Write + Drop>(
     ensures out { Keeps (W1.contents report.out.stream) (W1.contents result.out) }
     ensures err { Keeps (W2.contents report.err.stream) (W2.contents result.err) }
 {
+    let (cut, broken) = (cut_of(&report), is_broken(&report));
     let Report {
         outcome,
         used,
         pages,
-        broken,
         volume,
         input,
         out,
         err,
+        ..
     } = report;
     let (read, written, complained) = (input.count, out.count, err.count);
     let mut streams = Streams {
@@ -273,6 +296,7 @@ fn reported<D: Device + Drop, R: Drop, W1: Write + Drop, W2: Write + Drop>(
         volume: kept,
         flushed,
         broken,
+        cut,
     };
     executed(status, Some(summary), flushed, device, streams)
 }
@@ -357,6 +381,13 @@ fn run_within<'a, D: Device + Drop, R: Read + Drop, W1: Write + Drop, W2: Write 
     run_counted_with_module(session, run.limits.fuel)
 }
 
+/// How many bytes each output of a run takes at most.
+fn output_of(run: &Run<'_>) -> u64
+    ensures { result ≡ output_of run.now }
+{
+    run.limits.output.unwrap_or(u64::MAX)
+}
+
 /// Runs a valid module with these settings on an open volume. Gives the module and the volume's device back.
 fn launch<'a, D: Device + Drop, R: Read + Drop, W1: Write + Drop, W2: Write + Drop>(
     alloc: Global,
@@ -375,9 +406,10 @@ fn launch<'a, D: Device + Drop, R: Read + Drop, W1: Write + Drop, W2: Write + Dr
         out,
         err,
     } = parts;
-    let taken = Counted::new(input);
-    let given = Counted::new(out);
-    let complaints = Counted::new(err);
+    let most = output_of(run);
+    let taken = Counted::new(input, u64::MAX);
+    let given = Counted::new(out, most);
+    let complaints = Counted::new(err, most);
     match Session::new(alloc, valid, settings, volume, taken, given, complaints) {
         Ok(session) => {
             let (valid, report, tally) = run_within(run, session);

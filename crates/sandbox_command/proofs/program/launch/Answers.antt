@@ -29,11 +29,11 @@ returns-in-Ok-clause-launches g c =
     let seed = c.args.run.now.seed in
     let limited = limited_to c.args.run.now.limits.values began_with in
     let s = with_seed seed limited in
-    let same = counting_from parts c.new-taken.result c.new-given.result c.new-complaints.result c.new-taken.ensures c.new-given.ensures c.new-complaints.ensures in
-    let opens = opens_seeded c.args.valid (counting parts) limited seed
-    (opens_limited c.args.valid (counting parts) began_with c.args.run.now.limits.values (subst (λ (p : HostParts g.row.D.Denot (Counted g.row.R.Denot) (Counted g.row.W1.Denot) (Counted g.row.W2.Denot)). Opens c.args.valid p began_with) same c.in-Ok.ensures.opens)) in
-    let shares = shares_seeded g.D.Device (counting parts) limited seed
-    (shares_limited g.D.Device (counting parts) began_with c.args.run.now.limits.values (subst (λ (p : HostParts g.row.D.Denot (Counted g.row.R.Denot) (Counted g.row.W1.Denot) (Counted g.row.W2.Denot)). Shares g.D.Device p began_with) same c.in-Ok.ensures.shares)) in
+    let same = counting_from c.args.run.now parts c.new-taken.result c.new-given.result c.new-complaints.result c.new-taken.ensures c.new-given.ensures c.new-complaints.ensures in
+    let opens = opens_seeded c.args.valid (counting c.args.run.now parts) limited seed
+    (opens_limited c.args.valid (counting c.args.run.now parts) began_with c.args.run.now.limits.values (subst (λ (p : HostParts g.row.D.Denot (Counted g.row.R.Denot) (Counted g.row.W1.Denot) (Counted g.row.W2.Denot)). Opens c.args.valid p began_with) same c.in-Ok.ensures.opens)) in
+    let shares = shares_seeded g.D.Device (counting c.args.run.now parts) limited seed
+    (shares_limited g.D.Device (counting c.args.run.now parts) began_with c.args.run.now.limits.values (subst (λ (p : HostParts g.row.D.Denot (Counted g.row.R.Denot) (Counted g.row.W1.Denot) (Counted g.row.W2.Denot)). Shares g.D.Device p began_with) same c.in-Ok.ensures.shares)) in
     let i = opens.starts.instance in
     let first = first_configuration opens.starts.entered opens.starts.store in
     let counted = c.run_within-valid.ensures.counted in
@@ -68,7 +68,7 @@ returns-in-Ok-clause-launches g c =
 pub returns-in-Err-clause-launches : goal.returns-in-Err-clause-launches
 returns-in-Err-clause-launches g c =
     let parts = c.args.parts in
-    let same = counting_from parts c.new-taken.result c.new-given.result c.new-complaints.result c.new-taken.ensures c.new-given.ensures c.new-complaints.ensures in
+    let same = counting_from c.args.run.now parts c.new-taken.result c.new-given.result c.new-complaints.result c.new-taken.ensures c.new-given.ensures c.new-complaints.ensures in
     let back = c.in-Err.ensures.hands_back in
     let ended = c.no_session.ensures in
     inl (record {
