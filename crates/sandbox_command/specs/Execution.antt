@@ -26,7 +26,7 @@ use Rattle.volume_tasks.specs.Exporting.{PerformsExport}
 use Rattle.run_report.specs.declared.fault.Fault.TheVariants as reason
 use Rattle.run_report.specs.declared.summary.Kept.TheVariants as kept
 use Rattle.run_report.specs.declared.summary.Summary.{Summary}
-use Rattle.volume_tasks.specs.Formatting.{FormatsAs}
+use Rattle.volume_tasks.specs.Formatting.{FormatsWhere}
 use Rattle.sandbox_command.specs.Reporting.{kept_where_refused, not_run, session_reason, volume_of}
 use Rattle.volume_tasks.specs.Doing.{Performs}
 use Rattle.sandbox_command.specs.declared.program.Executed.{Executed}
@@ -102,8 +102,8 @@ module _ {D R W1 W2 : Type 0} (is_honest : D → Type 0) (disk : D → Disk) (se
   -- A device is formatted; a task is done with the volume on a device, a tar stream brought into it, or one of its directories
   -- printed as one. Then the output is flushed, which keeps what it has.
   abbrev pub Executes : VolumeWork → D → R → W1 → W2 → Executed D R W1 W2 → Type 0
-  Executes (work.Format sectors slots large) device input out err left =
-      (done : Result (Unit {0}) Failure) × FormatsAs large is_honest disk sectors_on failures device sectors slots left.device done
+  Executes (work.Format sectors slots large new) device input out err left =
+      (done : Result (Unit {0}) Failure) × FormatsWhere new large is_honest disk sectors_on failures device sectors slots left.device done
       × (left.status ≡ ended_status failure_status done left.flushed) × (left.summary ≡ None) × IsSilent out_contents err_contents AppendsSome input out err left
   Executes (work.Task task) device input out err left =
       (done : Result (Unit {0}) Failure)

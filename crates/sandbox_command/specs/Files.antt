@@ -36,13 +36,17 @@ pub use Rattle.sandbox_command.specs.Beginning.{IsImage, memory_disk}
 
 -- what each run of a list of tests has of its own, or can't have
 abbrev pub IsForOneRun : Run → Type 0
-IsForOneRun run = IsSome run.stdin ⊎ (IsSome run.stdout ⊎ (IsSome run.stderr ⊎ (IsSome run.report ⊎ (IsSome run.volume ⊎ IsSome run.volume_out))))
+IsForOneRun run = IsSome run.stdin ⊎ (IsSome run.stdout ⊎ (IsSome run.stderr ⊎ (IsSome run.report ⊎ (IsSome run.volume ⊎ (IsSome run.volume_out ⊎ IsSome run.profile)))))
+
+-- its stack is to be looked at in steps of no unit, or for no profile
+abbrev pub HasWrongSteps : Run → Type 0
+HasWrongSteps run = (run.profile_every ≡ Some 0) ⊎ (IsSome run.profile_every × (run.profile ≡ None))
 
 -- A run whose options don't go together: an image beside a volume of its own, a file that its volume is to be handed out
--- into without an image, a seed beside random bytes, or a list of tests beside what is for one run.
+-- into without an image, a seed beside random bytes, a list of tests beside what is for one run, or steps of a profile that isn't wanted.
 abbrev pub Clashes : Invocation → Type 0
 Clashes (asked.Run run) = (IsSome run.image × IsSome run.volume) ⊎ ((IsSome run.volume_out × (run.image ≡ None)) ⊎ ((IsSome run.seed × IsSome run.random)
-    ⊎ (IsSome run.tests × IsForOneRun run)))
+    ⊎ ((IsSome run.tests × IsForOneRun run) ⊎ HasWrongSteps run)))
 Clashes _ = ⊥
 
 -- ---- over any places
@@ -93,8 +97,8 @@ module _ {P I O V R W1 W2 : Type 0} (on : Around P I O V R W1 W2) where
   abbrev pub IsPerformed : Invocation → Streams R W1 W2 → (p q : P) → (status : ℕ) → Type 0
   IsPerformed (asked.Run run) given p q status =
       (Clashes (asked.Run run) × (status ≡ 124) × EndsGiven on given p q) ⊎ ((Clashes (asked.Run run) → ⊥) × RunsNamed run.tests run given p q status)
-  IsPerformed (asked.Format file sectors slots large) given p q status =
-      DoesOn (Lengthens file.now sectors) file.now (min sectors 65536) (work.Format sectors slots large) given p q status
+  IsPerformed (asked.Format file sectors slots large new) given p q status =
+      DoesOn (Lengthens file.now sectors) file.now (min sectors 65536) (work.Format sectors slots large new) given p q status
   IsPerformed (asked.Volume file task) given p q status = DoesOn (Locks file.now) file.now 0 (work.Task task) given p q status
   IsPerformed (asked.Import file path) given p q status = DoesOn (Locks file.now) file.now 0 (work.Import path) given p q status
   IsPerformed (asked.Export file path) given p q status = DoesOn (Locks file.now) file.now 0 (work.Export path) given p q status

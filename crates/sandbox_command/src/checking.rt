@@ -7,8 +7,9 @@ ghost use Rattle.sandbox_command.specs.Checking.{TellsChecked, checked_damage, d
 ghost use Rattle.sandbox_command.specs.Status.{ended_status, failure_status};
 
 use crate::ending::ended;
-use crate::program::{Executed, FAULT, executed};
+use crate::program::{Executed, FAULT, make_executed};
 use crate::streams::Streams;
+use crate::explaining::About;
 use arrayvec::ArrayVec;
 use run_report::rule_text;
 use sandbox_words::Task;
@@ -75,6 +76,7 @@ pub(crate) fn ended_task<D: Drop, R: Drop, W1: Write + Drop, W2: Write + Drop>(
     done: Result<(), Failure>,
     device: D,
     given: Streams<R, W1, W2>,
+    about: &About<'_>,
 ) -> Executed<D, R, W1, W2>
     ensures status { result.status ≡ ended_status failure_status done result.flushed }
     ensures summary { result.summary ≡ None }
@@ -85,10 +87,10 @@ pub(crate) fn ended_task<D: Drop, R: Drop, W1: Write + Drop, W2: Write + Drop>(
         (W2.contents given.err) (W2.contents result.err) }
 {
     let Some(damage) = checked_damage(task, done) else {
-        return ended(done, device, given);
+        return ended(done, device, given, about);
     };
     let mut given = given;
     let flushed = given.out.flush().is_ok();
     let _ = print_damage(&mut given.err, damage);
-    executed(FAULT, None, flushed, device, given)
+    make_executed(FAULT, None, flushed, device, given)
 }

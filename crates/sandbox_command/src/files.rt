@@ -13,6 +13,7 @@ use crate::inspecting::inspect;
 use crate::opening::MODULE_READ;
 use crate::places::Places;
 use crate::program;
+use crate::refusals::tell_of_clash;
 use crate::runs::{end_refused, run_alone};
 use crate::streams::Streams;
 use crate::testing::run_list;
@@ -85,7 +86,7 @@ pub fn perform_in<P: Places, R: Read + Drop, W1: Write + Drop, W2: Write + Drop>
     ensures within { result ≤ 124 }
 {
     if clashes(invocation) {
-        return end_clashing(places, given);
+        return end_clashing(places, invocation, given);
     }
     match invocation {
         Invocation::Run(run) => match run.tests {
@@ -98,26 +99,28 @@ pub fn perform_in<P: Places, R: Read + Drop, W1: Write + Drop, W2: Write + Drop>
             sectors,
             slots,
             large,
+            new,
         } => {
             let work = VolumeWork::Format {
                 sectors: *sectors,
                 slots: *slots,
                 large: *large,
+                new: *new,
             };
             let device = places.lengthen(file, *sectors);
-            execute_on(alloc, places, work, device, given)
+            execute_on(alloc, places, file, work, device, given)
         }
         Invocation::Volume { file, task } => {
             let device = places.lock(file);
-            execute_on(alloc, places, VolumeWork::Task(*task), device, given)
+            execute_on(alloc, places, file, VolumeWork::Task(*task), device, given)
         }
         Invocation::Import { file, path } => {
             let device = places.lock(file);
-            execute_on(alloc, places, VolumeWork::Import { path }, device, given)
+            execute_on(alloc, places, file, VolumeWork::Import { path }, device, given)
         }
         Invocation::Export { file, path } => {
             let device = places.lock(file);
-            execute_on(alloc, places, VolumeWork::Export { path }, device, given)
+            execute_on(alloc, places, file, VolumeWork::Export { path }, device, given)
         }
     }
 }
@@ -125,6 +128,7 @@ pub fn perform_in<P: Places, R: Read + Drop, W1: Write + Drop, W2: Write + Drop>
 /// Says that options don't go together, and gives up the streams.
 fn end_clashing<P: Places, R: Read + Drop, W1: Write + Drop, W2: Write + Drop>(
     places: &mut P,
+    invocation: &Invocation<'_>,
     given: Streams<R, W1, W2>,
 ) -> u8
     ensures status { result ≡ 124 }
@@ -133,6 +137,7 @@ fn end_clashing<P: Places, R: Read + Drop, W1: Write + Drop, W2: Write + Drop>(
 {
     let mut given = given;
     let status = program::refuse_setting(&mut given.err);
+    tell_of_clash(&mut given.err, invocation);
     places.end(given);
     status
 }
@@ -143,6 +148,7 @@ fn end_clashing<P: Places, R: Read + Drop, W1: Write + Drop, W2: Write + Drop>(
 fn execute_on<P: Places, R: Read + Drop, W1: Write + Drop, W2: Write + Drop>(
     alloc: Global,
     places: &mut P,
+    file: &str,
     work: VolumeWork<'_>,
     device: io::Result<P::Volume>,
     given: Streams<R, W1, W2>,
@@ -156,7 +162,7 @@ fn execute_on<P: Places, R: Read + Drop, W1: Write + Drop, W2: Write + Drop>(
 {
     match device {
         Ok(device) => {
-            let left = program::execute(alloc, work, device, given);
+            let left = program::execute(alloc, file, work, device, given);
             let status = left.status;
             places.end(left);
             status

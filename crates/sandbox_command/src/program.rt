@@ -24,6 +24,7 @@ use crate::reporting::{
 };
 use crate::streams::Streams;
 use crate::supplies::{Supplies, settings, supplied};
+use crate::explaining::About;
 use crate::work::VolumeWork;
 use run_report::{Counted, Cut, End, Fault, Kept, Summary};
 use sandbox_core::{
@@ -35,7 +36,7 @@ use std::alloc::Global;
 use std::io;
 use std::io::{Read, Write};
 use vol_sector::{Device, Refused, VolumeFault};
-use volume_tasks::{export_from, format_as, import_into, open_for_run, perform};
+use volume_tasks::{export_from, format_where, import_into, open_for_run, perform};
 
 /// The status where a guest's own one is greater than `GREATEST`.
 const OTHER_EXIT: u8 = 119;
@@ -200,7 +201,7 @@ fn settled<D: Device + Drop>(
 }
 
 /// Puts together what an execution leaves.
-pub(crate) fn executed<D: Drop, R: Drop, W1: Drop, W2: Drop>(
+pub(crate) fn make_executed<D: Drop, R: Drop, W1: Drop, W2: Drop>(
     status: u8,
     summary: Option<Summary>,
     flushed: bool,
@@ -298,7 +299,7 @@ fn reported<D: Device + Drop, R: Drop, W1: Write + Drop, W2: Write + Drop>(
         broken,
         cut,
     };
-    executed(status, Some(summary), flushed, device, streams)
+    make_executed(status, Some(summary), flushed, device, streams)
 }
 
 /// Ends a run that could not begin, and says why. Nothing is flushed. Gives the device of the volume and the streams back.
@@ -318,7 +319,7 @@ fn not_begun<D: Drop, R: Drop, W1: Drop, W2: Drop>(
 {
     let (status, fault, kept) = why;
     let summary = not_run(run, fault, kept, status);
-    executed(status, Some(summary), true, device, streams)
+    make_executed(status, Some(summary), true, device, streams)
 }
 
 /// Ends a run that gets no session. Gives the device of the volume and the streams back.
@@ -497,9 +498,11 @@ pub(crate) fn run<D: Device + Drop, R: Read + Drop, W1: Write + Drop, W2: Write 
 }
 
 /// Does something with the volume on a device, and gives the exit status, the device and the streams. What is put into the
-/// volume comes from the input, what is told of it goes to the output, and the program's own line to the errors.
+/// volume comes from the input, what is told of it goes to the output, and the program's own lines to the errors, which call the
+/// volume by this name of its file.
 pub fn execute<D: Device + Drop, R: Read + Drop, W1: Write + Drop, W2: Write + Drop>(
     alloc: Global,
+    file: &str,
     work: VolumeWork<'_>,
     device: D,
     given: Streams<R, W1, W2>,
@@ -509,26 +512,28 @@ pub fn execute<D: Device + Drop, R: Read + Drop, W1: Write + Drop, W2: Write + D
     ensures within { result.status ≤ 124 }
 {
     let mut given = given;
+    let about = About { file, work };
     match work {
         VolumeWork::Format {
             sectors,
             slots,
             large,
+            new,
         } => {
-            let (done, device) = format_as(alloc, device, sectors, slots, large);
-            ended(done, device, given)
+            let (done, device) = format_where(alloc, device, sectors, slots, large, new);
+            ended(done, device, given, &about)
         }
         VolumeWork::Task(task) => {
             let (done, device) = perform(alloc, device, task, &mut given.input, &mut given.out);
-            ended_task(task, done, device, given)
+            ended_task(task, done, device, given, &about)
         }
         VolumeWork::Import { path } => {
             let (done, device) = import_into(alloc, device, path, &mut given.input);
-            ended(done, device, given)
+            ended(done, device, given, &about)
         }
         VolumeWork::Export { path } => {
             let (done, device) = export_from(alloc, device, path, &mut given.out);
-            ended(done, device, given)
+            ended(done, device, given, &about)
         }
     }
 }

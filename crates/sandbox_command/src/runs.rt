@@ -61,7 +61,7 @@ pub(crate) fn end_refused<P: Places, R: Read + Drop, W1: Write + Drop, W2: Write
         given places.old places.new }
 {
     let mut given = given;
-    let status = refuse(error, &mut given.err);
+    let status = refuse(&*places, error, &mut given.err);
     places.end(given);
     status
 }
@@ -81,7 +81,7 @@ fn end_unread<P: Places, R: Read + Drop, W1: Write + Drop, W2: Write + Drop>(
 {
     let mut given = given;
     let ending = Ending {
-        status: refuse(error, &mut given.err),
+        status: refuse(&*places, error, &mut given.err),
         summary: Some(unread(run, error)),
     };
     let status = told(places, run.report, report, ending, &mut given.err);
@@ -154,7 +154,7 @@ fn run_in_file<P: Places, R: Read + Drop, W1: Write + Drop, W2: Write + Drop>(
     } = wired;
     let (module, random) = (module.as_slice(), random.as_slice());
     let ended = program::run(alloc, run, module, random, device, streams);
-    let (ending, mut left) = finished(ended, spare);
+    let (ending, mut left) = finished(alloc, run, module, ended, spare);
     let status = told(places, run.report, report, ending, &mut left.own);
     places.end(left);
     status
@@ -183,7 +183,7 @@ fn run_in_memory<P: Places, R: Read + Drop, W1: Write + Drop, W2: Write + Drop>(
     } = wired;
     let (module, random) = (module.as_slice(), random.as_slice());
     let ended = program::run(alloc, run, module, random, device, streams);
-    let (ending, mut left) = finished(ended, spare);
+    let (ending, mut left) = finished(alloc, run, module, ended, spare);
     let ending = handed_out(places, run.volume_out, &left.device, ending, &mut left.own);
     let status = told(places, run.report, report, ending, &mut left.own);
     places.end(left);

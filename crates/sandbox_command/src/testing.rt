@@ -291,7 +291,7 @@ fn run_lines<P: Places, W: Write>(
 {
     let (text, module, random) = match list_and_files(alloc, places, run, list) {
         Ok(files) => files,
-        Err(error) => return refuse(&error, err),
+        Err(error) => return refuse(&*places, &error, err),
     };
     match tests_of(alloc, text.as_str()) {
         Ok(tests) => run_tests(

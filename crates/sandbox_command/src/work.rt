@@ -5,11 +5,13 @@ use sandbox_words::Task;
 /// What is done with the volume on a device. A run of a guest is none of these.
 #[derive(Clone, Copy)]
 pub enum VolumeWork<'a> {
-    /// The device gets an empty volume of so many sectors and slots, which is a large one or not.
+    /// The device gets an empty volume of so many sectors and slots, which is a large one or not; where it is to be new, only if no
+    /// volume stands there.
     Format {
         sectors: u32,
         slots: u32,
         large: bool,
+        new: bool,
     },
     /// A task is done.
     Task(Task<'a>),
