@@ -1,11 +1,18 @@
 -- One node more.
 use Rattle.std.proofs.Common.{◌≡◌, ◌≤◌, ◌<◌, ◌+◌, ◌-◌, ℕ, zero, suc, List, [], ◌∷◌, ◌++◌, Some, length, slice_get, slice_index, drop, replicate, append_assoc, append-nil, Bool, true, false, not, if◌then◌else◌, true≢false, refl, sym, ap, subst, ◌∙◌, arith}
+use Rattle.std.specs.List.{position}
 use Rattle.std.specs.Option.{unwrap_or}
+use Rattle.std.proofs.lemmas.List.Quantifiers.{position-Some}
+use Rattle.std.proofs.lemmas.Option.{slice_get-get_or}
 use Rattle.run_profile.specs.declared.stacks.Call.{Call}
 use Rattle.run_profile.specs.Stacks.{Stacks, Grows, IsNodeOf, IsStack, bottom, above}
 
 some_same : {X : Type 0} {a b : X} → Some a ≡ Some b → a ≡ b
 some_same {X} {a} {b} e = ap (λ o. unwrap_or o a) e
+
+-- what is found by what only one thing passes is that thing
+pub found_at : {X : Type 0} (test : X → Bool) (xs : List X) (i : ℕ) (y : X) → position test xs ≡ Some i → ((x : X) → test x ≡ true → x ≡ y) → slice_get xs i ≡ Some y
+found_at test xs i y is same = let found = position-Some test xs i y is in slice_get-get_or xs i y found.0 ∙ ap (λ x. Some x) (same _ found.1)
 
 -- what holds of each, and of one more at the end
 each_more : {X : Type 0} (P : ℕ → X → Type 0) (xs : List X) (y : X) → ((k : ℕ) (x : X) → slice_get xs k ≡ Some x → P k x) → P (length xs) y → (k : ℕ) (x : X) → slice_get (xs ++ y ∷ []) k ≡ Some x → P k x
@@ -30,8 +37,8 @@ still_stack added bottom = bottom
 still_stack {calls} added (above k call below at rest) = above k call below (front calls added k call at) (still_stack added rest)
 
 -- one node more, with no units yet
-pub grown : (old new : Stacks) (call : Call) → new.calls ≡ old.calls ++ call ∷ [] → new.units ≡ old.units ++ 0 ∷ [] → Grows old new
-grown old new call calls units = record { added = call ∷ []; calls = calls; units = units }
+pub grown : (old new : Stacks) (call : Call) → new.calls ≡ old.calls ++ call ∷ [] → new.units ≡ old.units ++ 0 ∷ [] → new.is_cut ≡ old.is_cut → Grows old new
+grown old new call calls units cut = record { added = call ∷ []; calls = calls; units = units; whole = λ whole. sym cut ∙ whole }
 
 -- units of so many nodes that have none yet
 abbrev zeros : ℕ → List ℕ
@@ -48,6 +55,7 @@ grows_on a b c first next = record {
   calls = next.calls ∙ ap (λ (calls : List Call). calls ++ next.added) first.calls ∙ append_assoc a.calls first.added next.added;
   units = next.units ∙ ap (λ (units : List ℕ). units ++ zeros (length next.added)) first.units ∙ append_assoc a.units (zeros (length first.added)) (zeros (length next.added))
       ∙ ap (λ (rest : List ℕ). a.units ++ rest) (more_zeros first.added next.added);
+  whole = λ whole. first.whole (next.whole whole);
 }
 
 -- a stack keeps its node while the tree grows
@@ -72,7 +80,7 @@ goes_last false old new x is absent = is
 
 -- nothing was added
 pub grows_none : (s : Stacks) → Grows s s
-grows_none s = record { added = []; calls = sym (append-nil s.calls); units = sym (append-nil s.units) }
+grows_none s = record { added = []; calls = sym (append-nil s.calls); units = sym (append-nil s.units); whole = λ whole. whole }
 
 -- no function is at work at the bottom
 pub at_bottom : (s : Stacks) (functions : List ℕ) (node : ℕ) → node ≡ 0 → IsStack s.calls node (drop (length functions - 0) functions)
@@ -100,7 +108,7 @@ further old new functions depth node up call grows small caller function (k, is,
 
 -- what is left out is said, and nothing else changes
 pub cut_grows : (old grown cut : Stacks) → Grows old grown → cut ≡ record grown { is_cut = true } → Grows old cut
-cut_grows old grown cut grows is = subst (Grows old) (sym is) (record { added = grows.added; calls = grows.calls; units = grows.units })
+cut_grows old grown cut grows is = subst (Grows old) (sym is) (record { added = grows.added; calls = grows.calls; units = grows.units; whole = λ whole. absurd (true≢false whole) })
 
 pub cut_node : (grown cut : Stacks) (functions : List ℕ) (node left_out : ℕ) → cut ≡ record grown { is_cut = true } → IsStack grown.calls node (drop left_out functions) → IsNodeOf cut functions node
 cut_node grown cut functions node left_out is stack =

@@ -16,11 +16,13 @@ pub data IsStack (calls : List Call) : ℕ → List ℕ → Type 0 where
   bottom : IsStack calls 0 []
   above : (k : ℕ) (call : Call) (below : List ℕ) → slice_get calls k ≡ Some call → IsStack calls call.caller below → IsStack calls (suc k) (call.function ∷ below)
 
--- Nodes were added behind those that were there, with no units yet: each stack that was there has its node and its units.
+-- Nodes were added behind those that were there, with no units yet: each stack that was there has its node and its units. What was
+-- cut stays so.
 pub record Grows (old new : Stacks) : Type 0 where
   pub added : List Call
   pub calls : new.calls ≡ old.calls ++ added
   pub units : new.units ≡ old.units ++ replicate (length added) 0
+  pub whole : new.is_cut ≡ false → old.is_cut ≡ false
 
 -- The node stands for these functions, the innermost first; or, where stacks are cut, for the outermost of them.
 pub record IsNodeOf (stacks : Stacks) (functions : List ℕ) (node : ℕ) : Type 0 where

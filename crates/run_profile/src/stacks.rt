@@ -72,24 +72,24 @@ impl Profile {
         ensures there { IfSome result (λ node. node < length self.new.units) }
         ensures whole { self.new.is_cut ≡ self.old.is_cut }
     {
-        let has_place = self.units.reserve(1).is_ok();
-        let fits = has_place && depth <= self.room;
-        if !fits && !self.calls.contains(&call) {
+        if let Some(index) = self.calls.get_index_of(&call) {
+            return Some(index + 1);
+        }
+        if depth > self.room || self.units.reserve(1).is_err() {
             return None;
         }
         match self.calls.insert_full(call) {
-            Ok((index, true)) => {
+            Ok((index, _)) => {
                 self.room -= depth;
                 self.units.push_reserved(0);
                 Some(index + 1)
             }
-            Ok((index, false)) => Some(index + 1),
             Err(_) => None,
         }
     }
 
     /// The node where no function is at work.
-    fn bottom(&self) -> usize
+    pub fn bottom(&self) -> usize
         ensures is { result ≡ 0 }
         ensures there { result < length self.now.units }
     {
@@ -97,8 +97,8 @@ impl Profile {
         0
     }
 
-    /// Says that units are added to a function below the one that took them.
-    fn cut(&mut self)
+    /// Says that units are added to a function below the one that took them, as where the functions at work can't be told.
+    pub fn cut(&mut self)
         ensures { self.new ≡ record self.old { is_cut = true } }
     {
         self.is_cut = true;

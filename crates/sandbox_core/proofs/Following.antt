@@ -47,7 +47,7 @@ module _ {D R W1 W2 : Type 0} (on : Devices D R W1 W2) where
   abbrev Resumed : S → S → ℕ → Pause → Type 0
   Resumed s t units p = Resumes on s t units p
 
-  follow_on : (rs : History S) (s t u : S) (units : ℕ) (p : Pause) → Follow on s rs t → Resumed t u units p
+  pub follow_on : (rs : History S) (s t u : S) (units : ℕ) (p : Pause) → Follow on s rs t → Resumed t u units p
       → Follow on s (rs ++ (p, u) ∷ []) u
   follow_on [] s t u units p same more = ((units, subst (λ (x : S). Resumed x u units p) same more), refl)
   follow_on (r ∷ rs) s t u units p (first, rest) more = (first, follow_on rs r.1 t u units p rest more)

@@ -2,6 +2,8 @@ pub mod Reaching
 pub mod Headline
 pub mod Safety
 pub mod Following
+pub mod Slicing
+pub mod Stopping
 pub mod Places
 pub mod Refusing
 pub mod Limiting

@@ -1,11 +1,18 @@
-use Rattle.std.proofs.Common.{sym, ap, ℕ, ◌∙◌, List, [], ◌∷◌, ◌++◌}
+use Rattle.std.proofs.Common.{sym, ap, ℕ, ◌∙◌, List, [], ◌∷◌, ◌++◌, arith, subst, ◌≡◌, Some, not, slice_get, is_some, rules}
 use Rattle.run_profile.specs.Stacks.{Stacks}
-use Rattle.run_profile.proofs.Trees.{grown, goes_last}
+use Rattle.run_profile.proofs.Trees.{found_at, grown, goes_last}
 use Rattle.run_profile.proofs.stacks.Profile.called.Goals as goal
 
+-- a node that was there
+pub returns-in-Some-clause-found : goal.returns-in-Some-clause-found
+returns-in-Some-clause-found c =
+    let keys = found_at _ c.self.inside.calls.keys c.in-Some.index c.args.call (sym c.get_index_of.ensures.index ∙ c.in-Some.is) (λ x e. search rules) in
+    (c.in-Some.index, omega arith, subst (λ (s : Stacks). slice_get s.calls c.in-Some.index ≡ Some c.args.call) c.self.view_is keys)
+
 -- a node more
-pub returns-in-Ok-default-true-clause-grows : goal.returns-in-Ok-default-true-clause-grows
-returns-in-Ok-default-true-clause-grows c =
-    let last = goes_last _ _ _ _ c.in-Ok-default-true.ensures.keys (sym c.in-Ok-default-true.field-0-1-test ∙ c.in-Ok-default-true.ensures.added) in
+pub returns-in-Ok-clause-grows : goal.returns-in-Ok-clause-grows
+returns-in-Ok-clause-grows c =
+    let last = goes_last _ _ _ _ c.in-Ok.ensures.keys (ap not (sym (ap is_some c.in_default.is) ∙ c.get_index_of.ensures.found)) in
     grown c.args.self.now _ c.args.call (last ∙ ap (λ (s : Stacks). s.calls ++ c.args.call ∷ []) c.self.view_is)
     (c.push_reserved.ensures.items ∙ ap (λ (units : List ℕ). units ++ 0 ∷ []) (c.reserve.ensures.items ∙ ap (λ (s : Stacks). s.units) c.self.view_is))
+    (ap (λ (s : Stacks). s.is_cut) c.self.view_is)

@@ -1,0 +1,5 @@
+-- What proofs cite.
+pub mod Room
+pub mod Charging
+pub mod Going
+pub mod Ending
