@@ -1,9 +1,10 @@
--- The text of a report: lines of a key and a value, in a fixed order. `report_text` is what `print` writes where it
--- succeeds, and `blame_of` decides between the guest and the machine.
+-- The text of a report: lines of a key and a value, in a fixed order. `report_text` is the text of a `Summary`, and
+-- `blame_of` decides between the guest and the machine.
 use Rattle.std.specs.Prelude.{◌||◌, ℕ, Bool, true, false, not, [], ◌∷◌, ◌++◌, Option, Some, None, if◌then◌else◌, codes, decimal}
 use Rattle.std.specs.List.{concat}
 use Rattle.run_report.specs.declared.summary.Kept.{Kept}
 use Rattle.run_report.specs.declared.summary.Kept.TheVariants as kept
+use Rattle.run_report.specs.declared.summary.Cut.{Cut}
 use Rattle.run_report.specs.declared.summary.Summary.{Summary}
 use Rattle.run_report.specs.Faults.{Text}
 use Rattle.run_report.specs.Ends.{end_code, end_offset, end_text, is_machines, label_of}
@@ -17,6 +18,10 @@ abbrev pub keeping_failed : Kept → Bool
 keeping_failed kept.None = false
 keeping_failed kept.Kept = false
 keeping_failed kept.Failed = true
+
+-- which streams were refused more than they take
+abbrev pub cut_text : Cut → Text
+cut_text c = if c.output then (if c.errors then codes "both" else codes "output") else (if c.errors then codes "errors" else codes "none")
 
 -- The machine is to blame where a file, a device or memory before the guest ran failed, where a read or a write of a stream
 -- failed, or an output couldn't be flushed; else the guest has brought the end about.
@@ -38,7 +43,7 @@ use_text s = concat (codes "units:" ∷ decimal s.units ∷ codes "\nfuel:" ∷ 
     ∷ codes "\nsyncs:" ∷ decimal s.syncs ∷ codes "\n" ∷ [])
 
 abbrev pub last_text : Summary → Text
-last_text s = concat (codes "volume:" ∷ kept_text s.volume ∷ codes "\nblame:" ∷ blame_of s ∷ codes "\n" ∷ [])
+last_text s = concat (codes "volume:" ∷ kept_text s.volume ∷ codes "\nblame:" ∷ blame_of s ∷ codes "\ncut:" ∷ cut_text s.cut ∷ codes "\n" ∷ [])
 
 -- how the run ended, what it used, and what became of it
 abbrev pub report_text : Summary → Text

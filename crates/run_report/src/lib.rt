@@ -10,5 +10,5 @@ mod summary;
 pub use counted::Counted;
 pub use end::{End, outcome_number, trap_number};
 pub use fault::{Fault, rule_text};
-pub use printing::print;
-pub use summary::{Kept, Summary};
+pub use printing::Printed;
+pub use summary::{Cut, Kept, Summary};

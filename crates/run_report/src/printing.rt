@@ -2,6 +2,7 @@
 
 ghost use Rattle.std.specs.Prelude.{◌≡◌, ◌++◌, Some, OnOk};
 ghost use Rattle.std.specs.Io.KnownBytes.{Appends};
+ghost use Rattle.run_report.specs.Faults.{Text};
 ghost use Rattle.run_report.specs.Reporting.{ending_text, number_text, report_text, use_text};
 
 use crate::summary::Summary;
@@ -9,8 +10,18 @@ use arrayvec::ArrayVec;
 use std::io::Write;
 use std::{fmt, io};
 
+/// What is printed as a text.
+pub trait Printed {
+    /// Its text.
+    ghost text: { Self → Text };
+
+    /// Prints it. Where that fails, some of it may have been printed.
+    fn print<W: Write>(&self, out: &mut W) -> io::Result<()>
+        ensures { OnOk result (Appends (W.contents out.old) (W.contents out.new) (text self.now)) };
+}
+
 /// A report before it is printed, with room for any.
-type Text = ArrayVec<u8, 1024>;
+type Lines = ArrayVec<u8, 1024>;
 
 /// A number, or nothing.
 #[derive(Clone, Copy)]
@@ -28,7 +39,7 @@ impl fmt::Display for Number {
 }
 
 /// Adds how a run ended.
-fn add_ending(text: &mut Text, summary: &Summary) -> io::Result<()>
+fn add_ending(text: &mut Lines, summary: &Summary) -> io::Result<()>
     ensures { OnOk result (text.new.items ≡ text.old.items ++ ending_text summary.now) }
 {
     let end = summary.end;
@@ -44,7 +55,7 @@ fn add_ending(text: &mut Text, summary: &Summary) -> io::Result<()>
 }
 
 /// Adds what it used.
-fn add_use(text: &mut Text, summary: &Summary) -> io::Result<()>
+fn add_use(text: &mut Lines, summary: &Summary) -> io::Result<()>
     ensures { OnOk result (text.new.items ≡ text.old.items ++ use_text summary.now) }
 {
     write!(
@@ -61,19 +72,20 @@ fn add_use(text: &mut Text, summary: &Summary) -> io::Result<()>
     )
 }
 
-/// Prints the report. Where that fails, some of it may have been printed.
-pub fn print<W: Write>(out: &mut W, summary: &Summary) -> io::Result<()>
-    ensures { OnOk result
-        (Appends (W.contents out.old) (W.contents out.new) (report_text summary.now)) }
-{
-    let mut text = Text::new();
-    add_ending(&mut text, summary)?;
-    add_use(&mut text, summary)?;
-    write!(
-        text,
-        "volume:{}\nblame:{}\n",
-        summary.volume.text(),
-        summary.blame()
-    )?;
-    out.write_all(text.as_slice())
+impl Printed for Summary {
+    ghost text = { report_text };
+
+    fn print<W: Write>(&self, out: &mut W) -> io::Result<()> {
+        let mut text = Lines::new();
+        add_ending(&mut text, self)?;
+        add_use(&mut text, self)?;
+        write!(
+            text,
+            "volume:{}\nblame:{}\ncut:{}\n",
+            self.volume.text(),
+            self.blame(),
+            self.cut.text()
+        )?;
+        out.write_all(text.as_slice())
+    }
 }

@@ -1,7 +1,7 @@
 //! What the report of a run says.
 
 ghost use Rattle.std.specs.Prelude.{◌≡◌};
-ghost use Rattle.run_report.specs.Reporting.{blame_of, kept_text};
+ghost use Rattle.run_report.specs.Reporting.{blame_of, cut_text, kept_text};
 
 use crate::end::End;
 
@@ -14,6 +14,13 @@ pub enum Kept {
     Kept,
     /// Its device failed, so that the last of them may not be.
     Failed,
+}
+
+/// Which of a guest's streams were refused more than they take at most.
+#[derive(Clone, Copy)]
+pub struct Cut {
+    pub output: bool,
+    pub errors: bool,
 }
 
 /// How a run ended and what it used.
@@ -40,6 +47,7 @@ pub struct Summary {
     pub flushed: bool,
     /// Whether a read or a write of a stream failed.
     pub broken: bool,
+    pub cut: Cut,
 }
 
 impl Kept {
@@ -51,6 +59,20 @@ impl Kept {
             Kept::None => "none",
             Kept::Kept => "kept",
             Kept::Failed => "failed",
+        }
+    }
+}
+
+impl Cut {
+    /// What the report calls it.
+    pub fn text(self) -> &'static str
+        ensures { result.now ≡ cut_text self }
+    {
+        match (self.output, self.errors) {
+            (false, false) => "none",
+            (true, false) => "output",
+            (false, true) => "errors",
+            (true, true) => "both",
         }
     }
 }

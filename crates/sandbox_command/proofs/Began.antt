@@ -1,5 +1,5 @@
 -- A run on a volume whose tree each crash leaves.
-use Rattle.std.proofs.Common.{◌≡◌, ◌⊎◌, ⊎_elim, ℕ, List, [], Option, Some, None, Result, Ok, Err, refl, sym, ◌∙◌, ap, subst, inl, inr}
+use Rattle.std.proofs.Common.{◌≡◌, ◌⊎◌, ◌-◌, ◌^◌, ⊎_elim, ℕ, List, [], Option, Some, None, Result, Ok, Err, refl, sym, ◌∙◌, ap, subst, inl, inr}
 use Rattle.std.specs.Borrow.{Bor}
 use Rattle.vol_sector.specs.Disk.{Image, Disk, Leaves}
 use Rattle.vol_sector.specs.declared.fault.Refused.{Refused}
@@ -25,7 +25,7 @@ use Rattle.volume_tasks.specs.Volumes.{IsOpenFor, LeftByOpening}
 use Rattle.sandbox_command.specs.declared.program.Executed.{Executed}
 use Rattle.sandbox_words.specs.declared.request.Run.{Run}
 use Rattle.run_report.specs.declared.counted.Counted.{Counted}
-use Rattle.sandbox_command.specs.Reporting.{counting, from_here}
+use Rattle.sandbox_command.specs.Reporting.{counting, from_here, output_of}
 use Rattle.sandbox_command.specs.Running.{Launches, LeftByRun, returned_device, known_of}
 
 module _ (H : Type 0) (Calls : CallsOf H) (disk : H → Disk) (numbers : H → Superblock) (tree : H → Tree) where
@@ -48,11 +48,12 @@ module _ (H : Type 0) (Calls : CallsOf H) (disk : H → Disk) (numbers : H → S
       on m (inr other) = other
 
 -- what a host is made of, of streams that are counted from here on
-pub counting_from : {D R W1 W2 : Type 0} (parts : HostParts D R W1 W2) (input : Counted R) (out : Counted W1) (err : Counted W2) → input ≡ from_here parts.input → out ≡ from_here parts.out → err ≡ from_here parts.err
-    → given parts.settings parts.volume input out err ≡ counting parts
-counting_from parts input out err in_is out_is err_is =
-    ap (λ r. given parts.settings parts.volume r out err) in_is ∙ ap (λ w. given parts.settings parts.volume (from_here parts.input) w err) out_is
-    ∙ ap (λ w. given parts.settings parts.volume (from_here parts.input) (from_here parts.out) w) err_is
+pub counting_from : {D R W1 W2 : Type 0} (run : Run) (parts : HostParts D R W1 W2) (input : Counted R) (out : Counted W1) (err : Counted W2)
+    → input ≡ from_here (2 ^ 64 - 1) parts.input → out ≡ from_here (output_of run) parts.out → err ≡ from_here (output_of run) parts.err
+    → given parts.settings parts.volume input out err ≡ counting run parts
+counting_from run parts input out err in_is out_is err_is =
+    ap (λ r. given parts.settings parts.volume r out err) in_is ∙ ap (λ w. given parts.settings parts.volume (from_here (2 ^ 64 - 1) parts.input) w err) out_is
+    ∙ ap (λ w. given parts.settings parts.volume (from_here (2 ^ 64 - 1) parts.input) (from_here (output_of run) parts.out) w) err_is
 
 -- the device of what is handed back
 pub device_back : {D : Type 0} (v : Opened D) (result : Result (Opened D) (Refused D)) → IsHandedBack v result → returned_device result ≡ v.device
@@ -89,24 +90,24 @@ module _ {D : Type 0} (is_honest : D → Type 0) (disk : D → Disk) (sectors_on
   kept_honest Preopen old new reads h = reads.kept.honest.0 h
   kept_honest Memory old new same h = subst (λ (v : Opened D). is_honest v.device) (sym same) h
 
-  module _ {R W1 W2 : Type 0} (remaining : R → Option (List ℕ)) (outs : W1 → Option (List ℕ)) (errs : W2 → Option (List ℕ)) (Follows : Option (List ℕ) → Option (List ℕ) → Type 0) (m : Module) (run : Run) (parts : HostParts D R W1 W2) (left : Executed D R W1 W2) where
-    pub launch_crash : (launched : Launches is_honest disk sectors_on failures goes_on remaining outs errs Follows m run parts left) → is_honest parts.volume.device → ((c : Image) → (disk parts.volume.device).may_leave c → StandsAs c parts.volume.numbers parts.volume.tree)
-        → Leaves (disk parts.volume.device) (disk left.device) (LeftByRun is_honest disk sectors_on failures goes_on remaining outs errs Follows m run parts left launched)
+  module _ {R W1 W2 : Type 0} (remaining : R → Option (List ℕ)) (outs : W1 → Option (List ℕ)) (errs : W2 → Option (List ℕ)) (m : Module) (run : Run) (parts : HostParts D R W1 W2) (left : Executed D R W1 W2) where
+    pub launch_crash : (launched : Launches is_honest disk sectors_on failures goes_on remaining outs errs m run parts left) → is_honest parts.volume.device → ((c : Image) → (disk parts.volume.device).may_leave c → StandsAs c parts.volume.numbers parts.volume.tree)
+        → Leaves (disk parts.volume.device) (disk left.device) (LeftByRun is_honest disk sectors_on failures goes_on remaining outs errs m run parts left launched)
     launch_crash (inl refused) h lasts =
         subst (λ (d : D). Leaves (disk parts.volume.device) (disk d) (λ c. ⊥)) (sym refused.device) (kept_crash refused.fault parts.volume refused.volume refused.kept h)
     launch_crash (inr ran) h lasts = ran.crash h lasts
 
-    pub launch_honest : Launches is_honest disk sectors_on failures goes_on remaining outs errs Follows m run parts left → is_honest parts.volume.device → is_honest left.device
+    pub launch_honest : Launches is_honest disk sectors_on failures goes_on remaining outs errs m run parts left → is_honest parts.volume.device → is_honest left.device
     launch_honest (inl refused) h = subst is_honest (sym refused.device) (kept_honest refused.fault parts.volume refused.volume refused.kept h)
     launch_honest (inr ran) h =
         let back = ran.device ∙ device_back ran.counted.reports.volume.new ran.report.volume ran.counted.reports.volume.handed_back in
         subst is_honest (sym back) (ran.counted.reports.volume.kept.honest.0 (ran.counted.reports.honest_after (ran.shares.reads.kept.honest.0 h)))
 
-    pub whole_crash : (file : Option (Bor Text)) (device : D) → IsOpenFor is_honest disk sectors_on failures file device parts.volume → (launched : Launches is_honest disk sectors_on failures goes_on remaining outs errs Follows m run parts left) → is_honest device
-        → Leaves (disk device) (disk left.device) (λ c. LeftByOpening is_honest disk sectors_on failures file parts.volume c ⊎ LeftByRun is_honest disk sectors_on failures goes_on remaining outs errs Follows m run parts left launched c)
+    pub whole_crash : (file : Option (Bor Text)) (device : D) → IsOpenFor is_honest disk sectors_on failures file device parts.volume → (launched : Launches is_honest disk sectors_on failures goes_on remaining outs errs m run parts left) → is_honest device
+        → Leaves (disk device) (disk left.device) (λ c. LeftByOpening is_honest disk sectors_on failures file parts.volume c ⊎ LeftByRun is_honest disk sectors_on failures goes_on remaining outs errs m run parts left launched c)
     whole_crash file device opened launched h =
         let now = opened_honest file device parts.volume opened h in
         leaves_then (disk device) (disk parts.volume.device) (disk left.device) (LeftByOpening is_honest disk sectors_on failures file parts.volume)
-        (LeftByRun is_honest disk sectors_on failures goes_on remaining outs errs Follows m run parts left launched)
-        (λ c. LeftByOpening is_honest disk sectors_on failures file parts.volume c ⊎ LeftByRun is_honest disk sectors_on failures goes_on remaining outs errs Follows m run parts left launched c)
+        (LeftByRun is_honest disk sectors_on failures goes_on remaining outs errs m run parts left launched)
+        (λ c. LeftByOpening is_honest disk sectors_on failures file parts.volume c ⊎ LeftByRun is_honest disk sectors_on failures goes_on remaining outs errs m run parts left launched c)
         (opening_crash file device parts.volume opened h) (launch_crash launched now (opened_lasts file device parts.volume opened h)) (λ c p. inl p) (λ c p. inr p)

@@ -1,7 +1,6 @@
 -- No run ends with a status above 124.
 use Rattle.std.proofs.Common.{◌≡◌, ◌≤◌, ℕ, Bool, true, false, List, Option, Result, Ok, Err, nat_le, if◌then◌else◌, inl, inr, arith}
 use Rattle.std.proofs.lemmas.Bool.Decides.{nat_tests}
-use Rattle.std.specs.Io.KnownBytes.{Keeps}
 use Rattle.vol_sector.specs.Disk.{Disk}
 use Rattle.vol_sector.specs.declared.fault.VolumeFault.{VolumeFault}
 use Rattle.vol_sector.specs.declared.fault.VolumeFault.TheVariants as volume
@@ -49,7 +48,7 @@ of_end outcome (Err r) flushed n is = omega (arith, is)
 module _ {D R W1 W2 : Type 0} (is_honest : D → Type 0) (disk : D → Disk) (sectors_on failures : D → ℕ) (goes_on : ℕ → D → D → Type 0)
     (remaining : R → Option (List ℕ)) (outs : W1 → Option (List ℕ)) (errs : W2 → Option (List ℕ)) where
   pub runs_within : (run : Run) (bytes : List ℕ) (random : Text) (device : D) (input : R) (out : W1) (err : W2) (left : Executed D R W1 W2)
-      → Runs is_honest disk sectors_on failures goes_on remaining outs errs Keeps run bytes random device input out err left → left.status ≤ 124
+      → Runs is_honest disk sectors_on failures goes_on remaining outs errs run bytes random device input out err left → left.status ≤ 124
   runs_within run bytes random device input out err left (inl (refused, same)) = of_session refused.fault left.status refused.ends
   runs_within run bytes random device input out err left (inr (inl (refused, same))) = of_load refused.fault left.status refused.ends
   runs_within run bytes random device input out err left (inr (inr (m, spells, valid, inl none))) = of_volume none.refused.fault left.status none.ends

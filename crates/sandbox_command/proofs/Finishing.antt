@@ -1,7 +1,6 @@
 -- A run alone that has ended: what it had is given up, and its status is none above 124.
 use Rattle.std.proofs.Common.{◌≡◌, ◌≤◌, ℕ, List, Option, Some, None, inl, inr, refl, sym, subst, arith}
 use Rattle.std.specs.Borrow.{Bor}
-use Rattle.std.specs.Io.KnownBytes.{Keeps}
 use Rattle.std.specs.declared.io.ErrorKind.{ErrorKind}
 use Rattle.std.specs.declared.io.ErrorKind.TheVariants.{OutOfMemory}
 use Rattle.std.specs.declared.io.Read.{Ghosts as Reader}
@@ -41,7 +40,7 @@ module _ {P I O V R W1 W2 : Type 0} (on : Around P I O V R W1 W2) {D : Type 0} (
     (run : Run) (device : D) (streams : Streams (Source I R) (Sink O W1) (Sink O W2)) (spare : Spare R W1 W2) (report : Option O) where
   abbrev Ended : (bytes random : List ℕ) → Executed D (Source I R) (Sink O W1) (Sink O W2) → Type 0
   Ended bytes random left = Runs known.honest known.disk known.size known.failures known.goes_on (source_remaining on.read.remaining on.input.remaining)
-      (sink_contents on.written.contents on.out.contents) (sink_contents on.written.contents on.err.contents) Keeps
+      (sink_contents on.written.contents on.out.contents) (sink_contents on.written.contents on.err.contents)
       run bytes random device streams.input streams.out streams.err left
 
   abbrev told_in : Sink O W2 → Option (List ℕ)

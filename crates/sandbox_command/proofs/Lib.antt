@@ -3,8 +3,8 @@ mod Both
 mod Given
 mod Words
 mod Lines
-mod Spoken
 mod Began
+mod Unbegun
 mod Bounds
 mod Finishing
 mod AfterFlush

@@ -2,7 +2,7 @@
 -- turn, what the run begins with, how it ends, and that nothing follows on what it had.
 use Rattle.std.specs.Prelude.{◌≡◌, ◌⊎◌, ℕ, List, Option, Some, None, option_map}
 use Rattle.std.specs.Borrow.{Bor}
-use Rattle.std.specs.Io.KnownBytes.{Appends, Keeps}
+use Rattle.std.specs.Io.KnownBytes.{Appends}
 use Rattle.std.specs.declared.io.ErrorKind.{ErrorKind}
 use Rattle.std.specs.declared.io.ErrorKind.TheVariants.{OutOfMemory}
 use Rattle.std.specs.declared.io.Write.{Ghosts as Writer}
@@ -121,7 +121,7 @@ module _ {P I O V R W1 W2 : Type 0} (on : Around P I O V R W1 W2) where
       (report : Option O) (p q : P) (status : ℕ) : Type 0 where
     pub left : Executed D (Source I R) (Sink O W1) (Sink O W2)
     pub runs : Runs known.honest known.disk known.size known.failures known.goes_on (source_remaining on.read.remaining on.input.remaining)
-        (sink_contents on.written.contents on.out.contents) (sink_contents on.written.contents on.err.contents) Keeps
+        (sink_contents on.written.contents on.out.contents) (sink_contents on.written.contents on.err.contents)
         run bytes random device streams.input streams.out streams.err left
     pub before : ℕ
     pub summary : Option Summary

@@ -1,7 +1,6 @@
--- What the program does: how it ends, and of which run, formatting, task, import, export or inspection its status
--- tells (`docs/USING.md`, "Commands"). `execute` promises `Executes`; its part for a run, `Runs`, has a parameter
--- `Follows`: what standard error may have behind what the guest wrote there, the program's own lines (`AppendsSome`)
--- or nothing (`Keeps`), as where a run is one of its own (`Alone`) or a test (`Testing`).
+-- What is done with a device: how it ends, and of which run, formatting, task, import or export its status tells
+-- (`docs/USING.md`, "Commands"). `Runs` says it of a run, alone (`Alone`) or as a test of a list (`Testing`), up to its own
+-- lines, which are printed later; `Executes` of what is no run, which `execute` promises.
 use Rattle.std.specs.Prelude.{◌≡◌, ◌≢◌, ◌⊎◌, ℕ, true, List, Option, Some, None, Result}
 use Rattle.std.specs.Io.KnownBytes.{Keeps}
 use Rattle.vol_sector.specs.Disk.{Disk, Leaves}
@@ -18,8 +17,6 @@ use Rattle.wasi_calls.specs.declared.host.settings.Settings.{Settings}
 use Rattle.sandbox_core.specs.declared.fault.SessionFault.{SessionFault}
 use Rattle.sandbox_core.specs.Session.{given}
 use Rattle.sandbox_words.specs.declared.request.Run.{Run}
-use Rattle.sandbox_words.specs.declared.request.Invocation.{Invocation}
-use Rattle.sandbox_words.specs.declared.request.Invocation.TheVariants as asked
 use Rattle.sandbox_words.specs.Request.{Text}
 use Rattle.volume_tasks.specs.declared.failure.Failure.{Failure}
 use Rattle.volume_tasks.specs.declared.importing.ImportFailure.{ImportFailure}
@@ -29,12 +26,13 @@ use Rattle.volume_tasks.specs.Exporting.{PerformsExport}
 use Rattle.run_report.specs.declared.fault.Fault.TheVariants as reason
 use Rattle.run_report.specs.declared.summary.Kept.TheVariants as kept
 use Rattle.run_report.specs.declared.summary.Summary.{Summary}
-use Rattle.volume_tasks.specs.Formatting.{FormatsAs}
+use Rattle.volume_tasks.specs.Formatting.{FormatsWhere}
 use Rattle.sandbox_command.specs.Reporting.{kept_where_refused, not_run, session_reason, volume_of}
 use Rattle.volume_tasks.specs.Doing.{Performs}
 use Rattle.sandbox_command.specs.declared.program.Executed.{Executed}
+use Rattle.sandbox_command.specs.declared.work.VolumeWork.{VolumeWork}
+use Rattle.sandbox_command.specs.declared.work.VolumeWork.TheVariants as work
 use Rattle.sandbox_command.specs.Checking.{TellsChecked, checked_damage}
-use Rattle.sandbox_command.specs.Inspecting.{Inspects}
 use Rattle.sandbox_command.specs.Status.{ended_status, export_status, failure_status, import_status, load_status, session_status, volume_status}
 use Rattle.sandbox_command.specs.Streams.{AppendsSome, IsSilent}
 use Rattle.sandbox_command.specs.Supplies.{AreDirectories, AreSettings, IsUncut, directories_of}
@@ -62,68 +60,63 @@ pub record NotLoaded (run : Run) (bytes : List ℕ) (status : ℕ) (summary : Op
 module _ {D R W1 W2 : Type 0} (is_honest : D → Type 0) (disk : D → Disk) (sectors_on failures : D → ℕ) (goes_on : ℕ → D → D → Type 0)
     (remaining : R → Option (List ℕ)) (out_contents : W1 → Option (List ℕ)) (err_contents : W2 → Option (List ℕ)) where
   -- The volume is refused.
-  pub record NoVolume (Follows : Option (List ℕ) → Option (List ℕ) → Type 0) (run : Run) (device : D) (input : R) (out : W1) (err : W2) (left : Executed D R W1 W2) : Type 0 where
+  pub record NoVolume (run : Run) (device : D) (input : R) (out : W1) (err : W2) (left : Executed D R W1 W2) : Type 0 where
     pub refused : Refused D
     pub why : IsRefusedFor is_honest disk sectors_on failures (volume_of run) device refused
     pub device_is : left.device ≡ refused.device
     pub ends : left.status ≡ volume_status refused.fault
     pub flushed : left.flushed ≡ true
     pub summary : left.summary ≡ Some (not_run run (reason.Volume refused.fault) (kept_where_refused refused.fault) left.status)
-    pub streams : IsSilent out_contents err_contents Follows input out err left
+    pub streams : IsSilent out_contents err_contents Keeps input out err left
 
   -- The volume was opened, and the module launched with it and with the settings that were asked for.
-  pub record OnVolume (Follows : Option (List ℕ) → Option (List ℕ) → Type 0) (run : Run) (m : Module) (random : Text) (device : D) (input : R) (out : W1) (err : W2) (left : Executed D R W1 W2) : Type 0 where
+  pub record OnVolume (run : Run) (m : Module) (random : Text) (device : D) (input : R) (out : W1) (err : W2) (left : Executed D R W1 W2) : Type 0 where
     pub volume : Opened D
     pub opened : IsOpenFor is_honest disk sectors_on failures (volume_of run) device volume
     pub settings : Settings
     pub are_settings : AreSettings run random settings
-    pub launched : Launches is_honest disk sectors_on failures goes_on remaining out_contents err_contents Follows m run (given settings volume input out err) left
+    pub launched : Launches is_honest disk sectors_on failures goes_on remaining out_contents err_contents m run (given settings volume input out err) left
     -- At any moment a crash leaves what it could leave before, what opening leaves, or the tree of a host that the run comes by.
     pub crash : is_honest device → Leaves (disk device) (disk left.device)
-        (λ c. LeftByOpening is_honest disk sectors_on failures (volume_of run) volume c ⊎ LeftByRun is_honest disk sectors_on failures goes_on remaining out_contents err_contents Follows m run (given settings volume input out err) left launched c)
+        (λ c. LeftByOpening is_honest disk sectors_on failures (volume_of run) volume c ⊎ LeftByRun is_honest disk sectors_on failures goes_on remaining out_contents err_contents m run (given settings volume input out err) left launched c)
     pub honest : is_honest device → is_honest left.device
 
   -- the volume is refused, or the module is launched with it
-  abbrev pub RunsOn : (Option (List ℕ) → Option (List ℕ) → Type 0) → Run → Module → Text → D → R → W1 → W2 → Executed D R W1 W2 → Type 0
-  RunsOn Follows run m random device input out err left = NoVolume Follows run device input out err left ⊎ OnVolume Follows run m random device input out err left
+  abbrev pub RunsOn : Run → Module → Text → D → R → W1 → W2 → Executed D R W1 W2 → Type 0
+  RunsOn run m random device input out err left = NoVolume run device input out err left ⊎ OnVolume run m random device input out err left
 
   -- Before a volume was opened: the device is as it was, and so are the input and the output.
-  pub record IsUntouched (Follows : Option (List ℕ) → Option (List ℕ) → Type 0) (device : D) (input : R) (out : W1) (err : W2) (left : Executed D R W1 W2) : Type 0 where
+  pub record IsUntouched (device : D) (input : R) (out : W1) (err : W2) (left : Executed D R W1 W2) : Type 0 where
     pub device_is : left.device ≡ device
     pub flushed : left.flushed ≡ true
-    pub streams : IsSilent out_contents err_contents Follows input out err left
+    pub streams : IsSilent out_contents err_contents Keeps input out err left
 
   -- The words are refused, or the bytes; or they spell a valid module, and then the volume is refused, or the module is
   -- launched.
-  abbrev pub Runs : (Option (List ℕ) → Option (List ℕ) → Type 0) → Run → List ℕ → Text → D → R → W1 → W2 → Executed D R W1 W2 → Type 0
-  Runs Follows run bytes random device input out err left =
-      (NotSupplied run left.status left.summary × IsUntouched Follows device input out err left)
-      ⊎ ((NotLoaded run bytes left.status left.summary × IsUntouched Follows device input out err left)
-      ⊎ ((m : Module) × Spells bytes m × IsValid m × RunsOn Follows run m random device input out err left))
+  abbrev pub Runs : Run → List ℕ → Text → D → R → W1 → W2 → Executed D R W1 W2 → Type 0
+  Runs run bytes random device input out err left =
+      (NotSupplied run left.status left.summary × IsUntouched device input out err left)
+      ⊎ ((NotLoaded run bytes left.status left.summary × IsUntouched device input out err left)
+      ⊎ ((m : Module) × Spells bytes m × IsValid m × RunsOn run m random device input out err left))
 
-  -- A module runs on the volume of a device, and the program's own lines follow on the side of errors; a device is formatted; a task is
-  -- done with the volume on a device, a tar stream brought into it, or one of its directories printed as one; the lines that
-  -- tell what a module is are printed. Then the output is flushed, which keeps what it has.
-  abbrev pub Executes : Invocation → List ℕ → Text → D → R → W1 → W2 → Executed D R W1 W2 → Type 0
-  Executes (asked.Run run) bytes random device input out err left = Runs AppendsSome run bytes random device input out err left
-  Executes (asked.Format file sectors slots large) bytes random device input out err left =
-      (done : Result (Unit {0}) Failure) × FormatsAs large is_honest disk sectors_on failures device sectors slots left.device done
+  -- A device is formatted; a task is done with the volume on a device, a tar stream brought into it, or one of its directories
+  -- printed as one. Then the output is flushed, which keeps what it has.
+  abbrev pub Executes : VolumeWork → D → R → W1 → W2 → Executed D R W1 W2 → Type 0
+  Executes (work.Format sectors slots large new) device input out err left =
+      (done : Result (Unit {0}) Failure) × FormatsWhere new large is_honest disk sectors_on failures device sectors slots left.device done
       × (left.status ≡ ended_status failure_status done left.flushed) × (left.summary ≡ None) × IsSilent out_contents err_contents AppendsSome input out err left
-  Executes (asked.Volume file task) bytes random device input out err left =
+  Executes (work.Task task) device input out err left =
       (done : Result (Unit {0}) Failure)
       × Performs is_honest disk sectors_on failures task device (remaining input) (remaining left.input) (out_contents out) (out_contents left.out) left.device done
       × (left.status ≡ ended_status failure_status done left.flushed) × (left.summary ≡ None)
       × TellsChecked (checked_damage task done) (err_contents err) (err_contents left.err)
-  Executes (asked.Import file path) bytes random device input out err left =
+  Executes (work.Import path) device input out err left =
       (done : Result ℕ ImportFailure)
       × PerformsImport is_honest disk sectors_on failures path.now device (remaining input) (remaining left.input) left.device done
       × (left.status ≡ ended_status import_status done left.flushed) × (left.summary ≡ None)
       × Keeps (out_contents out) (out_contents left.out) × AppendsSome (err_contents err) (err_contents left.err)
-  Executes (asked.Export file path) bytes random device input out err left =
+  Executes (work.Export path) device input out err left =
       (done : Result (Unit {0}) ExportFailure)
       × PerformsExport is_honest disk sectors_on failures path.now device (out_contents out) (out_contents left.out) left.device done
       × (left.status ≡ ended_status export_status done left.flushed) × (left.summary ≡ None)
       × (left.input ≡ input) × AppendsSome (err_contents err) (err_contents left.err)
-  Executes (asked.Inspect «module») bytes random device input out err left =
-      Inspects bytes (out_contents out) (out_contents left.out) left.flushed left.status × (left.summary ≡ None)
-      × (left.device ≡ device) × (left.input ≡ input) × AppendsSome (err_contents err) (err_contents left.err)

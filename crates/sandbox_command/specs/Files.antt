@@ -19,6 +19,8 @@ use Rattle.sandbox_words.specs.declared.request.Invocation.TheVariants as asked
 use Rattle.sandbox_words.specs.Request.{Text}
 use Rattle.sandbox_words.specs.CommandLine.{AsksFor, program}
 use Rattle.sandbox_command.specs.declared.program.Executed.{Executed}
+use Rattle.sandbox_command.specs.declared.work.VolumeWork.{VolumeWork}
+use Rattle.sandbox_command.specs.declared.work.VolumeWork.TheVariants as work
 use Rattle.sandbox_command.specs.declared.host_places.HostPlaces.{HostPlaces}
 use Rattle.sandbox_command.specs.declared.host_volume.HostVolume.{HostVolume}
 use Rattle.sandbox_command.specs.declared.streams.Streams.{Streams}
@@ -34,13 +36,17 @@ pub use Rattle.sandbox_command.specs.Beginning.{IsImage, memory_disk}
 
 -- what each run of a list of tests has of its own, or can't have
 abbrev pub IsForOneRun : Run → Type 0
-IsForOneRun run = IsSome run.stdin ⊎ (IsSome run.stdout ⊎ (IsSome run.stderr ⊎ (IsSome run.report ⊎ (IsSome run.volume ⊎ IsSome run.volume_out))))
+IsForOneRun run = IsSome run.stdin ⊎ (IsSome run.stdout ⊎ (IsSome run.stderr ⊎ (IsSome run.report ⊎ (IsSome run.volume ⊎ (IsSome run.volume_out ⊎ IsSome run.profile)))))
+
+-- its stack is to be looked at in steps of no unit, or for no profile
+abbrev pub HasWrongSteps : Run → Type 0
+HasWrongSteps run = (run.profile_every ≡ Some 0) ⊎ (IsSome run.profile_every × (run.profile ≡ None))
 
 -- A run whose options don't go together: an image beside a volume of its own, a file that its volume is to be handed out
--- into without an image, a seed beside random bytes, or a list of tests beside what is for one run.
+-- into without an image, a seed beside random bytes, a list of tests beside what is for one run, or steps of a profile that isn't wanted.
 abbrev pub Clashes : Invocation → Type 0
 Clashes (asked.Run run) = (IsSome run.image × IsSome run.volume) ⊎ ((IsSome run.volume_out × (run.image ≡ None)) ⊎ ((IsSome run.seed × IsSome run.random)
-    ⊎ (IsSome run.tests × IsForOneRun run)))
+    ⊎ ((IsSome run.tests × IsForOneRun run) ⊎ HasWrongSteps run)))
 Clashes _ = ⊥
 
 -- ---- over any places
@@ -48,10 +54,10 @@ Clashes _ = ⊥
 module _ {P I O V R W1 W2 : Type 0} (on : Around P I O V R W1 W2) where
   -- What is no run was executed on a device with the streams that were given, and this is its status; and all that it left was
   -- given up as it was.
-  pub record HasExecuted (invocation : Invocation) (device : V) (given : Streams R W1 W2) (p q : P) (status : ℕ) : Type 0 where
+  pub record HasExecuted (does : VolumeWork) (device : V) (given : Streams R W1 W2) (p q : P) (status : ℕ) : Type 0 where
     pub left : Executed V R W1 W2
     pub executes : Executes on.volume.honest on.volume.disk on.volume.size on.volume.failures on.volume.goes_on on.input.remaining on.out.contents on.err.contents
-        invocation [] [] device given.input given.out given.err left
+        does device given.input given.out given.err left
     pub ends : status ≡ left.status
     pub ended : on.places.ended left p q
 
@@ -62,10 +68,10 @@ module _ {P I O V R W1 W2 : Type 0} (on : Around P I O V R W1 W2) where
     pub enough : least ≤ on.volume.size device
 
   -- One file is asked for. It is refused, and nothing else is done; or what is asked for was executed on it.
-  abbrev pub DoesOn : Access → (name : Text) → (least : ℕ) → Invocation → Streams R W1 W2 → (p q : P) → (status : ℕ) → Type 0
-  DoesOn access name least invocation given p q status = (m : P) × on.places.asked access p m
+  abbrev pub DoesOn : Access → (name : Text) → (least : ℕ) → VolumeWork → Streams R W1 W2 → (p q : P) → (status : ℕ) → Type 0
+  DoesOn access name least does given p q status = (m : P) × on.places.asked access p m
       × (((kind : InputKind) × on.places.refused access kind p m × (status ≡ file_status kind) × EndsGiven on given m q)
-      ⊎ ((device : V) × IsNewDevice name least device × HasExecuted invocation device given m q status))
+      ⊎ ((device : V) × IsNewDevice name least device × HasExecuted does device given m q status))
 
   -- What these bytes are as a module was printed, nothing was read, and all was given up as it was then.
   pub record HasInspected (bytes : Text) (given : Streams R W1 W2) (p q : P) (status : ℕ) : Type 0 where
@@ -91,11 +97,11 @@ module _ {P I O V R W1 W2 : Type 0} (on : Around P I O V R W1 W2) where
   abbrev pub IsPerformed : Invocation → Streams R W1 W2 → (p q : P) → (status : ℕ) → Type 0
   IsPerformed (asked.Run run) given p q status =
       (Clashes (asked.Run run) × (status ≡ 124) × EndsGiven on given p q) ⊎ ((Clashes (asked.Run run) → ⊥) × RunsNamed run.tests run given p q status)
-  IsPerformed (asked.Format file sectors slots large) given p q status =
-      DoesOn (Lengthens file.now sectors) file.now (min sectors 65536) (asked.Format file sectors slots large) given p q status
-  IsPerformed (asked.Volume file task) given p q status = DoesOn (Locks file.now) file.now 0 (asked.Volume file task) given p q status
-  IsPerformed (asked.Import file path) given p q status = DoesOn (Locks file.now) file.now 0 (asked.Import file path) given p q status
-  IsPerformed (asked.Export file path) given p q status = DoesOn (Locks file.now) file.now 0 (asked.Export file path) given p q status
+  IsPerformed (asked.Format file sectors slots large new) given p q status =
+      DoesOn (Lengthens file.now sectors) file.now (min sectors 65536) (work.Format sectors slots large new) given p q status
+  IsPerformed (asked.Volume file task) given p q status = DoesOn (Locks file.now) file.now 0 (work.Task task) given p q status
+  IsPerformed (asked.Import file path) given p q status = DoesOn (Locks file.now) file.now 0 (work.Import path) given p q status
+  IsPerformed (asked.Export file path) given p q status = DoesOn (Locks file.now) file.now 0 (work.Export path) given p q status
   IsPerformed (asked.Inspect «module») given p q status = DoesInspect «module».now given p q status
 
 -- ---- the files of the system

@@ -1,6 +1,6 @@
 -- What the report of a run says of it (`crates/run_report/specs`). Here stands where each field of a `Summary` comes
 -- from, for a run that could not begin (`not_run`) and for one that did (`run_summary`).
-use Rattle.std.specs.Prelude.{◌≡◌, ◌⊎◌, ℕ, List, Bool, true, false, Option, Some, None, Result, Ok, Err}
+use Rattle.std.specs.Prelude.{◌≡◌, ◌⊎◌, ◌||◌, ◌-◌, ◌^◌, ℕ, List, Bool, true, false, Option, Some, None, Result, Ok, Err, unwrap_or, if◌then◌else◌}
 use Rattle.std.specs.Io.KnownBytes.{Appends}
 use Rattle.std.specs.Borrow.{Bor}
 use Rattle.std.specs.Option.{option_or}
@@ -18,6 +18,7 @@ use Rattle.run_report.specs.declared.counted.Counted.{Counted}
 use Rattle.run_report.specs.declared.end.End.TheVariants.{Ran, Refused}
 use Rattle.run_report.specs.declared.fault.Fault.{Fault}
 use Rattle.run_report.specs.declared.fault.Fault.TheVariants as reason
+use Rattle.run_report.specs.declared.summary.Cut.{Cut}
 use Rattle.run_report.specs.declared.summary.Kept.{Kept}
 use Rattle.run_report.specs.declared.summary.Kept.TheVariants as kept
 use Rattle.run_report.specs.declared.summary.Summary.{Summary}
@@ -42,6 +43,10 @@ session_reason opening.Device = reason.Volume volume.Device
 session_reason opening.Preopen = reason.Preopen
 session_reason opening.Memory = reason.Memory
 
+-- none of its outputs was cut
+abbrev pub uncut : Cut
+uncut = record { output = false; errors = false }
+
 -- the guest took nothing and gave nothing
 abbrev pub not_run : Run → Fault → Kept → ℕ → Summary
 not_run run fault became status = record {
@@ -58,6 +63,7 @@ not_run run fault became status = record {
   volume = became;
   flushed = true;
   broken = false;
+  cut = uncut;
 }
 
 -- What became of the volume that could not be opened: its device failed, or it wasn't open at all. Also where the run names
@@ -84,17 +90,25 @@ kept_after_run (Some file) (Ok v) = kept.Kept
 abbrev pub counted_bytes : {S : Type 0} → (S → Option (List ℕ)) → Counted S → Option (List ℕ)
 counted_bytes bytes c = bytes c.stream
 
--- a stream that is counted from here on
-abbrev pub from_here : {S : Type 0} → S → Counted S
-from_here s = record { stream = s; count = 0 }
+-- a stream that is counted from here on, and takes so many bytes at most
+abbrev pub from_here : {S : Type 0} → ℕ → S → Counted S
+from_here most s = record { stream = s; count = 0; most = most; full = false; failed = false }
+
+-- how many bytes each output of a run takes at most; without its option as many as can be counted
+abbrev pub output_of : Run → ℕ
+output_of run = unwrap_or run.limits.output (2 ^ 64 - 1)
 
 module _ {D R W1 W2 : Type 0} where
   -- what a host is made of, with streams that are counted from here on
-  abbrev pub counting : HostParts D R W1 W2 → HostParts D (Counted R) (Counted W1) (Counted W2)
-  counting parts = given parts.settings parts.volume (from_here parts.input) (from_here parts.out) (from_here parts.err)
+  abbrev pub counting : Run → HostParts D R W1 W2 → HostParts D (Counted R) (Counted W1) (Counted W2)
+  counting run parts = given parts.settings parts.volume (from_here (2 ^ 64 - 1) parts.input) (from_here (output_of run) parts.out) (from_here (output_of run) parts.err)
 
-  -- How the run ended, the units that it used, its pages and whether a stream failed are those of its report; the calls and syncs are
-  -- those of its resumes; the bytes are those that its streams counted.
+  -- A stream failed. Where an output was cut, which its calls are told as a failure too, it is one that refused by itself.
+  abbrev pub broken_in : Report D (Counted R) (Counted W1) (Counted W2) → Bool
+  broken_in report = if report.out.full || report.err.full then report.input.failed || (report.out.failed || report.err.failed) else report.broken
+
+  -- How the run ended, the units that it used and its pages are those of its report; the calls and syncs are those of its resumes; the
+  -- bytes, what was cut and what failed are those of its streams.
   abbrev pub run_summary : Run → Report D (Counted R) (Counted W1) (Counted W2) → Tally → (status : ℕ) → (flushed : Bool) → Summary
   run_summary run report tally status flushed = record {
     end = Ran report.outcome;
@@ -109,5 +123,6 @@ module _ {D R W1 W2 : Type 0} where
     syncs = tally.syncs;
     volume = kept_after_run (kept_in run) report.volume;
     flushed = flushed;
-    broken = report.broken;
+    broken = broken_in report;
+    cut = record { output = report.out.full; errors = report.err.full };
   }

@@ -59,34 +59,34 @@ module _ {D R W1 W2 : Type 0} (is_honest : D → Type 0) (disk : D → Disk) (se
   HostCalls = Calls counted_devices
 
   -- The module gets no session, and nothing but reads was done with the volume.
-  pub record NotOpened (Follows : Option (List ℕ) → Option (List ℕ) → Type 0) (m : Module) (run : Run) (parts : HostParts D R W1 W2) (left : Executed D R W1 W2) : Type 0 where
+  pub record NotOpened (m : Module) (run : Run) (parts : HostParts D R W1 W2) (left : Executed D R W1 W2) : Type 0 where
     pub fault : SessionFault
-    pub refused : IsRefused is_honest fault m (counting parts)
+    pub refused : IsRefused is_honest fault m (counting run parts)
     pub volume : Opened D
     pub kept : KeepsVolume counted_devices.device fault parts.volume volume
     pub device : left.device ≡ volume.device
     pub ends : left.status ≡ session_status fault
     pub flushed : left.flushed ≡ true
     pub summary : left.summary ≡ Some (not_run run (session_reason fault) (kept_where_not_begun run.volume fault) left.status)
-    pub streams : IsSilent out_contents err_contents Follows parts.input parts.out parts.err left
+    pub streams : IsSilent out_contents err_contents Keeps parts.input parts.out parts.err left
 
   -- A session ran from the module's first configuration, with this fuel. Its random bytes are those of a seed exactly where
   -- the words name one.
-  pub record Ran (Follows : Option (List ℕ) → Option (List ℕ) → Type 0) (m : Module) (run : Run) (parts : HostParts D R W1 W2) (left : Executed D R W1 W2) : Type 0 where
+  pub record Ran (m : Module) (run : Run) (parts : HostParts D R W1 W2) (left : Executed D R W1 W2) : Type 0 where
     pub session : SessionState D (Counted R) (Counted W1) (Counted W2)
-    pub opens : OpensWith run.seed m (counting parts) session
-    pub shares : Shares counted_devices.device (counting parts) session
+    pub opens : OpensWith run.seed m (counting run parts) session
+    pub shares : Shares counted_devices.device (counting run parts) session
     pub report : Report D (Counted R) (Counted W1) (Counted W2)
     pub tally : Tally
     pub counted : ReportsCounted counted_devices session run.limits.fuel report tally
     pub ends : EndsWith report.outcome report.volume left.flushed left.status
     pub summary : left.summary ≡ Some (run_summary run report tally left.status left.flushed)
     pub device : left.device ≡ returned_device report.volume
-    -- The streams are those of the run's last host. The output has what the guest wrote there and nothing else; what it
-    -- wrote on the side of errors is followed as is said.
+    -- The streams are those of the run's last host: the output and the side of errors have what the guest wrote there and
+    -- nothing else.
     pub input : left.input ≡ counted.reports.last.host.input.reader.stream
     pub out : Keeps (out_contents counted.reports.last.host.out.writer.stream) (out_contents left.out)
-    pub err : Follows (err_contents counted.reports.last.host.err.writer.stream) (err_contents left.err)
+    pub err : Keeps (err_contents counted.reports.last.host.err.writer.stream) (err_contents left.err)
     -- The streams moved by some bytes, each that tells its bytes by those that it told. Whatever others they have, this is a
     -- run over a tree of paths.
     pub over_paths : is_honest parts.volume.device → let first = first_configuration opens.starts.entered opens.starts.store in
@@ -101,13 +101,13 @@ module _ {D R W1 W2 : Type 0} (is_honest : D → Type 0) (disk : D → Disk) (se
         (StandsInRun HostCalls numbers_of tree_of (counted.reports.run opens.starts.instance first opens.starts.stands))
 
   -- a valid module gets no session, or runs
-  abbrev pub Launches : (Option (List ℕ) → Option (List ℕ) → Type 0) → Module → Run → HostParts D R W1 W2 → Executed D R W1 W2 → Type 0
-  Launches Follows m run parts left = NotOpened Follows m run parts left ⊎ Ran Follows m run parts left
+  abbrev pub Launches : Module → Run → HostParts D R W1 W2 → Executed D R W1 W2 → Type 0
+  Launches m run parts left = NotOpened m run parts left ⊎ Ran m run parts left
 
   -- what a stop after the volume was opened may leave: the tree of a host that the run comes by
-  abbrev pub LeftByRun : (Follows : Option (List ℕ) → Option (List ℕ) → Type 0) (m : Module) (run : Run) (parts : HostParts D R W1 W2) (left : Executed D R W1 W2) → Launches Follows m run parts left → Image → Type 0
-  LeftByRun Follows m run parts left (inl refused) image = ⊥
-  LeftByRun Follows m run parts left (inr r) image =
+  abbrev pub LeftByRun : (m : Module) (run : Run) (parts : HostParts D R W1 W2) (left : Executed D R W1 W2) → Launches m run parts left → Image → Type 0
+  LeftByRun m run parts left (inl refused) image = ⊥
+  LeftByRun m run parts left (inr r) image =
       let first = first_configuration r.opens.starts.entered r.opens.starts.store in
       StandsInRun HostCalls numbers_of tree_of
       (r.counted.reports.run r.opens.starts.instance first r.opens.starts.stands) image

@@ -6,7 +6,7 @@ use Rattle.std.specs.List.{All}
 use Rattle.std.specs.Str.Lines.{lines}
 use Rattle.std.specs.declared.io.ErrorKind.{ErrorKind}
 use Rattle.std.specs.declared.io.ErrorKind.TheVariants.{OutOfMemory}
-use Rattle.std.specs.Io.KnownBytes.{Appends, Keeps}
+use Rattle.std.specs.Io.KnownBytes.{Appends}
 use Rattle.std.specs.declared.io.Read.{Ghosts as Reader}
 use Rattle.std.specs.declared.io.Write.{Ghosts as Writer}
 use Rattle.wasm_module.specs.declared.module.Module.{Module}
@@ -96,7 +96,7 @@ module _ {P I O V : Type 0} (places : Ghosts P I O V) (read : Reader I) (written
     pub new : IsImage run.image device.sectors
     pub of_image : IsOfImage places.is_image run.image device
     pub left : Executed RamDevice I O O
-    pub runs : RunsOn in_memory.honest in_memory.disk in_memory.size in_memory.failures in_memory.goes_on read.remaining written.contents written.contents Keeps run m random device input out err left
+    pub runs : RunsOn in_memory.honest in_memory.disk in_memory.size in_memory.failures in_memory.goes_on read.remaining written.contents written.contents run m random device input out err left
     pub summary_is : summary ≡ left.summary
     pub ended : places.ended left prepared q
 

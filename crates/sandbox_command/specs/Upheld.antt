@@ -14,9 +14,9 @@ use Rattle.sandbox_command.specs.Running.{Ran, counted_devices}
 module _ {D R W1 W2 : Type 0} (is_honest : D → Type 0) (disk : D → Disk) (sectors_on failures : D → ℕ) (goes_on : ℕ → D → D → Type 0)
     (remaining : R → Option (List ℕ)) (out_contents : W1 → Option (List ℕ)) (err_contents : W2 → Option (List ℕ)) where
   -- On a device that keeps its model, from a volume of which a crash leaves its tree alone.
-  abbrev pub RunUpholds : (Option (List ℕ) → Option (List ℕ) → Type 0) → Type 0
-  RunUpholds Follows = (m : Module) (run : Run) (parts : HostParts D R W1 W2) (left : Executed D R W1 W2)
-      → (ran : Ran is_honest disk sectors_on failures goes_on remaining out_contents err_contents Follows m run parts left)
+  abbrev pub RunUpholds : Type 0
+  RunUpholds = (m : Module) (run : Run) (parts : HostParts D R W1 W2) (left : Executed D R W1 W2)
+      → (ran : Ran is_honest disk sectors_on failures goes_on remaining out_contents err_contents m run parts left)
       → is_honest parts.volume.device
       → ((c : Image) → (disk parts.volume.device).may_leave c → StandsAs c parts.volume.numbers parts.volume.tree)
       → Upholds (counted_devices is_honest disk sectors_on failures goes_on remaining out_contents err_contents) m parts.settings.pages

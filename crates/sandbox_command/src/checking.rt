@@ -7,7 +7,9 @@ ghost use Rattle.sandbox_command.specs.Checking.{TellsChecked, checked_damage, d
 ghost use Rattle.sandbox_command.specs.Status.{ended_status, failure_status};
 
 use crate::ending::ended;
-use crate::program::{Executed, FAULT};
+use crate::program::{Executed, FAULT, make_executed};
+use crate::streams::Streams;
+use crate::explaining::About;
 use arrayvec::ArrayVec;
 use run_report::rule_text;
 use sandbox_words::Task;
@@ -73,30 +75,22 @@ pub(crate) fn ended_task<D: Drop, R: Drop, W1: Write + Drop, W2: Write + Drop>(
     task: Task<'_>,
     done: Result<(), Failure>,
     device: D,
-    input: R,
-    mut out: W1,
-    mut err: W2,
+    given: Streams<R, W1, W2>,
+    about: &About<'_>,
 ) -> Executed<D, R, W1, W2>
     ensures status { result.status ≡ ended_status failure_status done result.flushed }
     ensures summary { result.summary ≡ None }
     ensures device { result.device ≡ device }
-    ensures input { result.input ≡ input }
-    ensures out { Keeps (W1.contents out) (W1.contents result.out) }
+    ensures input { result.input ≡ given.input }
+    ensures out { Keeps (W1.contents given.out) (W1.contents result.out) }
     ensures err { TellsChecked (checked_damage task.entry done)
-        (W2.contents err) (W2.contents result.err) }
+        (W2.contents given.err) (W2.contents result.err) }
 {
     let Some(damage) = checked_damage(task, done) else {
-        return ended(done, device, input, out, err);
+        return ended(done, device, given, about);
     };
-    let flushed = out.flush().is_ok();
-    let _ = print_damage(&mut err, damage);
-    Executed {
-        status: FAULT,
-        summary: None,
-        flushed,
-        device,
-        input,
-        out,
-        err,
-    }
+    let mut given = given;
+    let flushed = given.out.flush().is_ok();
+    let _ = print_damage(&mut given.err, damage);
+    make_executed(FAULT, None, flushed, device, given)
 }

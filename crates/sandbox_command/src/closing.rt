@@ -18,11 +18,14 @@ use crate::places::Places;
 use crate::possession::is_silent;
 use crate::program;
 use crate::program::Executed;
+use crate::refusals::{tell_of_outcome, tell_of_refusal};
 use crate::reporting::not_run;
 use crate::streams::{Sink, Source, Spare, apart};
+use crate::explaining::tell_of_kind;
 use run_report::{End, Fault, Kept, Summary};
 use sandbox_device::{Hindrance, RamDevice};
 use sandbox_words::Run;
+use std::alloc::Global;
 use std::io;
 use std::io::{ErrorKind, Write};
 
@@ -47,17 +50,31 @@ pub(crate) struct Ending {
     pub(crate) summary: Option<Summary>,
 }
 
-/// Prints the lines of how a run ended, if that is said.
-fn tell_ending<W: Write>(err: &mut W, summary: &Option<Summary>)
+/// Prints the lines of how a run of a module ended, and what they mean, if that is said.
+fn tell_ending<W: Write>(
+    alloc: Global,
+    err: &mut W,
+    run: &Run<'_>,
+    module: &[u8],
+    summary: &Option<Summary>,
+)
     ensures { AppendsSome (W.contents err.old) (W.contents err.new) }
 {
-    if let Some(summary) = summary {
-        program::tell_end(err, summary);
+    let Some(summary) = summary else {
+        return;
+    };
+    program::tell_end(err, summary);
+    match summary.end {
+        End::Refused(fault) => tell_of_refusal(alloc, err, run, module, fault),
+        End::Ran(outcome) => tell_of_outcome(err, run, outcome),
     }
 }
 
-/// Prints the lines of how a run ended, and gives that and all that the run had.
+/// Prints the lines of how a run of a module ended, and gives that and all that the run had.
 pub(crate) fn finished<D: Drop, I: Drop, O: Write + Drop, R: Drop, W1: Drop, W2: Write + Drop>(
+    alloc: Global,
+    run: &Run<'_>,
+    module: &[u8],
     ended: Executed<D, Source<I, R>, Sink<O, W1>, Sink<O, W2>>,
     spare: Spare<R, W1, W2>,
 ) -> (Ending, Left<D, I, O, R, W1, W2>)
@@ -76,7 +93,7 @@ pub(crate) fn finished<D: Drop, I: Drop, O: Write + Drop, R: Drop, W1: Drop, W2:
         ..
     } = ended;
     let (mut own, guest) = apart(err, spare.err);
-    tell_ending(&mut own, &summary);
+    tell_ending(alloc, &mut own, run, module, &summary);
     let left = Left {
         device,
         input,
@@ -150,10 +167,14 @@ pub(crate) fn handed_out<P: Places, W: Write>(
             tell_hindrance(err, path, hindrance);
             ending
         }
-        Err(_) => Ending {
-            status: program::refuse_file(err),
-            summary: not_kept(ending.summary),
-        },
+        Err(error) => {
+            let status = program::refuse_file(err);
+            tell_of_kind(err, path, error.kind());
+            Ending {
+                status,
+                summary: not_kept(ending.summary),
+            }
+        }
     }
 }
 
@@ -176,7 +197,11 @@ pub(crate) fn told<P: Places, W: Write>(
     places.end(report);
     match printed {
         Ok(()) => ending.status,
-        Err(_) => program::refuse_file(err),
+        Err(error) => {
+            let status = program::refuse_file(err);
+            tell_of_kind(err, name, error.kind());
+            status
+        }
     }
 }
 
@@ -190,16 +215,27 @@ pub(crate) fn unread(run: &Run<'_>, error: &io::Error) -> Summary
     not_run(run, Fault::File, Kept::None, program::FAULT)
 }
 
-/// Refuses a file that can't be read or written, by a line that goes into none of the command's files.
-pub(crate) fn refuse<W: Write>(error: &io::Error, err: &mut W) -> u8
+/// Prints which file was refused, and why, where its name is known.
+fn tell_refused<P: Places, W: Write>(places: &P, error: &io::Error, err: &mut W)
+    ensures { AppendsSome (W.contents err.old) (W.contents err.new) }
+{
+    tell_of_kind(err, places.first_refused().unwrap_or("a file"), error.kind());
+}
+
+/// Refuses a file that can't be read or written, by lines that go into none of the command's files.
+pub(crate) fn refuse<P: Places, W: Write>(places: &P, error: &io::Error, err: &mut W) -> u8
     ensures status { result ≡ file_status (error_kind error.now) }
     ensures line { AppendsSome (W.contents err.old) (W.contents err.new) }
 {
     if error.kind() == ErrorKind::OutOfMemory {
-        return program::out_of_memory(err);
+        let status = program::out_of_memory(err);
+        tell_refused(places, error, err);
+        return status;
     }
     if is_silent(error) {
         return program::FAULT;
     }
-    program::refuse_file(err)
+    let status = program::refuse_file(err);
+    tell_refused(places, error, err);
+    status
 }

@@ -6,8 +6,12 @@ ghost use Rattle.sandbox_command.specs.Status.{ended_status, export_status, fail
 ghost use Rattle.sandbox_command.specs.Streams.{AppendsSome};
 
 use crate::output::{tell, tell_of_member};
-use crate::program::{Executed, FAULT, out_of_memory, refuse_file};
+use crate::program::{Executed, FAULT, make_executed, out_of_memory, refuse_file};
+use crate::streams::Streams;
+use crate::explaining::{About, tell_bytes, tell_of_output, tell_words};
+use meanings::{errno_cure, errno_text};
 use std::io::Write;
+use tar_stream::TarFault;
 use vol_sector::VolumeFault;
 use volume_archive::{Refusal, Why};
 use volume_tasks::{ExportFailure, Failure, ImportFailure};
@@ -17,8 +21,8 @@ pub(crate) trait Failed {
     // the status that it ends with
     ghost fails_with: { Self → ℕ };
 
-    /// Prints its line, and gives the status.
-    fn say<W: Write>(&self, err: &mut W) -> u8
+    /// Prints its line, what it means for this command, and gives the status.
+    fn say<W: Write>(&self, err: &mut W, about: &About<'_>) -> u8
         ensures status { result ≡ fails_with self.now }
         ensures line { AppendsSome (W.contents err.old) (W.contents err.new) };
 }
@@ -26,25 +30,29 @@ pub(crate) trait Failed {
 impl Failed for Failure {
     ghost fails_with = { failure_status };
 
-    fn say<W: Write>(&self, err: &mut W) -> u8 {
-        match *self {
-            Failure::Volume(VolumeFault::Memory) => out_of_memory(err),
-            failure => {
-                tell(err, failure);
-                FAULT
-            }
+    fn say<W: Write>(&self, err: &mut W, about: &About<'_>) -> u8 {
+        let failure = *self;
+        match failure {
+            Failure::Volume(VolumeFault::Memory) => return out_of_memory(err),
+            _ => tell(err, failure),
         }
+        match failure {
+            Failure::Volume(fault) => about.tell_of_volume(err, fault),
+            Failure::Tree(errno) => about.tell_of_errno(err, errno),
+            Failure::Stream => about.tell_of_stream(err),
+        }
+        FAULT
     }
 }
 
 impl Failed for ImportFailure {
     ghost fails_with = { import_status };
 
-    fn say<W: Write>(&self, err: &mut W) -> u8 {
+    fn say<W: Write>(&self, err: &mut W, about: &About<'_>) -> u8 {
         match self {
-            ImportFailure::Volume(fault) => Failure::Volume(*fault).say(err),
-            ImportFailure::Path(errno) => Failure::Tree(*errno).say(err),
-            ImportFailure::Halted(halted) => refuse_member(err, &halted.refusal),
+            ImportFailure::Volume(fault) => Failure::Volume(*fault).say(err, about),
+            ImportFailure::Path(errno) => Failure::Tree(*errno).say(err, about),
+            ImportFailure::Halted(halted) => refuse_member(err, &halted.refusal, about),
         }
     }
 }
@@ -52,17 +60,17 @@ impl Failed for ImportFailure {
 impl Failed for ExportFailure {
     ghost fails_with = { export_status };
 
-    fn say<W: Write>(&self, err: &mut W) -> u8 {
+    fn say<W: Write>(&self, err: &mut W, about: &About<'_>) -> u8 {
         match self {
-            ExportFailure::Volume(fault) => Failure::Volume(*fault).say(err),
-            ExportFailure::Path(errno) => Failure::Tree(*errno).say(err),
-            ExportFailure::Stopped(why) => refuse_why(err, *why),
+            ExportFailure::Volume(fault) => Failure::Volume(*fault).say(err, about),
+            ExportFailure::Path(errno) => Failure::Tree(*errno).say(err, about),
+            ExportFailure::Stopped(why) => refuse_why(err, *why, about),
         }
     }
 }
 
 /// Prints why an archive is refused, and gives the status.
-fn refuse_why<W: Write>(err: &mut W, why: Why) -> u8
+fn refuse_why<W: Write>(err: &mut W, why: Why, about: &About<'_>) -> u8
     ensures status { result ≡ why_status why }
     ensures line { AppendsSome (W.contents err.old) (W.contents err.new) }
 {
@@ -70,23 +78,71 @@ fn refuse_why<W: Write>(err: &mut W, why: Why) -> u8
         Why::Memory => out_of_memory(err),
         why => {
             tell(err, why);
+            tell_of_archive(err, why, about);
             FAULT
         }
     }
 }
 
+/// Prints what it means that an archive is refused so.
+fn tell_of_archive<W: Write>(err: &mut W, why: Why, about: &About<'_>)
+    ensures { AppendsSome (W.contents err.old) (W.contents err.new) }
+{
+    match why {
+        Why::Tree(errno) => about.tell_of_errno(err, errno),
+        Why::Stream => about.tell_of_stream(err),
+        Why::Cut => tell_words(
+            err,
+            "standard input",
+            "it is no tar stream, or a part of one",
+            "tar -c makes one",
+        ),
+        _ => {}
+    }
+}
+
 /// Prints why a member is refused, behind its name where that is known, and gives the status.
-fn refuse_member<W: Write>(err: &mut W, refusal: &Refusal) -> u8
+fn refuse_member<W: Write>(err: &mut W, refusal: &Refusal, about: &About<'_>) -> u8
     ensures status { result ≡ why_status refusal.now.why }
     ensures line { AppendsSome (W.contents err.old) (W.contents err.new) }
 {
     match (&refusal.name, refusal.why) {
         (Some(name), why) if !matches!(why, Why::Memory) => {
             tell_of_member(err, name.as_slice(), why);
+            tell_of_refused_member(err, name.as_slice(), why);
             FAULT
         }
-        (_, why) => refuse_why(err, why),
+        (_, why) => refuse_why(err, why, about),
     }
+}
+
+/// Prints what it means that a member is refused so.
+fn tell_of_refused_member<W: Write>(err: &mut W, name: &[u8], why: Why)
+    ensures { AppendsSome (W.contents err.old) (W.contents err.new) }
+{
+    match why {
+        Why::Tree(errno) => {
+            let number = u32::from(errno.number());
+            tell_bytes(err, name, errno_text(number), errno_cure(number));
+        }
+        Why::Tar(TarFault::Link) => tell_bytes(
+            err,
+            name,
+            "a volume has files and directories alone",
+            "tar --dereference takes what a link leads to",
+        ),
+        _ => {}
+    }
+}
+
+/// Prints the line of an output that can't be flushed, and gives its status.
+fn refuse_output<W: Write>(err: &mut W) -> u8
+    ensures status { result ≡ 124 }
+    ensures line { AppendsSome (W.contents err.old) (W.contents err.new) }
+{
+    let status = refuse_file(err);
+    tell_of_output(err, "standard output");
+    status
 }
 
 /// Ends what is no run: flushes the output, prints a failure's line, and gives the status with the device and the streams.
@@ -97,27 +153,25 @@ pub(crate) fn ended<
     R: Drop,
     W1: Write + Drop,
     W2: Write + Drop,
->(done: Result<X, F>, device: D, input: R, mut out: W1, mut err: W2) -> Executed<D, R, W1, W2>
+>(
+    done: Result<X, F>,
+    device: D,
+    given: Streams<R, W1, W2>,
+    about: &About<'_>,
+) -> Executed<D, R, W1, W2>
     ensures status { result.status ≡ ended_status F.fails_with done result.flushed }
     ensures summary { result.summary ≡ None }
     ensures device { result.device ≡ device }
-    ensures input { result.input ≡ input }
-    ensures out { Keeps (W1.contents out) (W1.contents result.out) }
-    ensures err { AppendsSome (W2.contents err) (W2.contents result.err) }
+    ensures input { result.input ≡ given.input }
+    ensures out { Keeps (W1.contents given.out) (W1.contents result.out) }
+    ensures err { AppendsSome (W2.contents given.err) (W2.contents result.err) }
 {
-    let flushed = out.flush().is_ok();
+    let mut given = given;
+    let flushed = given.out.flush().is_ok();
     let status = match done {
         Ok(_) if flushed => 0,
-        Ok(_) => refuse_file(&mut err),
-        Err(failed) => failed.say(&mut err),
+        Ok(_) => refuse_output(&mut given.err),
+        Err(failed) => failed.say(&mut given.err, about),
     };
-    Executed {
-        status,
-        summary: None,
-        flushed,
-        device,
-        input,
-        out,
-        err,
-    }
+    make_executed(status, None, flushed, device, given)
 }

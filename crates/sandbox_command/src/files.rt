@@ -13,14 +13,21 @@ use crate::inspecting::inspect;
 use crate::opening::MODULE_READ;
 use crate::places::Places;
 use crate::program;
+use crate::refusals::tell_of_clash;
 use crate::runs::{end_refused, run_alone};
 use crate::streams::Streams;
 use crate::testing::run_list;
+use crate::work::VolumeWork;
 use sandbox_words::{Invocation, invocation};
 use std::alloc::Global;
 use std::io::{Read, Write};
 use std::process::ExitCode;
 use std::{env, io};
+
+/// The words that the program was called with. One that isn't UTF-8 is refused.
+fn words_given(rt: &HostRuntime) -> io::Result<Vec<String>> {
+    Ok(env::args(rt)?.collect(rt.alloc())?)
+}
 
 /// Does what the words of the command line ask for, with these streams, and gives the exit status.
 /// The statuses from 126 on are those of shells and of the script that builds the program, so that
@@ -29,48 +36,18 @@ pub fn exit_code<R: Read + Drop, W1: Write + Drop, W2: Write + Drop>(
     rt: &HostRuntime,
     input: R,
     out: W1,
-    err: W2,
+    mut err: W2,
 ) -> ExitCode
     ensures tells { IsAnswered R.Read W1.Write W2.Write (record { input = input; out = out; err = err }) (exit_status result) }
     ensures within { exit_status result ≤ 125 }
 {
-    ExitCode::from(answer(rt, input, out, err))
-}
-
-fn answer<R: Read + Drop, W1: Write + Drop, W2: Write + Drop>(
-    rt: &HostRuntime,
-    input: R,
-    out: W1,
-    mut err: W2,
-) -> u8
-    ensures tells { IsAnswered R.Read W1.Write W2.Write (record { input = input; out = out; err = err }) result }
-    ensures within { result ≤ 125 }
-{
-    match words_given(rt) {
-        Ok(words) => answer_words(rt, words.as_slice(), input, out, err),
-        Err(error) => program::refuse_words(&mut err, &error),
-    }
-}
-
-/// The words that the program was called with. One that isn't UTF-8 is refused.
-fn words_given(rt: &HostRuntime) -> io::Result<Vec<String>> {
-    Ok(env::args(rt)?.collect(rt.alloc())?)
-}
-
-/// Does what these words ask for, and gives the exit status.
-fn answer_words<R: Read + Drop, W1: Write + Drop, W2: Write + Drop>(
-    rt: &HostRuntime,
-    words: &[String],
-    input: R,
-    out: W1,
-    mut err: W2,
-) -> u8
-    ensures tells { IsAnswered R.Read W1.Write W2.Write (record { input = input; out = out; err = err }) result }
-    ensures within { result ≤ 125 }
-{
-    match invocation(rt.alloc(), words) {
-        Ok(invocation) => perform(rt, &invocation, input, out, err),
-        Err(refused) => program::refuse_command_line(&mut err, &refused),
+    let words = match words_given(rt) {
+        Ok(words) => words,
+        Err(error) => return ExitCode::from(program::refuse_words(&mut err, &error)),
+    };
+    match invocation(rt.alloc(), words.as_slice()) {
+        Ok(invocation) => ExitCode::from(perform(rt, &invocation, input, out, err)),
+        Err(refused) => ExitCode::from(program::refuse_command_line(&mut err, &refused)),
     }
 }
 
@@ -109,7 +86,7 @@ pub fn perform_in<P: Places, R: Read + Drop, W1: Write + Drop, W2: Write + Drop>
     ensures within { result ≤ 124 }
 {
     if clashes(invocation) {
-        return end_clashing(places, given);
+        return end_clashing(places, invocation, given);
     }
     match invocation {
         Invocation::Run(run) => match run.tests {
@@ -117,21 +94,33 @@ pub fn perform_in<P: Places, R: Read + Drop, W1: Write + Drop, W2: Write + Drop>
             None => run_alone(alloc, places, run, given),
         },
         Invocation::Inspect { module } => inspect_file(alloc, places, module, given),
-        Invocation::Format { file, sectors, .. } => {
+        Invocation::Format {
+            file,
+            sectors,
+            slots,
+            large,
+            new,
+        } => {
+            let work = VolumeWork::Format {
+                sectors: *sectors,
+                slots: *slots,
+                large: *large,
+                new: *new,
+            };
             let device = places.lengthen(file, *sectors);
-            execute_on(alloc, places, invocation, device, given)
+            execute_on(alloc, places, file, work, device, given)
         }
-        Invocation::Volume { file, .. } => {
+        Invocation::Volume { file, task } => {
             let device = places.lock(file);
-            execute_on(alloc, places, invocation, device, given)
+            execute_on(alloc, places, file, VolumeWork::Task(*task), device, given)
         }
-        Invocation::Import { file, .. } => {
+        Invocation::Import { file, path } => {
             let device = places.lock(file);
-            execute_on(alloc, places, invocation, device, given)
+            execute_on(alloc, places, file, VolumeWork::Import { path }, device, given)
         }
-        Invocation::Export { file, .. } => {
+        Invocation::Export { file, path } => {
             let device = places.lock(file);
-            execute_on(alloc, places, invocation, device, given)
+            execute_on(alloc, places, file, VolumeWork::Export { path }, device, given)
         }
     }
 }
@@ -139,6 +128,7 @@ pub fn perform_in<P: Places, R: Read + Drop, W1: Write + Drop, W2: Write + Drop>
 /// Says that options don't go together, and gives up the streams.
 fn end_clashing<P: Places, R: Read + Drop, W1: Write + Drop, W2: Write + Drop>(
     places: &mut P,
+    invocation: &Invocation<'_>,
     given: Streams<R, W1, W2>,
 ) -> u8
     ensures status { result ≡ 124 }
@@ -147,31 +137,32 @@ fn end_clashing<P: Places, R: Read + Drop, W1: Write + Drop, W2: Write + Drop>(
 {
     let mut given = given;
     let status = program::refuse_setting(&mut given.err);
+    tell_of_clash(&mut given.err, invocation);
     places.end(given);
     status
 }
 
-/// Executes what is no run on the device of its file, with the streams that were given.
+/// Does something with the volume on the device of its file, with the streams that were given.
 // A function of its own, since its pieces of files would else be on the stack below a run, too.
 #[inline(never)]
 fn execute_on<P: Places, R: Read + Drop, W1: Write + Drop, W2: Write + Drop>(
     alloc: Global,
     places: &mut P,
-    invocation: &Invocation<'_>,
+    file: &str,
+    work: VolumeWork<'_>,
     device: io::Result<P::Volume>,
     given: Streams<R, W1, W2>,
 ) -> u8
     ensures tells { MatchResult device
         (λ device. HasExecuted (around P.Places P.Input.Read P.Output.Write P.Volume.Device R.Read W1.Write W2.Write)
-        invocation.now device given places.old places.new result)
+        work.entry device given places.old places.new result)
         (λ error. (result ≡ file_status (error_kind error))
         × EndsGiven (around P.Places P.Input.Read P.Output.Write P.Volume.Device R.Read W1.Write W2.Write) given places.old places.new) }
     ensures within { result ≤ 124 }
 {
     match device {
         Ok(device) => {
-            let Streams { input, out, err } = given;
-            let left = program::execute(alloc, invocation, b"", b"", device, input, out, err);
+            let left = program::execute(alloc, file, work, device, given);
             let status = left.status;
             places.end(left);
             status
@@ -193,8 +184,7 @@ fn inspect_file<P: Places, R: Read + Drop, W1: Write + Drop, W2: Write + Drop>(
 {
     match places.bytes(path, MODULE_READ) {
         Ok(module) => {
-            let Streams { input, out, err } = given;
-            let left = inspect(alloc, module.as_slice(), (), input, out, err);
+            let left = inspect(alloc, module.as_slice(), given);
             let status = left.status;
             places.end(left);
             status

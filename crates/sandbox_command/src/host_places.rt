@@ -7,7 +7,7 @@ use crate::clashing::clashes;
 use crate::host_volume::HostVolume;
 use crate::places::Places;
 use crate::possession::{Held, refuse_errors, refuse_errors_of};
-use run_report::Summary;
+use run_report::{Printed, Summary};
 use sandbox_device::{
     FileDevice, Hindrance, Identity, Output, RamDevice, Replacement, open_image, open_to_read,
 };
@@ -30,6 +30,8 @@ pub(crate) struct HostPlaces<'a> {
     receiver: Option<Replacement>,
     /// Why the first file that is asked for is refused, whatever it is.
     refused: Option<ErrorKind>,
+    /// The name of the first file that was refused, for who is told of it.
+    first_refused: Option<String>,
 }
 
 impl<'a> HostPlaces<'a> {
@@ -45,6 +47,7 @@ impl<'a> HostPlaces<'a> {
             ahead: Vec::new(rt.alloc()),
             receiver: None,
             refused: None,
+            first_refused: None,
         };
         if let Err(error) = places.look_ahead(invocation) {
             places.refused = Some(error.kind());
@@ -85,6 +88,13 @@ impl<'a> HostPlaces<'a> {
             self.ahead.push(file)?;
         }
         Ok(())
+    }
+
+    /// Notes the name of a file, where it is the first one that is refused.
+    fn note<T>(&mut self, name: &str, done: &io::Result<T>) {
+        if done.is_err() && self.first_refused.is_none() {
+            self.first_refused = String::from_str(self.rt.alloc(), name).ok();
+        }
     }
 
     /// Refuses what is asked for first, if so.
@@ -218,7 +228,7 @@ impl<'a> HostPlaces<'a> {
             }
         };
         self.held.end_line(report, summary)?;
-        run_report::print(file, summary)
+        summary.print(file)
     }
 }
 
@@ -252,39 +262,57 @@ impl<'a> Places for HostPlaces<'a> {
     ghost ended = { λ {X} it before after. WasEnded it };
 
     fn open(&mut self, name: &str) -> io::Result<File> {
-        self.opened(name)
+        let done = self.opened(name);
+        self.note(name, &done);
+        done
     }
 
     fn make(&mut self, name: &str) -> io::Result<Output> {
-        self.made(name)
+        let done = self.made(name);
+        self.note(name, &done);
+        done
     }
 
     fn cut(&mut self, name: &str, file: Output) -> io::Result<Output> {
-        self.cut_apart(name, file)
+        let done = self.cut_apart(name, file);
+        self.note(name, &done);
+        done
     }
 
     fn lock(&mut self, name: &str) -> io::Result<HostVolume> {
-        self.locked(name)
+        let done = self.locked(name);
+        self.note(name, &done);
+        done
     }
 
     fn lengthen(&mut self, name: &str, sectors: u32) -> io::Result<HostVolume> {
-        self.lengthened(name, sectors)
+        let done = self.lengthened(name, sectors);
+        self.note(name, &done);
+        done
     }
 
     fn image(&mut self, name: &str) -> io::Result<RamDevice> {
-        self.sectors_of(name)
+        let done = self.sectors_of(name);
+        self.note(name, &done);
+        done
     }
 
     fn text(&mut self, name: &str) -> io::Result<String> {
-        self.text_of(name)
+        let done = self.text_of(name);
+        self.note(name, &done);
+        done
     }
 
     fn bytes(&mut self, name: &str, most: u64) -> io::Result<Vec<u8>> {
-        self.bytes_of(name, most)
+        let done = self.bytes_of(name, most);
+        self.note(name, &done);
+        done
     }
 
     fn receive(&mut self, name: &str) -> io::Result<()> {
-        self.received(name)
+        let done = self.received(name);
+        self.note(name, &done);
+        done
     }
 
     fn hand_out(&mut self, _name: &str, device: &RamDevice) -> io::Result<Option<Hindrance>> {
@@ -297,5 +325,12 @@ impl<'a> Places for HostPlaces<'a> {
 
     fn end<X: Drop>(&mut self, it: X) {
         drop(it);
+    }
+
+    fn first_refused(&self) -> Option<&str> {
+        match &self.first_refused {
+            Some(name) => Some(name.as_str()),
+            None => None,
+        }
     }
 }

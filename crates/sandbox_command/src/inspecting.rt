@@ -1,11 +1,12 @@
 //! What a module is, printed.
 
-ghost use Rattle.std.specs.Prelude.{◌≡◌, IfErr, IfOk, None};
+ghost use Rattle.std.specs.Prelude.{◌≡◌, IfErr, IfOk};
 ghost use Rattle.std.specs.IoError.{error_kind};
 ghost use Rattle.sandbox_command.specs.Inspecting.{Inspects, refused_status, survey_status};
 ghost use Rattle.sandbox_command.specs.Streams.{AppendsSome};
 
-use crate::program::{Executed, FAULT, out_of_memory, refuse_file};
+use crate::program::{Executed, FAULT, make_executed, out_of_memory, refuse_file};
+use crate::streams::Streams;
 use module_survey::{Links, survey};
 use std::alloc::Global;
 use std::io;
@@ -15,7 +16,7 @@ use wasm_module::{FuncType, LoadFault};
 use wasm_store::HostCall;
 
 /// The calls that a guest is given.
-struct Served;
+pub(crate) struct Served;
 
 impl Links for Served {
     ghost use Rattle.wasi_calls.specs.host.Links.{link};
@@ -57,31 +58,19 @@ fn survey_ended<W: Write>(
     }
 }
 
-/// Prints what the bytes of a module are, or why they are refused, and gives the status with the device and the streams.
-pub(crate) fn inspect<D: Drop, R: Drop, W1: Write + Drop, W2: Write + Drop>(
+/// Prints what the bytes of a module are, or why they are refused, and gives the status with the streams.
+pub(crate) fn inspect<R: Drop, W1: Write + Drop, W2: Write + Drop>(
     alloc: Global,
     bytes: &[u8],
-    device: D,
-    input: R,
-    mut out: W1,
-    mut err: W2,
-) -> Executed<D, R, W1, W2>
-    ensures tells { Inspects bytes.now (W1.contents out) (W1.contents result.out) result.flushed result.status }
-    ensures summary { result.summary ≡ None }
-    ensures device { result.device ≡ device }
-    ensures input { result.input ≡ input }
-    ensures err { AppendsSome (W2.contents err) (W2.contents result.err) }
+    given: Streams<R, W1, W2>,
+) -> Executed<(), R, W1, W2>
+    ensures tells { Inspects bytes.now (W1.contents given.out) (W1.contents result.out) result.flushed result.status }
+    ensures input { result.input ≡ given.input }
+    ensures err { AppendsSome (W2.contents given.err) (W2.contents result.err) }
 {
-    let surveyed = survey(alloc, &Served, bytes, &mut out);
-    let flushed = out.flush().is_ok();
-    let status = survey_ended(surveyed, flushed, &mut err);
-    Executed {
-        status,
-        summary: None,
-        flushed,
-        device,
-        input,
-        out,
-        err,
-    }
+    let mut given = given;
+    let surveyed = survey(alloc, &Served, bytes, &mut given.out);
+    let flushed = given.out.flush().is_ok();
+    let status = survey_ended(surveyed, flushed, &mut given.err);
+    make_executed(status, None, flushed, (), given)
 }

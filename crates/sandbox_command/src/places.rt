@@ -139,4 +139,7 @@ pub trait Places {
     /// Gives up what a command had, as it is: nothing more is read, written or changed with it.
     fn end<X: Drop>(&mut self, it: X)
         ensures { ended it self.old self.new };
+
+    /// The name of the first file that was refused, as far as it is known. Nothing but words depends on it.
+    fn first_refused(&self) -> Option<&str>;
 }

@@ -10,7 +10,7 @@ ghost use Rattle.sandbox_core.specs.Report.{ReportsCounted};
 ghost use Rattle.sandbox_command.specs.Status.{status_of, EndsWith, load_status, session_status};
 ghost use Rattle.sandbox_command.specs.Status.{volume_status, words_status, command_line_status};
 ghost use Rattle.sandbox_command.specs.Streams.{AppendsSome, IsSilent};
-ghost use Rattle.sandbox_command.specs.Reporting.{kept_where_not_begun, not_run, run_summary, session_reason, volume_of};
+ghost use Rattle.sandbox_command.specs.Reporting.{broken_in, kept_where_not_begun, not_run, output_of, run_summary, session_reason, volume_of};
 ghost use Rattle.sandbox_command.specs.Running.{Launches, returned_device};
 ghost use Rattle.sandbox_command.specs.internal.Seeds.{with_seed};
 ghost use Rattle.sandbox_command.specs.internal.Supplies.{AreSupplies};
@@ -18,23 +18,25 @@ ghost use Rattle.sandbox_command.specs.Execution.{RunsOn, Runs, Executes};
 
 use crate::checking::ended_task;
 use crate::ending::ended;
-use crate::inspecting::inspect;
 use crate::output::{GREATEST, NOT_COMMITTED, tell, tell_after, tell_fault, tell_outcome};
 use crate::reporting::{
     kept_after_run, kept_where_not_begun, kept_where_refused, not_run, session_reason,
 };
+use crate::streams::Streams;
 use crate::supplies::{Supplies, settings, supplied};
-use run_report::{Counted, End, Fault, Kept, Summary};
+use crate::explaining::About;
+use crate::work::VolumeWork;
+use run_report::{Counted, Cut, End, Fault, Kept, Summary};
 use sandbox_core::{
     HostParts, LoadFault, Outcome, RefusedSession, Report, Session, SessionFault, Tally, Valid,
-    run_counted_with_module,
+    Volume, run_counted_with_module,
 };
-use sandbox_words::{Invocation, Run};
+use sandbox_words::Run;
 use std::alloc::Global;
 use std::io;
 use std::io::{Read, Write};
 use vol_sector::{Device, Refused, VolumeFault};
-use volume_tasks::{export_from, format_as, import_into, open_for_run, perform};
+use volume_tasks::{export_from, format_where, import_into, open_for_run, perform};
 
 /// The status where a guest's own one is greater than `GREATEST`.
 const OTHER_EXIT: u8 = 119;
@@ -172,35 +174,52 @@ pub(crate) fn tell_end<W: Write>(err: &mut W, summary: &Summary)
     }
 }
 
-/// Ends a run: its outcome's status, but where its calls couldn't be committed or the guest's output can't be flushed.
-/// Gives the device of the volume and the streams back.
-fn report<D: Device + Drop, R: Drop, W1: Write + Drop, W2: Write + Drop>(
-    report: Report<D, R, W1, W2>,
-) -> Executed<D, R, W1, W2>
-    ensures ends { EndsWith report.outcome report.volume result.flushed result.status }
-    ensures device { result.device ≡ returned_device report.volume }
-    ensures input { result.input ≡ report.input }
-    ensures out { Keeps (W1.contents report.out) (W1.contents result.out) }
-    ensures err { Keeps (W2.contents report.err) (W2.contents result.err) }
+/// Flushes the outputs of a guest, its errors where its output could be: whether both could be.
+fn flush_both<W1: Write, W2: Write>(out: &mut W1, err: &mut W2) -> bool
+    ensures out { Keeps (W1.contents out.old) (W1.contents out.new) }
+    ensures err { Keeps (W2.contents err.old) (W2.contents err.new) }
 {
-    let Report {
-        outcome,
-        volume,
-        input,
-        mut out,
-        mut err,
-        ..
-    } = report;
+    out.flush().is_ok() && err.flush().is_ok()
+}
+
+/// The status of a run: its outcome's, but where its calls couldn't be committed or the guest's output not be flushed. Gives the
+/// device of the volume back.
+fn settled<D: Device + Drop>(
+    outcome: Outcome,
+    volume: Result<Volume<D>, Refused<D>>,
+    flushed: bool,
+) -> (u8, D)
+    ensures ends { EndsWith outcome volume flushed result.0 }
+    ensures device { result.1 ≡ returned_device volume }
+{
     let status = outcome_status(outcome);
-    let flushed = out.flush().is_ok() && err.flush().is_ok();
-    let (status, device) = match volume {
+    match volume {
         Ok(volume) if flushed => (status, volume.into_device()),
         Ok(volume) => (FAULT, volume.into_device()),
         Err(Refused { device, .. }) => (NOT_COMMITTED, device),
-    };
+    }
+}
+
+/// Puts together what an execution leaves.
+pub(crate) fn make_executed<D: Drop, R: Drop, W1: Drop, W2: Drop>(
+    status: u8,
+    summary: Option<Summary>,
+    flushed: bool,
+    device: D,
+    streams: Streams<R, W1, W2>,
+) -> Executed<D, R, W1, W2>
+    ensures status { result.status ≡ status }
+    ensures summary { result.summary ≡ summary }
+    ensures flushed { result.flushed ≡ flushed }
+    ensures device { result.device ≡ device }
+    ensures input { result.input ≡ streams.input }
+    ensures out { result.out ≡ streams.out }
+    ensures err { result.err ≡ streams.err }
+{
+    let Streams { input, out, err } = streams;
     Executed {
         status,
-        summary: None,
+        summary,
         flushed,
         device,
         input,
@@ -209,110 +228,115 @@ fn report<D: Device + Drop, R: Drop, W1: Write + Drop, W2: Write + Drop>(
     }
 }
 
-/// How many bytes a guest took and gave.
-#[derive(Clone, Copy)]
-struct Moved {
-    read: u64,
-    written: u64,
-    complained: u64,
+/// Which outputs of a run were refused more than they take.
+fn cut_of<D: Device, R, W1, W2>(report: &Report<D, Counted<R>, Counted<W1>, Counted<W2>>) -> Cut
+    ensures { result ≡ record { output = report.now.out.full; errors = report.now.err.full } }
+{
+    Cut {
+        output: report.out.full,
+        errors: report.err.full,
+    }
 }
 
-/// A report without the counts of its streams, and these.
-fn uncounted<D: Device, R, W1, W2>(
-    report: Report<D, Counted<R>, Counted<W1>, Counted<W2>>,
-) -> (Report<D, R, W1, W2>, Moved)
-    ensures outcome { result.0.outcome ≡ report.outcome }
-    ensures used { (result.0.used ≡ report.used) × (result.0.pages ≡ report.pages) }
-    ensures broken { result.0.broken ≡ report.broken }
-    ensures volume { result.0.volume ≡ report.volume }
-    ensures input { (result.0.input ≡ report.input.stream) × (result.1.read ≡ report.input.count) }
-    ensures out { (result.0.out ≡ report.out.stream) × (result.1.written ≡ report.out.count) }
-    ensures err { (result.0.err ≡ report.err.stream) × (result.1.complained ≡ report.err.count) }
+/// Whether a stream of a run failed, which one that is cut doesn't.
+fn is_broken<D: Device, R, W1, W2>(
+    report: &Report<D, Counted<R>, Counted<W1>, Counted<W2>>,
+) -> bool
+    ensures { result ≡ broken_in report.now }
 {
+    if report.out.full || report.err.full {
+        return report.input.failed || report.out.failed || report.err.failed;
+    }
+    report.broken
+}
+
+/// Ends a run whose streams were counted, and says what its report is. Gives the device of the volume and the streams back.
+fn reported<D: Device + Drop, R: Drop, W1: Write + Drop, W2: Write + Drop>(
+    run: &Run<'_>,
+    report: Report<D, Counted<R>, Counted<W1>, Counted<W2>>,
+    tally: Tally,
+) -> Executed<D, R, W1, W2>
+    ensures ends { EndsWith report.outcome report.volume result.flushed result.status }
+    ensures summary { result.summary ≡ Some (run_summary run.now report tally result.status result.flushed) }
+    ensures device { result.device ≡ returned_device report.volume }
+    ensures input { result.input ≡ report.input.stream }
+    ensures out { Keeps (W1.contents report.out.stream) (W1.contents result.out) }
+    ensures err { Keeps (W2.contents report.err.stream) (W2.contents result.err) }
+{
+    let (cut, broken) = (cut_of(&report), is_broken(&report));
     let Report {
         outcome,
         used,
         pages,
-        broken,
         volume,
         input,
         out,
         err,
+        ..
     } = report;
-    let moved = Moved {
-        read: input.count,
-        written: out.count,
-        complained: err.count,
-    };
-    let report = Report {
-        outcome,
-        used,
-        pages,
-        broken,
-        volume,
+    let (read, written, complained) = (input.count, out.count, err.count);
+    let mut streams = Streams {
         input: input.stream,
         out: out.stream,
         err: err.stream,
     };
-    (report, moved)
-}
-
-/// Ends a run whose streams were counted, and says what its report is.
-fn reported<D: Device + Drop, R: Drop, W1: Write + Drop, W2: Write + Drop>(
-    run: &Run<'_>,
-    counted: Report<D, Counted<R>, Counted<W1>, Counted<W2>>,
-    tally: Tally,
-) -> Executed<D, R, W1, W2>
-    ensures ends { EndsWith counted.outcome counted.volume result.flushed result.status }
-    ensures summary { result.summary ≡ Some (run_summary run.now counted tally result.status result.flushed) }
-    ensures device { result.device ≡ returned_device counted.volume }
-    ensures input { result.input ≡ counted.input.stream }
-    ensures out { Keeps (W1.contents counted.out.stream) (W1.contents result.out) }
-    ensures err { Keeps (W2.contents counted.err.stream) (W2.contents result.err) }
-{
-    let (plain, moved) = uncounted(counted);
-    let (outcome, units, pages) = (plain.outcome, plain.used, plain.pages);
-    let broken = plain.broken;
-    let volume = kept_after_run(run.volume.or(run.volume_out), &plain.volume);
-    let mut left = report(plain);
-    left.summary = Some(Summary {
+    let kept = kept_after_run(run.volume.or(run.volume_out), &volume);
+    let flushed = flush_both(&mut streams.out, &mut streams.err);
+    let (status, device) = settled(outcome, volume, flushed);
+    let summary = Summary {
         end: End::Ran(outcome),
-        status: left.status,
-        units,
+        status,
+        units: used,
         fuel: run.limits.fuel,
         pages,
-        read: moved.read,
-        written: moved.written,
-        complained: moved.complained,
+        read,
+        written,
+        complained,
         calls: tally.calls,
         syncs: tally.syncs,
-        volume,
-        flushed: left.flushed,
+        volume: kept,
+        flushed,
         broken,
-    });
-    left
+        cut,
+    };
+    make_executed(status, Some(summary), flushed, device, streams)
 }
 
-/// Ends a run that could not begin: its fault's status. Gives the module, the device of the volume and the streams back.
-fn not_begun<'a, D: Device + Drop, R: Drop, W1: Drop, W2: Drop>(
+/// Ends a run that could not begin, and says why. Nothing is flushed. Gives the device of the volume and the streams back.
+fn not_begun<D: Drop, R: Drop, W1: Drop, W2: Drop>(
     run: &Run<'_>,
-    refused: RefusedSession<'a, '_, '_, D, Counted<R>, Counted<W1>, Counted<W2>>,
-) -> (Valid<'a>, Executed<D, R, W1, W2>)
-    ensures module { result.0 ≡ refused.entry.valid }
-    ensures ends { result.1.status ≡ session_status refused.entry.fault }
-    ensures flushed { result.1.flushed ≡ true }
-    ensures summary { result.1.summary ≡ Some (not_run run.now (session_reason refused.entry.fault)
-        (kept_where_not_begun run.now.volume refused.entry.fault) result.1.status) }
-    ensures device { result.1.device ≡ refused.entry.parts.volume.device }
-    ensures input { result.1.input ≡ refused.entry.parts.input.stream }
-    ensures out { result.1.out ≡ refused.entry.parts.out.stream }
-    ensures err { result.1.err ≡ refused.entry.parts.err.stream }
+    why: (u8, Fault, Kept),
+    device: D,
+    streams: Streams<R, W1, W2>,
+) -> Executed<D, R, W1, W2>
+    ensures status { result.status ≡ why.0 }
+    ensures summary { result.summary ≡ Some (not_run run.now why.1 why.2 why.0) }
+    ensures flushed { result.flushed ≡ true }
+    ensures device { result.device ≡ device }
+    ensures input { result.input ≡ streams.input }
+    ensures out { result.out ≡ streams.out }
+    ensures err { result.err ≡ streams.err }
 {
-    let RefusedSession {
-        valid,
-        parts,
-        fault,
-    } = refused;
+    let (status, fault, kept) = why;
+    let summary = not_run(run, fault, kept, status);
+    make_executed(status, Some(summary), true, device, streams)
+}
+
+/// Ends a run that gets no session. Gives the device of the volume and the streams back.
+fn no_session<D: Device + Drop, R: Drop, W1: Drop, W2: Drop>(
+    run: &Run<'_>,
+    parts: HostParts<'_, '_, D, Counted<R>, Counted<W1>, Counted<W2>>,
+    fault: SessionFault,
+) -> Executed<D, R, W1, W2>
+    ensures ends { result.status ≡ session_status fault }
+    ensures flushed { result.flushed ≡ true }
+    ensures summary { result.summary ≡ Some (not_run run.now (session_reason fault)
+        (kept_where_not_begun run.now.volume fault) result.status) }
+    ensures device { result.device ≡ parts.entry.volume.device }
+    ensures input { result.input ≡ parts.entry.input.stream }
+    ensures out { result.out ≡ parts.entry.out.stream }
+    ensures err { result.err ≡ parts.entry.err.stream }
+{
     let HostParts {
         volume,
         input,
@@ -320,18 +344,14 @@ fn not_begun<'a, D: Device + Drop, R: Drop, W1: Drop, W2: Drop>(
         err,
         ..
     } = parts;
-    let status = session_status(fault);
     let kept = kept_where_not_begun(run.volume, fault);
-    let left = Executed {
-        status,
-        summary: Some(not_run(run, session_reason(fault), kept, status)),
-        flushed: true,
-        device: volume.into_device(),
+    let streams = Streams {
         input: input.stream,
         out: out.stream,
         err: err.stream,
     };
-    (valid, left)
+    let why = (session_status(fault), session_reason(fault), kept);
+    not_begun(run, why, volume.into_device(), streams)
 }
 
 /// Gives a session the random bytes of a seed, where the words of a run name one.
@@ -362,6 +382,13 @@ fn run_within<'a, D: Device + Drop, R: Read + Drop, W1: Write + Drop, W2: Write 
     run_counted_with_module(session, run.limits.fuel)
 }
 
+/// How many bytes each output of a run takes at most.
+fn output_of(run: &Run<'_>) -> u64
+    ensures { result ≡ output_of run.now }
+{
+    run.limits.output.unwrap_or(u64::MAX)
+}
+
 /// Runs a valid module with these settings on an open volume. Gives the module and the volume's device back.
 fn launch<'a, D: Device + Drop, R: Read + Drop, W1: Write + Drop, W2: Write + Drop>(
     alloc: Global,
@@ -370,7 +397,7 @@ fn launch<'a, D: Device + Drop, R: Read + Drop, W1: Write + Drop, W2: Write + Dr
     parts: HostParts<'_, '_, D, R, W1, W2>,
 ) -> (Valid<'a>, Executed<D, R, W1, W2>)
     ensures module { result.0 ≡ valid.entry }
-    ensures launches { Launches D.honest D.disk D.size D.failures D.goes_on R.remaining W1.contents W2.contents Keeps
+    ensures launches { Launches D.honest D.disk D.size D.failures D.goes_on R.remaining W1.contents W2.contents
         valid.entry run.now parts.entry result.1 }
 {
     let HostParts {
@@ -380,15 +407,22 @@ fn launch<'a, D: Device + Drop, R: Read + Drop, W1: Write + Drop, W2: Write + Dr
         out,
         err,
     } = parts;
-    let taken = Counted::new(input);
-    let given = Counted::new(out);
-    let complaints = Counted::new(err);
+    let most = output_of(run);
+    let taken = Counted::new(input, u64::MAX);
+    let given = Counted::new(out, most);
+    let complaints = Counted::new(err, most);
     match Session::new(alloc, valid, settings, volume, taken, given, complaints) {
         Ok(session) => {
-            let (valid, counted, tally) = run_within(run, session);
-            (valid, reported(run, counted, tally))
+            let (valid, report, tally) = run_within(run, session);
+            (valid, reported(run, report, tally))
         }
-        Err(refused) => not_begun(run, refused),
+        Err(
+            RefusedSession {
+                valid,
+                parts,
+                fault,
+            },
+        ) => (valid, no_session(run, parts, fault)),
     }
 }
 
@@ -407,40 +441,31 @@ pub(crate) fn run_valid<'a, D: Device + Drop, R: Read + Drop, W1: Write + Drop, 
     supplies: &Supplies<'_>,
     random: &[u8],
     device: D,
-    input: R,
-    out: W1,
-    err: W2,
+    streams: Streams<R, W1, W2>,
 ) -> (Valid<'a>, Executed<D, R, W1, W2>)
     requires { AreSupplies run.now supplies.now }
     ensures module { result.0 ≡ valid.entry }
-    ensures runs { RunsOn D.honest D.disk D.size D.failures D.goes_on R.remaining W1.contents W2.contents Keeps
-        run.now valid.entry random.now device input out err result.1 }
+    ensures runs { RunsOn D.honest D.disk D.size D.failures D.goes_on R.remaining W1.contents W2.contents
+        run.now valid.entry random.now device streams.input streams.out streams.err result.1 }
 {
-    let volume = match open_for_run(alloc, volume_of(run), device) {
-        Ok(volume) => volume,
-        Err(Refused { device, fault }) => {
-            let status = volume_status(fault);
-            let kept = kept_where_refused(fault);
-            let left = Executed {
-                status,
-                summary: Some(not_run(run, Fault::Volume(fault), kept, status)),
-                flushed: true,
-                device,
+    match open_for_run(alloc, volume_of(run), device) {
+        Ok(volume) => {
+            let Streams { input, out, err } = streams;
+            let parts = HostParts {
+                settings: settings(run, supplies, random),
+                volume,
                 input,
                 out,
                 err,
             };
-            return (valid, left);
+            launch(alloc, run, valid, parts)
         }
-    };
-    let parts = HostParts {
-        settings: settings(run, supplies, random),
-        volume,
-        input,
-        out,
-        err,
-    };
-    launch(alloc, run, valid, parts)
+        Err(Refused { device, fault }) => {
+            let kept = kept_where_refused(fault);
+            let why = (volume_status(fault), Fault::Volume(fault), kept);
+            (valid, not_begun(run, why, device, streams))
+        }
+    }
 }
 
 /// Runs a module on the volume of a device, with random bytes, and gives the device back. It prints no line of the
@@ -451,18 +476,16 @@ pub(crate) fn run<D: Device + Drop, R: Read + Drop, W1: Write + Drop, W2: Write 
     module: &[u8],
     random: &[u8],
     device: D,
-    input: R,
-    out: W1,
-    err: W2,
+    streams: Streams<R, W1, W2>,
 ) -> Executed<D, R, W1, W2>
-    ensures { Runs D.honest D.disk D.size D.failures D.goes_on R.remaining W1.contents W2.contents Keeps
-        run.now «module».now random.now device input out err result }
+    ensures { Runs D.honest D.disk D.size D.failures D.goes_on R.remaining W1.contents W2.contents
+        run.now «module».now random.now device streams.input streams.out streams.err result }
 {
     let (status, fault) = match supplied(alloc, run) {
         Ok(supplies) => match sandbox_core::load(alloc, module) {
             Ok(valid) => {
                 let (valid, left) = run_valid(
-                    alloc, run, valid, &supplies, random, device, input, out, err,
+                    alloc, run, valid, &supplies, random, device, streams,
                 );
                 drop(valid);
                 return left;
@@ -471,81 +494,46 @@ pub(crate) fn run<D: Device + Drop, R: Read + Drop, W1: Write + Drop, W2: Write 
         },
         Err(fault) => (session_status(fault), session_reason(fault)),
     };
-    Executed {
-        status,
-        summary: Some(not_run(run, fault, Kept::None, status)),
-        flushed: true,
-        device,
-        input,
-        out,
-        err,
-    }
+    not_begun(run, (status, fault, Kept::None), device, streams)
 }
 
-/// Runs a module as `run` does, and prints the lines of how it ended where the guest's own errors go.
-fn run_and_tell<D: Device + Drop, R: Read + Drop, W1: Write + Drop, W2: Write + Drop>(
-    alloc: Global,
-    it: &Run<'_>,
-    module: &[u8],
-    random: &[u8],
-    device: D,
-    input: R,
-    out: W1,
-    err: W2,
-) -> Executed<D, R, W1, W2>
-    ensures tells { Runs D.honest D.disk D.size D.failures D.goes_on R.remaining W1.contents W2.contents AppendsSome
-        it.now «module».now random.now device input out err result }
-    ensures within { result.status ≤ 124 }
-{
-    let mut left = run(alloc, it, module, random, device, input, out, err);
-    if let Some(summary) = left.summary {
-        tell_end(&mut left.err, &summary);
-    }
-    left
-}
-
-/// Does what the command line asks, on the bytes of the module's file and of the random bytes' and on
-/// the device, and gives the exit status, the device and the streams. With neither a volume's file nor an
-/// image a run makes the device an empty volume. Inspecting has no use of the device, and only it and a run
-/// have one of the bytes. The guest reads `input` and writes `out` and `err`; the program's own line goes
-/// to `err`.
+/// Does something with the volume on a device, and gives the exit status, the device and the streams. What is put into the
+/// volume comes from the input, what is told of it goes to the output, and the program's own lines to the errors, which call the
+/// volume by this name of its file.
 pub fn execute<D: Device + Drop, R: Read + Drop, W1: Write + Drop, W2: Write + Drop>(
     alloc: Global,
-    invocation: &Invocation<'_>,
-    module: &[u8],
-    random: &[u8],
+    file: &str,
+    work: VolumeWork<'_>,
     device: D,
-    mut input: R,
-    mut out: W1,
-    err: W2,
+    given: Streams<R, W1, W2>,
 ) -> Executed<D, R, W1, W2>
     ensures tells { Executes D.honest D.disk D.size D.failures D.goes_on R.remaining W1.contents W2.contents
-        invocation.now «module».now random.now device input out err result }
+        work.entry device given.input given.out given.err result }
     ensures within { result.status ≤ 124 }
 {
-    match invocation {
-        Invocation::Run(it) => run_and_tell(alloc, it, module, random, device, input, out, err),
-        Invocation::Format {
+    let mut given = given;
+    let about = About { file, work };
+    match work {
+        VolumeWork::Format {
             sectors,
             slots,
             large,
-            ..
+            new,
         } => {
-            let (done, device) = format_as(alloc, device, *sectors, *slots, *large);
-            ended(done, device, input, out, err)
+            let (done, device) = format_where(alloc, device, sectors, slots, large, new);
+            ended(done, device, given, &about)
         }
-        Invocation::Volume { task, .. } => {
-            let (done, device) = perform(alloc, device, *task, &mut input, &mut out);
-            ended_task(*task, done, device, input, out, err)
+        VolumeWork::Task(task) => {
+            let (done, device) = perform(alloc, device, task, &mut given.input, &mut given.out);
+            ended_task(task, done, device, given, &about)
         }
-        Invocation::Import { path, .. } => {
-            let (done, device) = import_into(alloc, device, path, &mut input);
-            ended(done, device, input, out, err)
+        VolumeWork::Import { path } => {
+            let (done, device) = import_into(alloc, device, path, &mut given.input);
+            ended(done, device, given, &about)
         }
-        Invocation::Export { path, .. } => {
-            let (done, device) = export_from(alloc, device, path, &mut out);
-            ended(done, device, input, out, err)
+        VolumeWork::Export { path } => {
+            let (done, device) = export_from(alloc, device, path, &mut given.out);
+            ended(done, device, given, &about)
         }
-        Invocation::Inspect { .. } => inspect(alloc, module, device, input, out, err),
     }
 }

@@ -4,10 +4,16 @@ ghost use Rattle.std.specs.Prelude.{◌≡◌};
 ghost use Rattle.sandbox_command.specs.Reporting.{kept_after_run, kept_where_not_begun};
 ghost use Rattle.sandbox_command.specs.Reporting.{kept_where_refused, not_run, session_reason};
 
-use run_report::{End, Fault, Kept, Summary};
+use run_report::{Cut, End, Fault, Kept, Summary};
 use sandbox_core::SessionFault;
 use sandbox_words::Run;
 use vol_sector::VolumeFault;
+
+/// What was cut of a guest that gave nothing.
+const UNCUT: Cut = Cut {
+    output: false,
+    errors: false,
+};
 
 /// Why a session can't be made, as a report has it.
 pub(crate) fn session_reason(fault: SessionFault) -> Fault
@@ -40,6 +46,7 @@ pub(crate) fn not_run(run: &Run<'_>, fault: Fault, volume: Kept, status: u8) -> 
         volume,
         flushed: true,
         broken: false,
+        cut: UNCUT,
     }
 }
 

@@ -1,12 +1,10 @@
 //! A run alone on the files that its words name.
 
 ghost use Rattle.std.specs.Prelude.{◌≡◌, Some};
-ghost use Rattle.std.specs.Io.KnownBytes.{Keeps};
 ghost use Rattle.std.specs.IoError.{error_kind};
 ghost use Rattle.sandbox_command.specs.Alone.{Hands, HandsNothing, IsTold, RunsAlone, RunsOnMedium, RunsWith};
 ghost use Rattle.sandbox_command.specs.Around.{EndsGiven, around, in_memory};
 ghost use Rattle.sandbox_command.specs.Beginning.{unread};
-ghost use Rattle.sandbox_command.specs.Execution.{Runs};
 ghost use Rattle.sandbox_command.specs.Places.{IsOfName};
 ghost use Rattle.sandbox_command.specs.Status.{file_status};
 
@@ -14,14 +12,12 @@ use crate::closing::{Ending, finished, handed_out, refuse, told, unread};
 use crate::opening::{Medium, Opened, made_report, open_all};
 use crate::places::Places;
 use crate::program;
-use crate::program::Executed;
 use crate::streams::{Sink, Source, Spare, Streams, sink_of, source_of};
 use sandbox_device::RamDevice;
 use sandbox_words::Run;
 use std::alloc::Global;
 use std::io;
 use std::io::{Read, Write};
-use vol_sector::Device;
 
 /// What a run is given: the bytes of its files, its streams, and those that are spared.
 #[derive(Drop)]
@@ -65,7 +61,7 @@ pub(crate) fn end_refused<P: Places, R: Read + Drop, W1: Write + Drop, W2: Write
         given places.old places.new }
 {
     let mut given = given;
-    let status = refuse(error, &mut given.err);
+    let status = refuse(&*places, error, &mut given.err);
     places.end(given);
     status
 }
@@ -85,7 +81,7 @@ fn end_unread<P: Places, R: Read + Drop, W1: Write + Drop, W2: Write + Drop>(
 {
     let mut given = given;
     let ending = Ending {
-        status: refuse(error, &mut given.err),
+        status: refuse(&*places, error, &mut given.err),
         summary: Some(unread(run, error)),
     };
     let status = told(places, run.report, report, ending, &mut given.err);
@@ -156,15 +152,9 @@ fn run_in_file<P: Places, R: Read + Drop, W1: Write + Drop, W2: Write + Drop>(
         streams,
         spare,
     } = wired;
-    let ended = run_on(
-        alloc,
-        run,
-        module.as_slice(),
-        random.as_slice(),
-        device,
-        streams,
-    );
-    let (ending, mut left) = finished(ended, spare);
+    let (module, random) = (module.as_slice(), random.as_slice());
+    let ended = program::run(alloc, run, module, random, device, streams);
+    let (ending, mut left) = finished(alloc, run, module, ended, spare);
     let status = told(places, run.report, report, ending, &mut left.own);
     places.end(left);
     status
@@ -191,33 +181,11 @@ fn run_in_memory<P: Places, R: Read + Drop, W1: Write + Drop, W2: Write + Drop>(
         streams,
         spare,
     } = wired;
-    let ended = run_on(
-        alloc,
-        run,
-        module.as_slice(),
-        random.as_slice(),
-        device,
-        streams,
-    );
-    let (ending, mut left) = finished(ended, spare);
+    let (module, random) = (module.as_slice(), random.as_slice());
+    let ended = program::run(alloc, run, module, random, device, streams);
+    let (ending, mut left) = finished(alloc, run, module, ended, spare);
     let ending = handed_out(places, run.volume_out, &left.device, ending, &mut left.own);
     let status = told(places, run.report, report, ending, &mut left.own);
     places.end(left);
     status
-}
-
-/// Runs a module on a device with these streams.
-fn run_on<D: Device + Drop, R: Read + Drop, W1: Write + Drop, W2: Write + Drop>(
-    alloc: Global,
-    run: &Run<'_>,
-    module: &[u8],
-    random: &[u8],
-    device: D,
-    streams: Streams<R, W1, W2>,
-) -> Executed<D, R, W1, W2>
-    ensures { Runs D.honest D.disk D.size D.failures D.goes_on R.remaining W1.contents W2.contents Keeps
-        run.now «module».now random.now device streams.input streams.out streams.err result }
-{
-    let Streams { input, out, err } = streams;
-    program::run(alloc, run, module, random, device, input, out, err)
 }

@@ -40,9 +40,7 @@ struct Test<'a> {
 #[derive(Drop)]
 struct Prepared<R, W> {
     device: RamDevice,
-    input: R,
-    out: W,
-    err: W,
+    streams: Streams<R, W, W>,
 }
 
 /// Whether a word is one.
@@ -112,12 +110,13 @@ fn prepare<P: Places>(
         (λ prepared. IsPrepared P.Places run.now test.entry places.old places.new prepared)
         (λ error. LacksFiles P.Places run.now test.entry (error_kind error) places.old places.new) }
 {
-    Ok(Prepared {
+    let streams = Streams {
         input: places.open(test.input)?,
         out: places.make(test.output)?,
         err: places.make(test.errors)?,
-        device: memory_of(alloc, places, run)?,
-    })
+    };
+    let device = memory_of(alloc, places, run)?;
+    Ok(Prepared { device, streams })
 }
 
 /// Runs the module on the files of a test. Gives it back, and what the report of the test says.
@@ -135,16 +134,8 @@ fn tested<'m, P: Places>(
     ensures tested { IsTestedOrUnread P.Places P.Input.Read P.Output.Write run.now valid.entry random.now test.entry places.old places.new result.1 }
 {
     match prepare(alloc, places, run, test) {
-        Ok(prepared) => {
-            let Prepared {
-                device,
-                input,
-                out,
-                err,
-            } = prepared;
-            let (valid, left) = run_valid(
-                alloc, run, valid, supplies, random, device, input, out, err,
-            );
+        Ok(Prepared { device, streams }) => {
+            let (valid, left) = run_valid(alloc, run, valid, supplies, random, device, streams);
             let summary = left.summary;
             places.end(left);
             (valid, summary)
@@ -300,7 +291,7 @@ fn run_lines<P: Places, W: Write>(
 {
     let (text, module, random) = match list_and_files(alloc, places, run, list) {
         Ok(files) => files,
-        Err(error) => return refuse(&error, err),
+        Err(error) => return refuse(&*places, &error, err),
     };
     match tests_of(alloc, text.as_str()) {
         Ok(tests) => run_tests(

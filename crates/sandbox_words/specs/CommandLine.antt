@@ -88,10 +88,12 @@ with_apps app (sub ∷ rest) = with_apps (with_subcommand app sub.top) rest
 unfoldable pub run_rules : List Rule
 run_rules = text_rule (codes "volume") ∷ text_rule (codes "image") ∷ text_rule (codes "volume-out")
     ∷ number_rule (codes "fuel") u64_numbers ∷ number_rule (codes "pages") u32_numbers ∷ number_rule (codes "values") u32_numbers
+    ∷ number_rule (codes "output") u64_numbers
     ∷ texts_rule (codes "dir") ∷ texts_rule (codes "env") ∷ number_rule (codes "moment") u64_numbers
     ∷ text_rule (codes "random") ∷ number_rule (codes "seed") u64_numbers
     ∷ text_rule (codes "stdin") ∷ text_rule (codes "stdout") ∷ text_rule (codes "stderr")
-    ∷ text_rule (codes "name") ∷ text_rule (codes "report") ∷ text_rule (codes "tests")
+    ∷ text_rule (codes "name") ∷ text_rule (codes "report") ∷ number_rule (codes "frames") u32_numbers
+    ∷ text_rule (codes "profile") ∷ number_rule (codes "profile-every") u64_numbers ∷ text_rule (codes "tests")
     ∷ word_rule (codes "MODULE") ∷ words_rule (codes "WORD") ∷ []
 
 -- `run`, with these
@@ -128,7 +130,7 @@ move_app = app_with (codes "mv") (word_rule (codes "FILE") ∷ word_rule (codes 
 
 abbrev pub format_app : App
 format_app = app_with (codes "format") (word_rule (codes "FILE") ∷ number_word_rule (codes "SECTORS") ∷ number_word_rule (codes "SLOTS")
-    ∷ flag_rule (codes "large") ∷ [])
+    ∷ flag_rule (codes "large") ∷ flag_rule (codes "new") ∷ [])
 
 -- `faults`, which has no word, and without one prints its help
 abbrev pub faults_app : App
@@ -185,6 +187,7 @@ pub record AsksRun (rows : List Row) (run : Run) : Type 0 where
   pub fuel : run.limits.fuel ≡ number_or 1000000000 64 (codes "fuel") rows
   pub pages : run.limits.pages ≡ number_or 1024 32 (codes "pages") rows
   pub values : run.limits.values ≡ number_or 134217728 32 (codes "values") rows
+  pub output : run.limits.output ≡ number_in 64 (codes "output") rows
   pub volume : text_in run.volume ≡ first_of (codes "volume") rows
   pub image : text_in run.image ≡ first_of (codes "image") rows
   pub volume_out : text_in run.volume_out ≡ first_of (codes "volume-out") rows
@@ -198,6 +201,9 @@ pub record AsksRun (rows : List Row) (run : Run) : Type 0 where
   pub stderr : text_in run.stderr ≡ first_of (codes "stderr") rows
   pub name : text_in run.name ≡ first_of (codes "name") rows
   pub report : text_in run.report ≡ first_of (codes "report") rows
+  pub frames : run.frames ≡ number_or 16 32 (codes "frames") rows
+  pub profile : text_in run.profile ≡ first_of (codes "profile") rows
+  pub profile_every : run.profile_every ≡ number_in 64 (codes "profile-every") rows
   pub tests : text_in run.tests ≡ first_of (codes "tests") rows
   pub module_word : run.module.now ≡ word_of (codes "MODULE") rows
   pub words : texts run.words.items ≡ texts_of (codes "WORD") rows
@@ -238,9 +244,9 @@ other_names = codes "format" ∷ codes "import" ∷ codes "export" ∷ codes "in
 -- What the command of this name is asked for by what was found for its arguments. It is `run` where it is no other.
 abbrev pub AsksFor : Text → List Row → Invocation → Type 0
 AsksFor name rows (asked.Run run) = (Contains other_names name → ⊥) × AsksRun rows run
-AsksFor name rows (asked.Format file sectors slots large) = (name ≡ codes "format") × (file.now ≡ word_of (codes "FILE") rows)
+AsksFor name rows (asked.Format file sectors slots large new) = (name ≡ codes "format") × (file.now ≡ word_of (codes "FILE") rows)
     × (sectors ≡ number_or 0 32 (codes "SECTORS") rows) × (slots ≡ number_or 0 32 (codes "SLOTS") rows)
-    × (IsTrue large ↔ IsFlagged (codes "large") rows)
+    × (IsTrue large ↔ IsFlagged (codes "large") rows) × (IsTrue new ↔ IsFlagged (codes "new") rows)
 AsksFor name rows (asked.Volume file task) = (file.now ≡ word_of (codes "FILE") rows) × AsksTask name rows task
 AsksFor name rows (asked.Import file path) = (name ≡ codes "import") × (file.now ≡ word_of (codes "FILE") rows) × (path.now ≡ word_of (codes "PATH") rows)
 AsksFor name rows (asked.Export file path) = (name ≡ codes "export") × (file.now ≡ word_of (codes "FILE") rows) × (path.now ≡ word_of (codes "PATH") rows)

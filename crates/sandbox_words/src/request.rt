@@ -9,6 +9,8 @@ pub struct Limits {
     pub pages: u32,
     /// Values of 8 bytes that its stack may have at most; 4,096 are always allowed.
     pub values: u32,
+    /// Bytes that it may give to standard output, and as many to standard error; where there is none, they have no bound.
+    pub output: Option<u64>,
 }
 
 /// `sandbox run`: a module, what it may use, and what it is given.
@@ -43,6 +45,12 @@ pub struct Run<'a> {
     pub name: Option<&'a str>,
     /// The file of its report, which says how it ended and what it used.
     pub report: Option<&'a str>,
+    /// How many frames are told at most of a run that stopped before its end.
+    pub frames: u32,
+    /// The file of its profile, which says which functions used its fuel.
+    pub profile: Option<&'a str>,
+    /// The units of fuel from one look at its frames to the next; where there is none, the program has a number.
+    pub profile_every: Option<u64>,
     /// The file of a list of tests that the module is run on.
     pub tests: Option<&'a str>,
     /// The module's file.
@@ -102,12 +110,13 @@ pub enum Invocation<'a> {
     /// Run a module.
     Run(Run<'a>),
     /// Make a file an empty volume with these numbers of sectors and of slots for entries, of
-    /// version 2 where it is to be large, else of version 1.
+    /// version 2 where it is to be large, else of version 1; where it is to be new, only if it has no volume.
     Format {
         file: &'a str,
         sectors: u32,
         slots: u32,
         large: bool,
+        new: bool,
     },
     /// Do this with the volume in a file.
     Volume {

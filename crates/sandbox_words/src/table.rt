@@ -121,7 +121,7 @@ static PUT: [Argument; 3] = [
 ];
 
 /// The arguments of `run`.
-static RUN: [Argument; 19] = [
+static RUN: [Argument; 23] = [
     Argument {
         name: "volume",
         takes: Takes::Text("FILE"),
@@ -151,6 +151,11 @@ static RUN: [Argument; 19] = [
         name: "values",
         takes: Takes::Number,
         help: "Most values of its stack, each of 8 bytes; 4096 at least [default: 134217728]",
+    },
+    Argument {
+        name: "output",
+        takes: Takes::Long,
+        help: "Most bytes of its standard output, and of its standard error [default: no bound]",
     },
     Argument {
         name: "dir",
@@ -203,6 +208,21 @@ static RUN: [Argument; 19] = [
         help: "The file to be made with what it used and how it ended, a line key:value each",
     },
     Argument {
+        name: "frames",
+        takes: Takes::Number,
+        help: "Most frames that are told of where it stopped before its end [default: 16]",
+    },
+    Argument {
+        name: "profile",
+        takes: Takes::Text("FILE"),
+        help: "The file to be made with its profile, a line of a stack and its units of fuel each",
+    },
+    Argument {
+        name: "profile-every",
+        takes: Takes::Long,
+        help: "Units of fuel between two looks at its stack; 1 is exact [default: 9973]",
+    },
+    Argument {
         name: "tests",
         takes: Takes::Text("LIST"),
         help: "The file of a list of tests that the module is run on",
@@ -220,7 +240,7 @@ static RUN: [Argument; 19] = [
 ];
 
 /// The arguments of `format`.
-static FORMAT: [Argument; 4] = [
+static FORMAT: [Argument; 5] = [
     VOLUME,
     Argument {
         name: "SECTORS",
@@ -236,6 +256,11 @@ static FORMAT: [Argument; 4] = [
         name: "large",
         takes: Takes::Flag,
         help: "Make it one of version 2, whose files have up to 8483840 bytes instead of 95232",
+    },
+    Argument {
+        name: "new",
+        takes: Takes::Flag,
+        help: "Refuse a file that has a volume",
     },
 ];
 

@@ -49,6 +49,9 @@ const PAGES: u32 = 1_024;
 /// Values that the guest's stack may have where the command line says nothing of them.
 const VALUES: u32 = 134_217_728;
 
+/// Frames that are told at most where the command line says nothing of them.
+const FRAMES: u32 = 16;
+
 /// What the parser does with an argument that takes this.
 fn action(takes: Takes) -> ArgAction
     ensures { result ≡ action_for takes }
@@ -225,6 +228,7 @@ fn run_with<'a>(
         fuel: long_number(matches, "fuel").unwrap_or(FUEL),
         pages: number(matches, "pages").unwrap_or(PAGES),
         values: number(matches, "values").unwrap_or(VALUES),
+        output: long_number(matches, "output"),
     };
     Run {
         limits,
@@ -241,6 +245,9 @@ fn run_with<'a>(
         stderr: option_text(matches, "stderr"),
         name: option_text(matches, "name"),
         report: option_text(matches, "report"),
+        frames: number(matches, "frames").unwrap_or(FRAMES),
+        profile: option_text(matches, "profile"),
+        profile_every: long_number(matches, "profile-every"),
         tests: option_text(matches, "tests"),
         module: text(matches, "MODULE"),
         words,
@@ -325,6 +332,7 @@ fn other_given<'a>(name: &str, matches: &ArgMatches<'a>) -> Option<Invocation<'a
             sectors: number(matches, "SECTORS").unwrap_or(0),
             slots: number(matches, "SLOTS").unwrap_or(0),
             large: is_flagged(matches, "large"),
+            new: is_flagged(matches, "new"),
         }),
         "import" => Some(Invocation::Import { file, path }),
         "export" => Some(Invocation::Export { file, path }),

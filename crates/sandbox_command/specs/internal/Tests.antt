@@ -25,9 +25,9 @@ BeginsWithNoWord text = (word rest : Text) → text ≡ word ++ (32 ∷ rest) �
 -- the files of a test, which were asked for in turn
 pub record IsPrepared {P I O V : Type 0} (places : Ghosts P I O V) (run : Run) (t : Test) (p q : P) (prepared : Prepared I O) : Type 0 where
   pub asked_for : Chain places.asked (stream_accesses run t) p q
-  pub input : places.is_input t.input.now prepared.input
-  pub out : places.is_output t.output.now prepared.out
-  pub err : places.is_output t.errors.now prepared.err
+  pub input : places.is_input t.input.now prepared.streams.input
+  pub out : places.is_output t.output.now prepared.streams.out
+  pub err : places.is_output t.errors.now prepared.streams.err
   pub new : IsImage run.image prepared.device.sectors
   pub of_image : IsOfImage places.is_image run.image prepared.device
 

@@ -10,6 +10,6 @@ pub returns-in-Ok-clause-tells : goal.returns-in-Ok-clause-tells
 returns-in-Ok-clause-tells g c =
     let on = around g.P.Places g.P.Input.Read g.P.Output.Write g.P.Volume.Device g.R.Read g.W1.Write g.W2.Write in
     let status = c.execute-left.result.status in
-    subst (λ (r : Result _ Error). MatchResult r (λ device. HasExecuted on c.args.invocation.now device c.args.given c.args.places.now c.end.new.self status)
+    subst (λ (r : Result _ Error). MatchResult r (λ device. HasExecuted on c.args.work device c.args.given c.args.places.now c.end.new.self status)
     (λ error. (status ≡ file_status (error_kind error)) × EndsGiven on c.args.given c.args.places.now c.end.new.self)) (sym c.in-Ok.is)
     (record { left = c.execute-left.result; executes = c.execute-left.ensures.tells; ends = refl; ended = c.end.ensures })

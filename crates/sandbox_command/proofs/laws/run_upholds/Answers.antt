@@ -2,14 +2,8 @@ use Rattle.sandbox_command.specs.Running.{counted_devices}
 use Rattle.sandbox_command.proofs.Upheld.{upheld}
 use Rattle.sandbox_command.proofs.laws.run_upholds.Goals as goal
 
-pub returns-clause-told : goal.returns-clause-told
-returns-clause-told g c = λ m run parts left ran is lasts.
-    upheld (counted_devices g.D.Device.honest g.D.Device.disk g.D.Device.size g.D.Device.failures g.D.Device.goes_on g.R.Read.remaining g.W1.Write.contents g.W2.Write.contents)
-    c.headline.ensures c.headline_seeded.ensures c.turns_are_safe.ensures m _ ran.session ran.counted.reports.last ran.counted.reports.resumes run.seed
-    ran.opens ran.shares is lasts ran.counted.reports.follow
-
-pub returns-clause-kept : goal.returns-clause-kept
-returns-clause-kept g c = λ m run parts left ran is lasts.
+pub returns : goal.returns
+returns g c = λ m run parts left ran is lasts.
     upheld (counted_devices g.D.Device.honest g.D.Device.disk g.D.Device.size g.D.Device.failures g.D.Device.goes_on g.R.Read.remaining g.W1.Write.contents g.W2.Write.contents)
     c.headline.ensures c.headline_seeded.ensures c.turns_are_safe.ensures m _ ran.session ran.counted.reports.last ran.counted.reports.resumes run.seed
     ran.opens ran.shares is lasts ran.counted.reports.follow

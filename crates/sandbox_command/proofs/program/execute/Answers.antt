@@ -1,15 +1,15 @@
 use Rattle.std.proofs.Common.{sym, subst}
-use Rattle.sandbox_words.specs.declared.request.Invocation.{Invocation}
 use Rattle.volume_tasks.specs.Doing.{Performs}
 use Rattle.volume_tasks.specs.Exporting.{PerformsExport}
+use Rattle.sandbox_command.specs.declared.work.VolumeWork.{VolumeWork}
 use Rattle.sandbox_command.specs.Execution.{Executes}
 use Rattle.volume_tasks.proofs.Flushed.{performs_flushed}
 use Rattle.sandbox_command.proofs.AfterFlush.{export_flushed}
 use Rattle.sandbox_command.proofs.program.execute.Goals as goal
 
 -- the task was done, and then the output flushed
-pub returns-in-Volume-clause-tells : goal.returns-in-Volume-clause-tells
-returns-in-Volume-clause-tells g c =
+pub returns-in-Task-clause-tells : goal.returns-in-Task-clause-tells
+returns-in-Task-clause-tells g c =
     let honest = g.D.Device.honest in
     let disk = g.D.Device.disk in
     let size = g.D.Device.size in
@@ -17,15 +17,15 @@ returns-in-Volume-clause-tells g c =
     let goes_on = g.D.Device.goes_on in
     let remaining = g.R.Read.remaining in
     let outs = g.W1.Write.contents in
-    let task = c.in-Volume.task in
+    let task = c.in-Task.task in
     let done = c.perform-done.result.0 in
     let left = c.ended_task.result in
     let ended = c.ended_task.ensures in
-    let flushed = performs_flushed honest disk size failures task c.args.device (remaining c.args.input) (remaining c.perform-done.new.input) (outs c.args.out) (outs c.perform-done.new.out) (outs left.out)
+    let flushed = performs_flushed honest disk size failures task c.args.device (remaining c.args.given.input) (remaining c.perform-done.new.input) (outs c.args.given.out) (outs c.perform-done.new.out) (outs left.out)
     c.perform-done.result.1 done c.perform-done.ensures ended.out in
-    let at_input = subst (λ (r : g.row.R.Denot). Performs honest disk size failures task c.args.device (remaining c.args.input) (remaining r) (outs c.args.out) (outs left.out) c.perform-done.result.1 done) (sym ended.input) flushed in
-    let performs = subst (λ (d : g.row.D.Denot). Performs honest disk size failures task c.args.device (remaining c.args.input) (remaining left.input) (outs c.args.out) (outs left.out) d done) (sym ended.device) at_input in
-    subst (λ (i : Invocation). Executes honest disk size failures goes_on remaining outs g.W2.Write.contents i c.args.module.now c.args.random.now c.args.device c.args.input c.args.out c.args.err left) (sym c.in-Volume.is)
+    let at_input = subst (λ (r : g.row.R.Denot). Performs honest disk size failures task c.args.device (remaining c.args.given.input) (remaining r) (outs c.args.given.out) (outs left.out) c.perform-done.result.1 done) (sym ended.input) flushed in
+    let performs = subst (λ (d : g.row.D.Denot). Performs honest disk size failures task c.args.device (remaining c.args.given.input) (remaining left.input) (outs c.args.given.out) (outs left.out) d done) (sym ended.device) at_input in
+    subst (λ (it : VolumeWork). Executes honest disk size failures goes_on remaining outs g.W2.Write.contents it c.args.device c.args.given.input c.args.given.out c.args.given.err left) (sym c.in-Task.is)
     (done, performs, ended.status, ended.summary, ended.err)
 
 -- the directory was printed, and then the output flushed
@@ -41,7 +41,7 @@ returns-in-Export-clause-tells g c =
     let done = c.export_from-done.result.0 in
     let left = c.ended-in-Export.result in
     let ended = c.ended-in-Export.ensures in
-    let flushed = export_flushed honest disk size failures goes_on path c.args.device (outs c.args.out) (outs c.export_from-done.new.out) (outs left.out) c.export_from-done.result.1 done ended.out c.export_from-done.ensures in
-    let performs = subst (λ (d : g.row.D.Denot). PerformsExport honest disk size failures path c.args.device (outs c.args.out) (outs left.out) d done) (sym ended.device) flushed in
-    subst (λ (i : Invocation). Executes honest disk size failures goes_on g.R.Read.remaining outs g.W2.Write.contents i c.args.module.now c.args.random.now c.args.device c.args.input c.args.out c.args.err left) (sym c.in-Export.is)
+    let flushed = export_flushed honest disk size failures goes_on path c.args.device (outs c.args.given.out) (outs c.export_from-done.new.out) (outs left.out) c.export_from-done.result.1 done ended.out c.export_from-done.ensures in
+    let performs = subst (λ (d : g.row.D.Denot). PerformsExport honest disk size failures path c.args.device (outs c.args.given.out) (outs left.out) d done) (sym ended.device) flushed in
+    subst (λ (it : VolumeWork). Executes honest disk size failures goes_on g.R.Read.remaining outs g.W2.Write.contents it c.args.device c.args.given.input c.args.given.out c.args.given.err left) (sym c.in-Export.is)
     (done, performs, ended.status, ended.summary, ended.input, ended.err)

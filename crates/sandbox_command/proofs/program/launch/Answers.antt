@@ -1,6 +1,5 @@
 use Rattle.std.proofs.Common.{inl, inr, sym, ◌∙◌, ap, subst}
 use Rattle.std.specs.Io.KnownBytes.{Keeps}
-use Rattle.std.proofs.KnownBytes.{Keeps-refl}
 use Rattle.vol_sector.specs.Disk.{Leaves}
 use Rattle.wasm_steps.specs.Configuration.{first_configuration}
 use Rattle.wasi_calls.specs.declared.host.wasi_host.HostParts.{HostParts}
@@ -14,6 +13,7 @@ use Rattle.sandbox_command.specs.Reporting.{counted_bytes, counting}
 use Rattle.sandbox_command.specs.internal.Seeds.{with_seed}
 use Rattle.sandbox_command.specs.Running.{counted_devices}
 use Rattle.sandbox_command.proofs.Began.{began, counting_from, device_back}
+use Rattle.sandbox_command.proofs.Unbegun.{kept_streams}
 use Rattle.sandbox_command.proofs.Seeding.{opens_seeded, shares_seeded}
 use Rattle.sandbox_command.proofs.program.launch.Goals as goal
 
@@ -29,11 +29,11 @@ returns-in-Ok-clause-launches g c =
     let seed = c.args.run.now.seed in
     let limited = limited_to c.args.run.now.limits.values began_with in
     let s = with_seed seed limited in
-    let same = counting_from parts c.new-taken.result c.new-given.result c.new-complaints.result c.new-taken.ensures c.new-given.ensures c.new-complaints.ensures in
-    let opens = opens_seeded c.args.valid (counting parts) limited seed
-    (opens_limited c.args.valid (counting parts) began_with c.args.run.now.limits.values (subst (λ (p : HostParts g.row.D.Denot (Counted g.row.R.Denot) (Counted g.row.W1.Denot) (Counted g.row.W2.Denot)). Opens c.args.valid p began_with) same c.in-Ok.ensures.opens)) in
-    let shares = shares_seeded g.D.Device (counting parts) limited seed
-    (shares_limited g.D.Device (counting parts) began_with c.args.run.now.limits.values (subst (λ (p : HostParts g.row.D.Denot (Counted g.row.R.Denot) (Counted g.row.W1.Denot) (Counted g.row.W2.Denot)). Shares g.D.Device p began_with) same c.in-Ok.ensures.shares)) in
+    let same = counting_from c.args.run.now parts c.new-taken.result c.new-given.result c.new-complaints.result c.new-taken.ensures c.new-given.ensures c.new-complaints.ensures in
+    let opens = opens_seeded c.args.valid (counting c.args.run.now parts) limited seed
+    (opens_limited c.args.valid (counting c.args.run.now parts) began_with c.args.run.now.limits.values (subst (λ (p : HostParts g.row.D.Denot (Counted g.row.R.Denot) (Counted g.row.W1.Denot) (Counted g.row.W2.Denot)). Opens c.args.valid p began_with) same c.in-Ok.ensures.opens)) in
+    let shares = shares_seeded g.D.Device (counting c.args.run.now parts) limited seed
+    (shares_limited g.D.Device (counting c.args.run.now parts) began_with c.args.run.now.limits.values (subst (λ (p : HostParts g.row.D.Denot (Counted g.row.R.Denot) (Counted g.row.W1.Denot) (Counted g.row.W2.Denot)). Shares g.D.Device p began_with) same c.in-Ok.ensures.shares)) in
     let i = opens.starts.instance in
     let first = first_configuration opens.starts.entered opens.starts.store in
     let counted = c.run_within-valid.ensures.counted in
@@ -68,29 +68,26 @@ returns-in-Ok-clause-launches g c =
 pub returns-in-Err-clause-launches : goal.returns-in-Err-clause-launches
 returns-in-Err-clause-launches g c =
     let parts = c.args.parts in
-    let same = counting_from parts c.new-taken.result c.new-given.result c.new-complaints.result c.new-taken.ensures c.new-given.ensures c.new-complaints.ensures in
+    let same = counting_from c.args.run.now parts c.new-taken.result c.new-given.result c.new-complaints.result c.new-taken.ensures c.new-given.ensures c.new-complaints.ensures in
     let back = c.in-Err.ensures.hands_back in
-    let ended = c.not_begun.ensures in
+    let ended = c.no_session.ensures in
     inl (record {
-      fault = c.in-Err.refused.fault;
-      refused = subst (λ (p : HostParts g.row.D.Denot (Counted g.row.R.Denot) (Counted g.row.W1.Denot) (Counted g.row.W2.Denot)). IsRefused g.D.Device.honest c.in-Err.refused.fault c.args.valid p) same c.in-Err.ensures.refused;
-      volume = c.in-Err.refused.parts.volume;
+      fault = c.in-Err.field-0.fault;
+      refused = subst (λ (p : HostParts g.row.D.Denot (Counted g.row.R.Denot) (Counted g.row.W1.Denot) (Counted g.row.W2.Denot)). IsRefused g.D.Device.honest c.in-Err.field-0.fault c.args.valid p) same c.in-Err.ensures.refused;
+      volume = c.in-Err.field-0.parts.volume;
       kept = back.volume;
       device = ended.device;
       ends = ended.ends;
       flushed = ended.flushed;
       summary = ended.summary;
-      streams = record {
-        input_is = ended.input ∙ ap (λ (r : Counted g.row.R.Denot). r.stream) (back.input ∙ c.new-taken.ensures);
-        out_keeps = subst (λ (w : g.row.W1.Denot). Keeps (g.W1.Write.contents parts.out) (g.W1.Write.contents w))
-            (sym (ended.out ∙ ap (λ (w : Counted g.row.W1.Denot). w.stream) (back.out ∙ c.new-given.ensures))) (Keeps-refl (g.W1.Write.contents parts.out));
-        err_follows = subst (λ (w : g.row.W2.Denot). Keeps (g.W2.Write.contents parts.err) (g.W2.Write.contents w))
-            (sym (ended.err ∙ ap (λ (w : Counted g.row.W2.Denot). w.stream) (back.err ∙ c.new-complaints.ensures))) (Keeps-refl (g.W2.Write.contents parts.err));
-      };
+      streams = kept_streams g.W1.Write.contents g.W2.Write.contents parts.input parts.out parts.err c.no_session.result
+          (ended.input ∙ ap (λ (r : Counted g.row.R.Denot). r.stream) (back.input ∙ c.new-taken.ensures))
+          (ended.out ∙ ap (λ (w : Counted g.row.W1.Denot). w.stream) (back.out ∙ c.new-given.ensures))
+          (ended.err ∙ ap (λ (w : Counted g.row.W2.Denot). w.stream) (back.err ∙ c.new-complaints.ensures));
     })
 
 pub returns-in-Ok-clause-module : goal.returns-in-Ok-clause-module
 returns-in-Ok-clause-module g c = c.run_within-valid.ensures.module ∙ c.in-Ok.ensures.opens.starts.module_is
 
 pub returns-in-Err-clause-module : goal.returns-in-Err-clause-module
-returns-in-Err-clause-module g c = c.not_begun.ensures.module ∙ c.in-Err.ensures.hands_back.valid
+returns-in-Err-clause-module g c = c.in-Err.ensures.hands_back.valid

@@ -1,8 +1,6 @@
-use Rattle.std.proofs.Common.{ℕ, inl, inr, refl, ◌∙◌, ap, Some}
-use Rattle.std.proofs.KnownBytes.{Keeps-refl}
+use Rattle.std.proofs.Common.{ℕ, inl, inr, refl, sym, ◌∙◌, ap, Some}
 use Rattle.run_report.specs.declared.fault.Fault.{Fault}
-use Rattle.run_report.specs.declared.summary.Kept.TheVariants as kept
-use Rattle.sandbox_command.specs.Reporting.{not_run}
+use Rattle.sandbox_command.proofs.Unbegun.{kept_streams, not_run_so}
 use Rattle.sandbox_command.proofs.program.run.Goals as goal
 use Rattle.sandbox_command.proofs.program.run.Goals.{in-Ok+in-Err-load, in-Err}
 
@@ -15,6 +13,13 @@ returns-in-Ok-load g c =
 -- the words are refused, or the bytes
 pub returns : goal.returns
 returns g c =
+    let ended = c.not_begun.ensures in
+    let streams = c.args.streams in
+    let untouched = record {
+      device_is = ended.device;
+      flushed = ended.flushed;
+      streams = kept_streams g.W1.Write.contents g.W2.Write.contents streams.input streams.out streams.err c.not_begun.result ended.input ended.out ended.err;
+    } in
     elim c.match-supplied.branch [
       | in-Ok+in-Err-load w ↦ inr (inl (
         record {
@@ -23,26 +28,18 @@ returns g c =
           fault = w.in-Err-load.fault;
           refused = w.in-Err-load.ensures.no;
           spells_none = w.in-Err-load.ensures.refused;
-          ends = ap (λ (p : ℕ × Fault). p.0) w.status-is ∙ w.load_status.ensures;
-          summary_is = ap Some (c.not_run.ensures ∙ ap (λ (f : Fault). not_run c.args.run.now f kept.None c.match-supplied.status.0) (ap (λ (p : ℕ × Fault). p.1) w.status-is));
+          ends = ended.status ∙ (ap (λ (p : ℕ × Fault). p.0) w.status-is ∙ w.load_status.ensures);
+          summary_is = ended.summary ∙ ap Some (not_run_so c.args.run.now _ _ _ _ _ _ (ap (λ (p : ℕ × Fault). p.1) w.status-is) refl (sym ended.status));
         },
-        record {
-          device_is = refl;
-          flushed = refl;
-          streams = record { input_is = refl; out_keeps = Keeps-refl (g.W1.Write.contents c.args.out); err_follows = Keeps-refl (g.W2.Write.contents c.args.err) };
-        },
+        untouched,
       ))
       | in-Err w ↦ inl (
         record {
           fault = w.in-Err.fault;
           uncut = w.in-Err.ensures.refused;
-          ends = ap (λ (p : ℕ × Fault). p.0) w.status-is ∙ w.session_status.ensures;
-          summary_is = ap Some (c.not_run.ensures ∙ ap (λ (f : Fault). not_run c.args.run.now f kept.None c.match-supplied.status.0) (ap (λ (p : ℕ × Fault). p.1) w.status-is ∙ w.session_reason.ensures));
+          ends = ended.status ∙ (ap (λ (p : ℕ × Fault). p.0) w.status-is ∙ w.session_status.ensures);
+          summary_is = ended.summary ∙ ap Some (not_run_so c.args.run.now _ _ _ _ _ _ (ap (λ (p : ℕ × Fault). p.1) w.status-is ∙ w.session_reason.ensures) refl (sym ended.status));
         },
-        record {
-          device_is = refl;
-          flushed = refl;
-          streams = record { input_is = refl; out_keeps = Keeps-refl (g.W1.Write.contents c.args.out); err_follows = Keeps-refl (g.W2.Write.contents c.args.err) };
-        },
+        untouched,
       )
     ]

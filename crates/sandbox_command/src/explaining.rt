@@ -1,0 +1,220 @@
+//! What is said in words where a command is refused, in a line behind the fixed one: what it is about, what its number means, and
+//! what helps.
+
+ghost use Rattle.sandbox_command.specs.Streams.{AppendsSome};
+
+use crate::output::{say, say_name, tell};
+use crate::work::VolumeWork;
+use meanings::{errno_cure, errno_text, fault_cure, fault_text};
+use run_report::Fault;
+use sandbox_words::{Change, Task};
+use std::io::{ErrorKind, Write};
+use vol_sector::VolumeFault;
+use vol_tree::Errno;
+
+/// The fault of a number of sectors or slots that is out of its range.
+const RANGE: u32 = 36;
+
+/// What a command on a volume is about, as its words have it.
+#[derive(Clone, Copy)]
+pub(crate) struct About<'a> {
+    /// The volume's file.
+    pub(crate) file: &'a str,
+    pub(crate) work: VolumeWork<'a>,
+}
+
+/// Prints a part of a line behind another one, where it has bytes.
+pub(crate) fn say_part<W: Write>(err: &mut W, part: &[u8])
+    ensures { AppendsSome (W.contents err.old) (W.contents err.new) }
+{
+    if part.is_empty() {
+        return say(err, b"");
+    }
+    say(err, b": ");
+    say(err, part);
+}
+
+/// Prints what a name means, and what helps, where that is known, as the end of a line.
+pub(crate) fn say_meaning<W: Write>(err: &mut W, meaning: &str, cure: &str)
+    ensures { AppendsSome (W.contents err.old) (W.contents err.new) }
+{
+    say_part(err, meaning.as_bytes());
+    say_part(err, cure.as_bytes());
+    say(err, b"\n");
+}
+
+/// Prints a line about something that has a name.
+pub(crate) fn tell_words<W: Write>(err: &mut W, name: &str, meaning: &str, cure: &str)
+    ensures { AppendsSome (W.contents err.old) (W.contents err.new) }
+{
+    tell_bytes(err, name.as_bytes(), meaning, cure);
+}
+
+/// The same about a name that may not be text.
+pub(crate) fn tell_bytes<W: Write>(err: &mut W, name: &[u8], meaning: &str, cure: &str)
+    ensures { AppendsSome (W.contents err.old) (W.contents err.new) }
+{
+    say(err, b"sandbox: ");
+    say_name(err, name);
+    say_meaning(err, meaning, cure);
+}
+
+/// Prints what a fault of a file means.
+pub(crate) fn tell_of_fault<W: Write>(err: &mut W, name: &str, fault: Fault)
+    ensures { AppendsSome (W.contents err.old) (W.contents err.new) }
+{
+    match fault.number() {
+        Some(number) => tell_words(err, name, fault_text(number), fault_cure(number)),
+        None => tell_words(
+            err,
+            name,
+            "memory was refused",
+            "free some, or raise its bound (ulimit -v)",
+        ),
+    }
+}
+
+/// Prints why a file of the host is refused, by the kind of the error.
+pub(crate) fn tell_of_kind<W: Write>(err: &mut W, name: &str, kind: ErrorKind)
+    ensures { AppendsSome (W.contents err.old) (W.contents err.new) }
+{
+    let (meaning, cure) = match kind {
+        ErrorKind::NotFound => ("there is no such file or folder", "look at the path"),
+        ErrorKind::PermissionDenied => ("no right to open it", "look at its owner and mode"),
+        ErrorKind::NotADirectory => ("a name before the last is no folder", "look at the path"),
+        ErrorKind::IsADirectory => ("it is a folder", "name a file"),
+        ErrorKind::WouldBlock => (
+            "in use, another process has it locked",
+            "wait until that ends, or take a copy",
+        ),
+        ErrorKind::ResourceBusy => (
+            "these words name it twice, and a file that is written has no other part",
+            "name another file",
+        ),
+        ErrorKind::OutOfMemory => (
+            "memory was refused",
+            "free some, or raise its bound (ulimit -v)",
+        ),
+        _ => (
+            "it can't be opened, read or written",
+            "look at the disk, its free space and its rights",
+        ),
+    };
+    tell_words(err, name, meaning, cure);
+}
+
+/// The paths that a command names in its volume: the second one is that which an entry gets.
+fn paths<'a>(work: VolumeWork<'a>) -> (&'a str, Option<&'a str>) {
+    match work {
+        VolumeWork::Import { path } | VolumeWork::Export { path } => (path, None),
+        VolumeWork::Task(task) => match task {
+            Task::List { path }
+            | Task::ListAs { path, .. }
+            | Task::Get { path }
+            | Task::Put { path }
+            | Task::PutWhole { path }
+            | Task::Stat { path } => (path, None),
+            Task::Change(change) => match change {
+                Change::Move { from, to } => (from, Some(to)),
+                Change::MakeDirectory { path }
+                | Change::Remove { path }
+                | Change::RemoveAll { path } => (path, None),
+            },
+            Task::Check | Task::Upgrade => ("/", None),
+        },
+        VolumeWork::Format { .. } => ("/", None),
+    }
+}
+
+/// Whether a command needs the standard input; else it needs the output.
+fn is_of_input(work: VolumeWork<'_>) -> bool {
+    matches!(
+        work,
+        VolumeWork::Import { .. } | VolumeWork::Task(Task::Put { .. } | Task::PutWhole { .. })
+    )
+}
+
+/// Prints that an output can't be written.
+pub(crate) fn tell_of_output<W: Write>(err: &mut W, name: &str)
+    ensures { AppendsSome (W.contents err.old) (W.contents err.new) }
+{
+    tell_words(
+        err,
+        name,
+        "it can't be written",
+        "look at the free space, and at who reads it",
+    );
+}
+
+/// Prints a line about two paths.
+fn tell_of_two<W: Write>(err: &mut W, from: &str, to: &str, meaning: &str, cure: &str)
+    ensures { AppendsSome (W.contents err.old) (W.contents err.new) }
+{
+    say(err, b"sandbox: ");
+    say_name(err, from.as_bytes());
+    say(err, b" to ");
+    say_name(err, to.as_bytes());
+    say_meaning(err, meaning, cure);
+}
+
+impl About<'_> {
+    /// Prints what an errno means that its paths were answered with.
+    pub(crate) fn tell_of_errno<W: Write>(&self, err: &mut W, errno: Errno)
+        ensures { AppendsSome (W.contents err.old) (W.contents err.new) }
+    {
+        let number = u32::from(errno.number());
+        let (meaning, cure) = (errno_text(number), errno_cure(number));
+        match (self.work, paths(self.work)) {
+            (VolumeWork::Format { .. }, _) => tell_words(
+                err,
+                self.file,
+                "a volume stands there",
+                "without --new it is made anew, and what it holds is lost",
+            ),
+            (_, (path, None)) => tell_words(err, path, meaning, cure),
+            (_, (path, Some(to))) => tell_of_two(err, path, to, meaning, cure),
+        }
+    }
+
+    /// Prints why its volume is refused.
+    pub(crate) fn tell_of_volume<W: Write>(&self, err: &mut W, fault: VolumeFault)
+        ensures { AppendsSome (W.contents err.old) (W.contents err.new) }
+    {
+        let fault = Fault::Volume(fault);
+        match self.work {
+            VolumeWork::Format { sectors, slots, .. } if fault.number() == Some(RANGE) => {
+                tell_of_range(err, sectors, slots);
+            }
+            _ => tell_of_fault(err, self.file, fault),
+        }
+    }
+
+    /// Prints that its standard stream failed.
+    pub(crate) fn tell_of_stream<W: Write>(&self, err: &mut W)
+        ensures { AppendsSome (W.contents err.old) (W.contents err.new) }
+    {
+        if is_of_input(self.work) {
+            tell_words(err, "standard input", "it can't be read", "look at who writes it");
+        } else {
+            tell_of_output(err, "standard output");
+        }
+    }
+}
+
+/// Prints which number of a volume that is to be formatted is out of its range.
+fn tell_of_range<W: Write>(err: &mut W, sectors: u32, slots: u32)
+    ensures { AppendsSome (W.contents err.old) (W.contents err.new) }
+{
+    let meaning = fault_text(RANGE);
+    if (137..=65_536).contains(&sectors) {
+        tell(
+            err,
+            format_args!("{slots} slots: {meaning}: 1 to 8192 slots, and fewer than SECTORS - 122"),
+        );
+    } else {
+        tell(
+            err,
+            format_args!("{sectors} sectors: {meaning}: 137 to 65536 sectors"),
+        );
+    }
+}

@@ -1,0 +1,197 @@
+//! What is said in words of a run that could not begin, or that ended for want of something.
+
+ghost use Rattle.sandbox_command.specs.Streams.{AppendsSome};
+
+use crate::inspecting::Served;
+use crate::output::{say, say_name, tell};
+use crate::explaining::{say_meaning, say_part, tell_of_fault, tell_words};
+use meanings::{fault_cure, fault_text};
+use module_survey::{add_function_at, add_refused_import};
+use run_report::Fault;
+use sandbox_core::Outcome;
+use sandbox_words::{Invocation, Run};
+use std::alloc::Global;
+use std::io;
+use std::io::Write;
+use wasm_module::{Module, decode};
+use wasm_store::InstanceFault;
+
+/// What a wrong setting is.
+const SETTING: &str = "a setting that can't be";
+
+/// The greatest status that is the guest's own.
+const GREATEST: u32 = 119;
+
+/// Prints a line about a module and a part of it.
+fn tell_of_part<W: Write>(err: &mut W, name: &str, part: &[u8], meaning: &str, cure: &str)
+    ensures { AppendsSome (W.contents err.old) (W.contents err.new) }
+{
+    say(err, b"sandbox: ");
+    say_name(err, name.as_bytes());
+    say_part(err, part);
+    say_meaning(err, meaning, cure);
+}
+
+/// The part of a module that is to blame for a fault, as `inspect` shows names; nothing where it isn't known.
+fn culprit(alloc: Global, bytes: &[u8], fault: Fault) -> io::Result<Vec<u8>> {
+    let mut text = Vec::new(alloc);
+    if let Some(offset) = fault.offset() {
+        add_function_at(alloc, &mut text, bytes, offset)?;
+    }
+    if let Fault::Instance(InstanceFault::Import) = fault {
+        if let Ok(module) = decode(alloc, bytes) {
+            add_refused_import(&mut text, &Served, &module)?;
+        }
+    }
+    Ok(text)
+}
+
+/// Prints what a fault of a module means, and which part of it is to blame.
+fn tell_of_module<W: Write>(alloc: Global, err: &mut W, name: &str, bytes: &[u8], fault: Fault)
+    ensures { AppendsSome (W.contents err.old) (W.contents err.new) }
+{
+    match (fault.number(), culprit(alloc, bytes, fault)) {
+        (Some(number), Ok(part)) => tell_of_part(
+            err,
+            name,
+            part.as_slice(),
+            fault_text(number),
+            fault_cure(number),
+        ),
+        _ => tell_of_fault(err, name, fault),
+    }
+}
+
+/// The bytes of these texts, and of the NUL behind each.
+fn bytes_of(texts: &[&str]) -> usize {
+    let mut bytes: usize = 0;
+    for text in texts {
+        bytes = bytes.saturating_add(text.len()).saturating_add(1);
+    }
+    bytes
+}
+
+/// Whether these are more texts than a guest takes.
+fn are_too_many(texts: &[&str], others: usize, more: usize) -> bool {
+    texts.len().saturating_add(others) > 1_024 || bytes_of(texts).saturating_add(more) > 65_536
+}
+
+/// Whether a directory's word has its form.
+fn is_cut(word: &str) -> bool {
+    word.split_once('=').is_some()
+}
+
+/// The first directory of a run whose word has no `=`.
+fn uncut_directory<'a>(run: &Run<'a>) -> Option<&'a str> {
+    for word in &run.dirs {
+        if !is_cut(word) {
+            return Some(word);
+        }
+    }
+    None
+}
+
+/// Prints which setting of a run is wrong.
+fn tell_of_setting<W: Write>(err: &mut W, run: &Run<'_>)
+    ensures { AppendsSome (W.contents err.old) (W.contents err.new) }
+{
+    let argument_0 = run.name.unwrap_or(run.module);
+    let pages = run.limits.pages;
+    if pages > 65_536 {
+        tell(err, format_args!("--pages {pages}: {SETTING}: at most 65536"));
+    } else if let Some(word) = uncut_directory(run) {
+        tell_of_part(err, "--dir", word.as_bytes(), SETTING, "its form is GUEST=PATH");
+    } else if are_too_many(run.words.as_slice(), 1, argument_0.len() + 1) {
+        tell_words(err, "arguments", SETTING, "at most 1024 of them, and 65536 bytes");
+    } else if are_too_many(run.env.as_slice(), 0, 0) {
+        tell_words(err, "--env", SETTING, "at most 1024 texts NAME=VALUE, and 65536 bytes");
+    } else {
+        tell_words(err, "--dir", SETTING, "at most 64, each with a name of 1 to 255 bytes");
+    }
+}
+
+/// Prints what it means that a run could not begin, whose module has these bytes.
+pub(crate) fn tell_of_refusal<W: Write>(
+    alloc: Global,
+    err: &mut W,
+    run: &Run<'_>,
+    module: &[u8],
+    fault: Fault,
+)
+    ensures { AppendsSome (W.contents err.old) (W.contents err.new) }
+{
+    match fault {
+        Fault::Volume(_) => {
+            let name = run.volume.or(run.image).unwrap_or("its volume in memory");
+            tell_of_fault(err, name, fault);
+        }
+        Fault::Setting => tell_of_setting(err, run),
+        Fault::Preopen => tell_of_fault(err, "--dir", fault),
+        Fault::Module(_) | Fault::Instance(_) | Fault::Memory => {
+            tell_of_module(alloc, err, run.module, module, fault);
+        }
+        Fault::File => {}
+    }
+}
+
+/// Prints what it means that a guest ended so, where it ended for want of something, or with a status that can't be its own.
+pub(crate) fn tell_of_outcome<W: Write>(err: &mut W, run: &Run<'_>, outcome: Outcome)
+    ensures { AppendsSome (W.contents err.old) (W.contents err.new) }
+{
+    match outcome {
+        Outcome::Exited(status) if status > GREATEST => tell_words(
+            err,
+            run.module,
+            "a status of 120 or more is the program's own",
+            "--report has the guest's",
+        ),
+        Outcome::OutOfFuel => tell_words(err, run.module, "its fuel is used", "--fuel gives more"),
+        Outcome::OutOfMemory => tell_words(
+            err,
+            run.module,
+            "its stack has more values than it may have, or the host has no memory for them",
+            "--values gives more",
+        ),
+        Outcome::Exited(_) | Outcome::Trapped(_) => {}
+    }
+}
+
+/// The options of a run that don't go together, and what helps.
+fn clash_of(run: &Run<'_>) -> (&'static str, &'static str) {
+    const ONE: &str = "give one of them";
+    const BOTH: &str = "give both";
+    const LINE: &str = "a line of the list names it";
+    if run.image.is_some() && run.volume.is_some() {
+        ("--image with --volume", ONE)
+    } else if run.volume_out.is_some() && run.image.is_none() {
+        ("--volume-out without --image", BOTH)
+    } else if run.seed.is_some() && run.random.is_some() {
+        ("--seed with --random", ONE)
+    } else if run.profile_every.is_some() && run.profile.is_none() {
+        ("--profile-every without --profile", BOTH)
+    } else if run.profile_every == Some(0) {
+        ("--profile-every 0", "1 or more")
+    } else if run.stdin.is_some() {
+        ("--tests with --stdin", LINE)
+    } else if run.stdout.is_some() {
+        ("--tests with --stdout", LINE)
+    } else if run.stderr.is_some() {
+        ("--tests with --stderr", LINE)
+    } else if run.report.is_some() {
+        ("--tests with --report", LINE)
+    } else if run.profile.is_some() {
+        ("--tests with --profile", "profile one run alone")
+    } else {
+        ("--tests with --volume or --volume-out", "each test begins with --image")
+    }
+}
+
+/// Prints which options of a command don't go together.
+pub(crate) fn tell_of_clash<W: Write>(err: &mut W, invocation: &Invocation<'_>)
+    ensures { AppendsSome (W.contents err.old) (W.contents err.new) }
+{
+    if let Invocation::Run(run) = invocation {
+        let (what, cure) = clash_of(run);
+        tell_words(err, what, SETTING, cure);
+    }
+}
