@@ -6,15 +6,19 @@ module that it runs counts, and where the count is one that was asked for it kee
 """
 import bisect
 import collections
+import gzip
+import hashlib
 import os
 import random
 import re
+import shutil
 import subprocess
+import sys
 
 import plain_reader
 import programs
 import wasm_binary
-from common import Wrong
+from common import TOP, Wrong
 from damage import own_path
 from plain_reader import CALL, CALL_INDIRECT, ELSE, END
 from wasm_binary import I64, Body, Module, sized, u
@@ -144,7 +148,7 @@ class Marked:
     def __init__(self, module, stops):
         self.it, self.stops = Module(module.bytes()), stops
         self.first, self.imported = len(self.it.globals), len(self.it.imported_functions())
-        self.helper = self.imported + len(self.it.functions)
+        self.helpers = self.imported + len(self.it.functions)
         self.places = [(self.imported + own, at) for own, body in enumerate(self.it.bodies) for at in range(len(body.code))]
         number = 0
         for body in self.it.bodies:
@@ -156,38 +160,37 @@ class Marked:
         self.finish()
 
     def around(self, op, values, number):
-        count, stop, place, calls = range(self.first, self.first + 4)
-        more = [(0x42, (number,)), (0x24, (place,)), (0x23, (count,)), (0x42, (1,)), (0x7C, ()), (0x24, (count,))]
-        more += [(0x23, (count,)), (0x23, (stop,)), (0x51, ()), (0x04, (-0x40,)), (0x10, (self.helper,)), (0x0B, ())]
+        """An instruction with the count of its place before it, of a loop behind it, since a branch to it takes its unit again."""
+        mark, opened, shut = ([(0x42, (number,)), (CALL, (helper,))] for helper in range(self.helpers, self.helpers + 3))
         if op in (ELSE, END):
             return [(op, values)]
         if op == programs.LOOP:
-            return [(op, values), *more]
+            return [(op, values), *mark]
         if op == CALL_INDIRECT or op == CALL and values[0] >= self.imported:
-            key = (number + 1, FACTOR, INVERSE)
-            into = [(0x23, (calls,)), (0x42, (signed(key[1]),)), (0x7E, ()), (0x42, (key[0],)), (0x7C, ()), (0x24, (calls,))]
-            back = [(0x23, (calls,)), (0x42, (key[0],)), (0x7D, ()), (0x42, (signed(key[2]),)), (0x7E, ()), (0x24, (calls,))]
             # (a call isn't open yet at its own count: through a table it may trap before anything is called)
-            return [*more, *into, (op, values), *back]
-        return [*more, (op, values)]
+            return [*mark, *opened, (op, values), *shut]
+        return [*mark, (op, values)]
 
     def finish(self):
-        """The helper, which keeps the place and the calls of the count that came and waits for the next one; and the exports."""
-        it, kept = self.it, self.first + 4
-        it.exports = [export for export in it.exports if export[0] == b"_start"]  # all that are there are run
-        count, stop, place, calls = range(self.first, kept)
+        """The helpers: to count a place and keep it where its count is waited for, to open a call, to shut one; and the exports."""
+        it, kept = self.it, self.first + 3
+        count, stop, calls = range(self.first, kept)
         code = []
         for k in reversed(range(len(self.stops))):
             after = self.stops[k + 1] if k + 1 < len(self.stops) else -1
-            code = [(0x23, (count,)), (0x42, (self.stops[k],)), (0x51, ()), (0x04, (-0x40,)), (0x23, (place,)), (0x24, (kept + 2 * k,)), (0x23, (calls,)), (0x24, (kept + 2 * k + 1,)),
+            code = [(0x23, (count,)), (0x42, (self.stops[k],)), (0x51, ()), (0x04, (-0x40,)), (0x20, (0,)), (0x24, (kept + 2 * k,)), (0x23, (calls,)), (0x24, (kept + 2 * k + 1,)),
                     (0x42, (after,)), (0x24, (stop,)), (0x05, ()), *code, (0x0B, ())]
-        first = [0, self.stops[0] if self.stops else -1, -1, 0] + [-1] * (2 * len(self.stops))
+        counted = [(0x23, (count,)), (0x42, (1,)), (0x7C, ()), (0x24, (count,)), (0x23, (count,)), (0x23, (stop,)), (0x51, ()), (0x04, (-0x40,)), *code, (0x0B, ()), (0x0B, ())]
+        key = [(0x20, (0,)), (0x42, (1,)), (0x7C, ())]
+        opened = [(0x23, (calls,)), (0x42, (signed(FACTOR),)), (0x7E, ()), *key, (0x7C, ()), (0x24, (calls,)), (0x0B, ())]
+        shut = [(0x23, (calls,)), *key, (0x7D, ()), (0x42, (signed(INVERSE),)), (0x7E, ()), (0x24, (calls,)), (0x0B, ())]
+        first = [0, self.stops[0] if self.stops else -1, 0] + [-1] * (2 * len(self.stops))
         it.globals += [(I64, 1, [(0x42, (value,)), (0x0B, ())]) for value in first]
-        it.types += [([], []), ([], [I64])]
-        it.functions.append(len(it.types) - 2)
-        it.bodies.append(Body([], [*code, (0x0B, ())]))
-        told = [(b"units", count)] + [(b"kept%d" % k, kept + k) for k in range(2 * len(self.stops))]
-        for name, index in told:
+        it.types += [([I64], []), ([], [I64])]
+        it.functions += [len(it.types) - 2] * 3
+        it.bodies += [Body([], code) for code in (counted, opened, shut)]
+        it.exports = [export for export in it.exports if export[0] == b"_start"]  # all that are there are run
+        for name, index in [(b"units", count)] + [(b"kept%d" % k, kept + k) for k in range(2 * len(self.stops))]:
             it.exports.append((name, 0, self.imported + len(it.functions)))
             it.functions.append(len(it.types) - 1)
             it.bodies.append(Body([], [(0x23, (index,)), (0x0B, ())]))
@@ -218,8 +221,8 @@ def hashed(numbers):
 class Host:
     """The library, by the wrapper in Python of `examples/hosts`."""
 
-    def __init__(self, sandbox):
-        self.sandbox, self.c = sandbox, sandbox.c
+    def __init__(self, sandbox, digest):
+        self.sandbox, self.c, self.digest = sandbox, sandbox.c, digest
 
     def frames(self, session):
         found = [(it.function, it.offset) for it in session.frames()]
@@ -242,6 +245,21 @@ class Host:
         room.raw = b"\xa5" * (length + 8)
         called(data, c.c_size_t(len(data)), c.c_uint32(function), room, c.c_size_t(length))
         return room.raw[:length]
+
+
+def host_at(room, library=None):
+    """The wrapper over a shared library, the released one where none is named; both are copied into this folder."""
+    copy = f"{room}/libsandbox.so.0"
+    if library:
+        shutil.copyfile(library, copy)
+    else:
+        with gzip.open(f"{TOP}/release/libsandbox.so.gz") as packed, open(copy, "wb") as file:
+            shutil.copyfileobj(packed, file)
+    shutil.copyfile(f"{TOP}/examples/hosts/python/sandbox.py", f"{room}/sandbox.py")
+    sys.path.insert(0, room)
+    import sandbox
+    with open(copy, "rb") as file:
+        return Host(sandbox, hashlib.sha256(file.read()).hexdigest())
 
 
 def objdump_places(path):
@@ -344,33 +362,39 @@ class Tried:
         self.frames_count += len(frames)
 
     def run(self, setting):
-        trap, units, _ = Marked(self.module, []).run(self.other)
-        pauses = sorted(self.chance.sample(range(units), min(PAUSES, units)))
-        # the instruction that comes next takes the next unit, and the one that traps takes the last one
-        marked = Marked(self.module, sorted({units, *(it + 1 for it in pauses)}))
-        _, _, kept = marked.run(self.other)
-        instructions = same_places(self.reading, self.other)
-        names = same_names(self.host, self.data, self.reading)
         sandbox = self.host.sandbox
-        with sandbox.Module(self.data).session(pages=16) as session:
-            if self.host.frames(session):
-                raise Wrong("frames before the first resume")
-            for pause in pauses:
-                told = resumed(session, sandbox, pause - session._used, lambda: self.at_call(session))
-                if (told.kind, told.used) != (sandbox.SPENT, pause):
-                    raise Wrong(f"kind {told.kind} and {told.used} units in place of a pause at {pause}")
-                self.compared(self.host.frames(session), marked, *kept[pause + 1])
-            told = resumed(session, sandbox, 2**40, lambda: self.at_call(session))
-            wanted = (sandbox.TRAPPED if trap else sandbox.EXITED, units)
-            if (told.kind, told.used) != wanted:
-                raise Wrong(f"it ends with kind {told.kind} and {told.used} units in place of {wanted}")
-            frames = self.host.frames(session)
-            if trap:
-                self.compared(frames, marked, *kept[units])
-            elif frames:
-                raise Wrong(f"frames after an exit: {frames}")
-        return collections.Counter({"pauses": len(pauses), "frames": self.frames_count, "calls": self.calls, "names": names, "instructions": instructions,
-                                    programs.trap_text(trap) or "ended": 1})
+        module = sandbox.Module(self.data)
+        with module.session(pages=16) as session:
+            whole = session.run(2**40)
+        pauses = sorted(self.chance.sample(range(whole.used), min(PAUSES, whole.used)))
+        # the instruction that comes next takes the next unit, and the one that traps takes the last one
+        marked = Marked(self.module, sorted({whole.used, *(it + 1 for it in pauses)}))
+        trap, units, kept = marked.run(self.other)
+        if (whole.kind, whole.used) != (sandbox.TRAPPED if trap else sandbox.EXITED, units):
+            raise Wrong(f"it ends with kind {whole.kind} and {whole.used} units, and wasm-interp by {trap} with {units}")
+        with module.session(pages=16) as session:
+            self.paused(session, marked, kept, pauses, whole)
+        return collections.Counter({"pauses": len(pauses), "frames": self.frames_count, "calls": self.calls, "names": same_names(self.host, self.data, self.reading),
+                                    "instructions": same_places(self.reading, self.other), programs.trap_text(trap) or "ended": 1})
+
+    def paused(self, session, marked, kept, pauses, whole):
+        """The same run with pauses, and the frames at each and at the end."""
+        sandbox = self.host.sandbox
+        if self.host.frames(session):
+            raise Wrong("frames before the first resume")
+        for pause in pauses:
+            told = resumed(session, sandbox, pause - session._used, lambda: self.at_call(session))
+            if (told.kind, told.used) != (sandbox.SPENT, pause):
+                raise Wrong(f"kind {told.kind} and {told.used} units in place of a pause at {pause}")
+            self.compared(self.host.frames(session), marked, *kept[pause + 1])
+        told = resumed(session, sandbox, 2**40, lambda: self.at_call(session))
+        if (told.kind, told.code, told.used) != (whole.kind, whole.code, whole.used):
+            raise Wrong(f"it ends otherwise with pauses: {told.kind} {told.code} {told.used}")
+        frames = self.host.frames(session)
+        if told.kind == sandbox.TRAPPED:
+            self.compared(frames, marked, *kept[whole.used])
+        elif frames:
+            raise Wrong(f"frames after an exit: {frames}")
 
 
 def tried(setting, host, seed):
