@@ -1,11 +1,13 @@
 -- Runs by their resumes alone: slices one after another, and the report at the end.
-use Rattle.std.proofs.Common.{◌≡◌, ◌≤◌, ◌+◌, ◌-◌, ◌/◌, ℕ, [], ◌∷◌, ◌++◌, Bool, Option, Some, None, length, append_assoc, refl, sym, ◌∙◌, subst, true≢false, arith}
+use Rattle.std.proofs.Common.{◌≡◌, ◌≤◌, ◌+◌, ◌-◌, ◌/◌, ℕ, List, [], ◌∷◌, ◌++◌, Bool, Option, Some, None, length, append_assoc, refl, sym, ◌∙◌, subst, true≢false, arith}
 use Rattle.vol_sector.specs.Disk.{Leaves}
 use Rattle.wasm_steps.specs.declared.pause.Pause.{Pause}
 use Rattle.wasm_steps.specs.declared.pause.Pause.TheVariants.{Called, Spent, Ended}
 use Rattle.wasm_steps.specs.declared.pause.Outcome.{Outcome}
 use Rattle.wasm_steps.specs.declared.pause.Outcome.TheVariants.{Exited, Trapped, OutOfFuel, OutOfMemory}
 use Rattle.wasm_steps.specs.Configuration.{Instance, Configuration, at}
+use Rattle.vol_tree.specs.Opened.{GoesOn}
+use Rattle.vol_tree.proofs.GoingOn.{goes_same, goes_then}
 use Rattle.wasm_interp.specs.Machine.{Represents, outcome_of}
 use Rattle.wasm_interp.specs.Promise.{EndsAs, HasItsUnit, UnitsRise}
 use Rattle.wasi_calls.specs.host.Worlds.{HostState, stream_failed}
@@ -59,6 +61,11 @@ module _ {D R W1 W2 : Type 0} (on : Devices D R W1 W2) where
   size_follow : (rs : History S) (s t : S) → Follow on s rs t → on.device.size t.host.volume.device ≡ on.device.size s.host.volume.device
   size_follow [] s t same = subst (λ (x : S). on.device.size x.host.volume.device ≡ on.device.size s.host.volume.device) (sym same) refl
   size_follow (r ∷ rs) s t ((units, more), rest) = size_follow rs r.1 t rest ∙ more.size
+
+  -- the device goes on
+  goes_follow : (rs : History S) (s t : S) → Follow on s rs t → GoesOn on.device.goes_on s.host.volume t.host.volume
+  goes_follow [] s t same = subst (λ (x : S). GoesOn on.device.goes_on s.host.volume x.host.volume) (sym same) (goes_same on.device.goes_on s.host.volume s.host.volume refl)
+  goes_follow (r ∷ rs) s t ((units, more), rest) = goes_then on.device.goes_on s.host.volume r.1.host.volume t.host.volume more.numbers more.goes (goes_follow rs r.1 t rest)
 
   pub module_follow : (rs : History S) (s t : S) → Follow on s rs t → t.machine.valid ≡ s.machine.valid
   module_follow [] s t same = subst (λ (x : S). x.machine.valid ≡ s.machine.valid) (sym same) refl
@@ -202,6 +209,9 @@ module _ {D R W1 W2 : Type 0} (on : Devices D R W1 W2) where
             (run.crash is i c stands) (finishes.volume.crash (more.honest_after (safe.honest_after is)));
         numbers = numbers;
         size = more.size ∙ size_follow stops.before first stops.middle stops.follow;
+        goes = goes_then on.device.goes_on first.host.volume last.host.volume finishes.volume.new numbers
+            (goes_then on.device.goes_on first.host.volume stops.middle.host.volume last.host.volume safe.numbered
+            (goes_follow stops.before first stops.middle stops.follow) more.goes) finishes.volume.goes;
         honest_after = λ is. more.honest_after (safe.honest_after is);
         input = finishes.input;
         out = finishes.out;
