@@ -6,7 +6,7 @@ ghost use Rattle.sandbox_command.specs.Status.{ended_status, export_status, fail
 ghost use Rattle.sandbox_command.specs.Streams.{AppendsSome};
 
 use crate::output::{tell, tell_of_member};
-use crate::program::{Executed, FAULT, executed, out_of_memory, refuse_file};
+use crate::program::{Executed, FAULT, left_with, out_of_memory, refuse_file};
 use crate::streams::Streams;
 use std::io::Write;
 use vol_sector::VolumeFault;
@@ -113,5 +113,5 @@ pub(crate) fn ended<
         Ok(_) => refuse_file(&mut given.err),
         Err(failed) => failed.say(&mut given.err),
     };
-    executed(status, None, flushed, device, given)
+    left_with(status, None, flushed, device, given)
 }
