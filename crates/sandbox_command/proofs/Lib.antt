@@ -9,4 +9,5 @@ mod Bounds
 mod Finishing
 mod AfterFlush
 mod Seeding
+mod Launching
 mod Upheld

@@ -7,7 +7,7 @@ ghost use Rattle.sandbox_command.specs.Checking.{TellsChecked, checked_damage, d
 ghost use Rattle.sandbox_command.specs.Status.{ended_status, failure_status};
 
 use crate::ending::ended;
-use crate::program::{Executed, FAULT, make_executed};
+use crate::program::{Executed, FAULT, left_with};
 use crate::streams::Streams;
 use crate::explaining::About;
 use arrayvec::ArrayVec;
@@ -92,5 +92,5 @@ pub(crate) fn ended_task<D: Drop, R: Drop, W1: Write + Drop, W2: Write + Drop>(
     let mut given = given;
     let flushed = given.out.flush().is_ok();
     let _ = print_damage(&mut given.err, damage);
-    make_executed(FAULT, None, flushed, device, given)
+    left_with(FAULT, None, flushed, device, given)
 }

@@ -6,7 +6,7 @@ ghost use Rattle.sandbox_command.specs.Status.{ended_status, export_status, fail
 ghost use Rattle.sandbox_command.specs.Streams.{AppendsSome};
 
 use crate::output::{tell, tell_of_member};
-use crate::program::{Executed, FAULT, make_executed, out_of_memory, refuse_file};
+use crate::program::{Executed, FAULT, left_with, out_of_memory, refuse_file};
 use crate::streams::Streams;
 use crate::explaining::{About, tell_bytes, tell_of_output, tell_words};
 use meanings::{errno_cure, errno_text};
@@ -173,5 +173,5 @@ pub(crate) fn ended<
         Ok(_) => refuse_output(&mut given.err),
         Err(failed) => failed.say(&mut given.err, about),
     };
-    make_executed(status, None, flushed, device, given)
+    left_with(status, None, flushed, device, given)
 }

@@ -5,7 +5,7 @@ ghost use Rattle.std.specs.IoError.{error_kind};
 ghost use Rattle.sandbox_command.specs.Inspecting.{Inspects, refused_status, survey_status};
 ghost use Rattle.sandbox_command.specs.Streams.{AppendsSome};
 
-use crate::program::{Executed, FAULT, make_executed, out_of_memory, refuse_file};
+use crate::program::{Executed, FAULT, left_with, out_of_memory, refuse_file};
 use crate::streams::Streams;
 use module_survey::{Links, survey};
 use std::alloc::Global;
@@ -72,5 +72,5 @@ pub(crate) fn inspect<R: Drop, W1: Write + Drop, W2: Write + Drop>(
     let surveyed = survey(alloc, &Served, bytes, &mut given.out);
     let flushed = given.out.flush().is_ok();
     let status = survey_ended(surveyed, flushed, &mut given.err);
-    make_executed(status, None, flushed, (), given)
+    left_with(status, None, flushed, (), given)
 }

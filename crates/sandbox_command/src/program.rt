@@ -5,13 +5,15 @@ ghost use Rattle.std.specs.Io.KnownBytes.{Keeps};
 ghost use Rattle.std.specs.IoError.{error_kind};
 ghost use Rattle.clap.specs.Values.{kind_of};
 ghost use Rattle.sandbox_core.specs.Devices.{devices};
-ghost use Rattle.sandbox_core.specs.Session.{limited_to, used_by};
+ghost use Rattle.sandbox_core.specs.Session.{given, limited_to, used_by};
+ghost use Rattle.run_report.specs.declared.fault.Fault.TheVariants as reason;
 ghost use Rattle.sandbox_core.specs.Report.{ReportsCounted};
 ghost use Rattle.sandbox_command.specs.Status.{status_of, EndsWith, load_status, session_status};
 ghost use Rattle.sandbox_command.specs.Status.{volume_status, words_status, command_line_status};
-ghost use Rattle.sandbox_command.specs.Streams.{AppendsSome, IsSilent};
-ghost use Rattle.sandbox_command.specs.Reporting.{broken_in, kept_where_not_begun, not_run, output_of, run_summary, session_reason, volume_of};
+ghost use Rattle.sandbox_command.specs.Streams.{AppendsSome};
+ghost use Rattle.sandbox_command.specs.Reporting.{broken_in, kept_where_not_begun, kept_where_refused, not_run, output_of, run_summary, session_reason, volume_of};
 ghost use Rattle.sandbox_command.specs.Running.{Launches, returned_device};
+ghost use Rattle.sandbox_command.specs.Supplies.{AreSettings};
 ghost use Rattle.sandbox_command.specs.internal.Seeds.{with_seed};
 ghost use Rattle.sandbox_command.specs.internal.Supplies.{AreSupplies};
 ghost use Rattle.sandbox_command.specs.Execution.{RunsOn, Runs, Executes};
@@ -201,7 +203,7 @@ fn settled<D: Device + Drop>(
 }
 
 /// Puts together what an execution leaves.
-pub(crate) fn make_executed<D: Drop, R: Drop, W1: Drop, W2: Drop>(
+pub(crate) fn left_with<D: Drop, R: Drop, W1: Drop, W2: Drop>(
     status: u8,
     summary: Option<Summary>,
     flushed: bool,
@@ -299,7 +301,7 @@ fn reported<D: Device + Drop, R: Drop, W1: Write + Drop, W2: Write + Drop>(
         broken,
         cut,
     };
-    make_executed(status, Some(summary), flushed, device, streams)
+    left_with(status, Some(summary), flushed, device, streams)
 }
 
 /// Ends a run that could not begin, and says why. Nothing is flushed. Gives the device of the volume and the streams back.
@@ -319,7 +321,7 @@ fn not_begun<D: Drop, R: Drop, W1: Drop, W2: Drop>(
 {
     let (status, fault, kept) = why;
     let summary = not_run(run, fault, kept, status);
-    make_executed(status, Some(summary), true, device, streams)
+    left_with(status, Some(summary), true, device, streams)
 }
 
 /// Ends a run that gets no session. Gives the device of the volume and the streams back.
@@ -433,6 +435,49 @@ fn volume_of<'a>(run: &Run<'a>) -> Option<&'a str>
     run.volume.or(run.image)
 }
 
+/// What the session of a run is made of beside its module.
+fn parts_of<'a, 't, D: Device, R, W1, W2>(
+    run: &Run<'t>,
+    supplies: &'a Supplies<'t>,
+    random: &'a [u8],
+    volume: Volume<D>,
+    streams: Streams<R, W1, W2>,
+) -> HostParts<'a, 't, D, R, W1, W2>
+    requires { AreSupplies run.now supplies.now }
+    ensures settings { AreSettings run.now random.now result.settings }
+    ensures parts { result ≡ given result.settings volume streams.input streams.out streams.err }
+{
+    let Streams { input, out, err } = streams;
+    HostParts {
+        settings: settings(run, supplies, random),
+        volume,
+        input,
+        out,
+        err,
+    }
+}
+
+/// Ends a run whose volume is refused. Gives the device and the streams back.
+fn no_volume<D: Drop, R: Drop, W1: Drop, W2: Drop>(
+    run: &Run<'_>,
+    refused: Refused<D>,
+    streams: Streams<R, W1, W2>,
+) -> Executed<D, R, W1, W2>
+    ensures ends { result.status ≡ volume_status refused.fault }
+    ensures flushed { result.flushed ≡ true }
+    ensures summary { result.summary ≡ Some (not_run run.now (reason.Volume refused.fault)
+        (kept_where_refused refused.fault) result.status) }
+    ensures device { result.device ≡ refused.device }
+    ensures input { result.input ≡ streams.input }
+    ensures out { result.out ≡ streams.out }
+    ensures err { result.err ≡ streams.err }
+{
+    let Refused { device, fault } = refused;
+    let kept = kept_where_refused(fault);
+    let why = (volume_status(fault), Fault::Volume(fault), kept);
+    not_begun(run, why, device, streams)
+}
+
 /// Runs a valid module on the volume of a device, with random bytes, and gives the module and the device back.
 pub(crate) fn run_valid<'a, D: Device + Drop, R: Read + Drop, W1: Write + Drop, W2: Write + Drop>(
     alloc: Global,
@@ -450,21 +495,10 @@ pub(crate) fn run_valid<'a, D: Device + Drop, R: Read + Drop, W1: Write + Drop, 
 {
     match open_for_run(alloc, volume_of(run), device) {
         Ok(volume) => {
-            let Streams { input, out, err } = streams;
-            let parts = HostParts {
-                settings: settings(run, supplies, random),
-                volume,
-                input,
-                out,
-                err,
-            };
+            let parts = parts_of(run, supplies, random, volume, streams);
             launch(alloc, run, valid, parts)
         }
-        Err(Refused { device, fault }) => {
-            let kept = kept_where_refused(fault);
-            let why = (volume_status(fault), Fault::Volume(fault), kept);
-            (valid, not_begun(run, why, device, streams))
-        }
+        Err(refused) => (valid, no_volume(run, refused, streams)),
     }
 }
 

@@ -13,11 +13,11 @@ returns-in-Err-clause-tells g c =
 -- what the words ask for was performed
 pub returns-in-Ok-invocation-clause-tells : goal.returns-in-Ok-invocation-clause-tells
 returns-in-Ok-invocation-clause-tells g c =
-    subst (λ (status : ℕ). IsAnswered g.R.Read g.W1.Write g.W2.Write (record { input = c.args.input; out = c.args.out; err = c.args.err }) status) (sym c.from.ensures)
+    subst (λ (status : ℕ). IsAnswered g.R.Read g.W1.Write g.W2.Write (record { input = c.args.input; out = c.args.out; err = c.args.err }) status) (sym c.from-in-Ok-invocation.ensures)
     (inr (inr (map (string_bytes {Z = Global}) c.as_slice.result.now, c.in-Ok-invocation.invocation, c.in-Ok-invocation.ensures.asks, c.perform.ensures.tells)))
 
 -- the command line is refused
 pub returns-in-Err-invocation-clause-tells : goal.returns-in-Err-invocation-clause-tells
 returns-in-Err-invocation-clause-tells g c =
-    subst (λ (status : ℕ). IsAnswered g.R.Read g.W1.Write g.W2.Write (record { input = c.args.input; out = c.args.out; err = c.args.err }) status) (sym c.from.ensures)
+    subst (λ (status : ℕ). IsAnswered g.R.Read g.W1.Write g.W2.Write (record { input = c.args.input; out = c.args.out; err = c.args.err }) status) (sym c.from-in-Err-invocation.ensures)
     (inr (inl (kind_of c.in-Err-invocation.refused, c.refuse_command_line.ensures)))

@@ -1,10 +1,19 @@
+use Rattle.std.proofs.Common.{Bool, ℕ, sym, subst}
 use Rattle.std.specs.IoError.{error_kind}
+use Rattle.sandbox_command.specs.Inspecting.{Inspects}
 use Rattle.sandbox_command.proofs.AfterFlush.{inspected}
 use Rattle.sandbox_command.proofs.inspecting.inspect.Goals as goal
 
 pub returns-clause-tells : goal.returns-clause-tells
 returns-clause-tells g c =
     let outs = g.W1.Write.contents in
+    let bytes = c.args.bytes.now in
+    let before = outs c.args.given.out in
     let surveyed = c.survey-surveyed in
-    inspected error_kind c.args.bytes.now (outs c.args.out) (outs surveyed.new.out) (outs c.flush.new.self) surveyed.result c.is_ok-flushed.result c.survey_ended-status.result
-    surveyed.ensures.tells surveyed.ensures.begins c.flush.ensures.bytes c.survey_ended-status.ensures.told c.survey_ended-status.ensures.refused
+    let left = c.left_with.result in
+    let said = c.left_with.ensures in
+    subst (λ (w : g.row.W1.Denot). Inspects bytes before (outs w) left.flushed left.status) (sym said.out)
+    (subst (λ (flushed : Bool). Inspects bytes before (outs c.flush.new.self) flushed left.status) (sym said.flushed)
+    (subst (λ (status : ℕ). Inspects bytes before (outs c.flush.new.self) c.is_ok-flushed.result status) (sym said.status)
+    (inspected error_kind bytes before (outs surveyed.new.out) (outs c.flush.new.self) surveyed.result c.is_ok-flushed.result c.survey_ended-status.result
+    surveyed.ensures.tells surveyed.ensures.begins c.flush.ensures.bytes c.survey_ended-status.ensures.told c.survey_ended-status.ensures.refused)))

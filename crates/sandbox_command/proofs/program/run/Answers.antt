@@ -1,6 +1,8 @@
 use Rattle.std.proofs.Common.{ℕ, inl, inr, refl, sym, ◌∙◌, ap, Some}
 use Rattle.run_report.specs.declared.fault.Fault.{Fault}
-use Rattle.sandbox_command.proofs.Unbegun.{kept_streams, not_run_so}
+use Rattle.sandbox_command.specs.Execution.{IsUntouched}
+use Rattle.sandbox_command.proofs.Launching.{kept_streams}
+use Rattle.sandbox_command.proofs.Unbegun.{not_run_so}
 use Rattle.sandbox_command.proofs.program.run.Goals as goal
 use Rattle.sandbox_command.proofs.program.run.Goals.{in-Ok+in-Err-load, in-Err}
 
@@ -15,7 +17,8 @@ pub returns : goal.returns
 returns g c =
     let ended = c.not_begun.ensures in
     let streams = c.args.streams in
-    let untouched = record {
+    let untouched : IsUntouched g.D.Device.honest g.D.Device.disk g.D.Device.size g.D.Device.failures g.D.Device.goes_on g.R.Read.remaining g.W1.Write.contents g.W2.Write.contents
+        c.args.device streams.input streams.out streams.err c.not_begun.result = record {
       device_is = ended.device;
       flushed = ended.flushed;
       streams = kept_streams g.W1.Write.contents g.W2.Write.contents streams.input streams.out streams.err c.not_begun.result ended.input ended.out ended.err;

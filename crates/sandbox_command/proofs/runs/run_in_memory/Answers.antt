@@ -18,7 +18,7 @@ returns g c =
     runs_with (around g.P.Places g.P.Input.Read g.P.Output.Write g.P.Volume.Device g.R.Read g.W1.Write g.W2.Write) in_memory
     (λ left before said p q status summary. Hands g.P.Places out left before said p q status summary)
     c.args.run.now c.args.device c.args.wired.streams c.args.wired.spare c.args.report
-    _ _ _ _ c.as_slice.ensures.value c.as_slice-2.ensures.value ended c.run-ended.ensures
+    _ _ _ _ c.as_slice-module.ensures.value c.as_slice-random.ensures.value ended c.run-ended.ensures
     finished.left.0 finished.left.1 c.finished-left.result.1 finished.left.2 c.told-status.new.err
     (lines_then _ _ _ c.handed_out-ending.ensures.lines c.told-status.ensures.lines)
     said.status said.summary p handed c.told-status.new.places c.end.new.self c.told-status.result

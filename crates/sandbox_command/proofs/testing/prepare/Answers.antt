@@ -14,9 +14,9 @@ returns-in_err-make-2 g c = passed _ _ c.from_residual-in_err-make-2.result c.in
     (inl (inr (_, c.open.ensures.asked, inr (_, c.make.ensures.asked, inl (c.make-2.ensures.asked, c.in_err-make-2.ensures.refused)))))
 
 -- the image couldn't be read, or memory was wanting for sectors
-pub returns-in_err-memory_of : goal.returns-in_err-memory_of
-returns-in_err-memory_of g c = passed _ _ c.from_residual-in_err-memory_of.result c.in_err-memory_of.field-0.0 c.from_residual-in_err-memory_of.ensures.1
-    (elim c.in_err-memory_of.ensures.refused [
+pub returns-in_err-device : goal.returns-in_err-device
+returns-in_err-device g c = passed _ _ c.from_residual-in_err-device.result c.in_err-device.field-0.0 c.from_residual-in_err-device.ensures.1
+    (elim c.in_err-device.ensures.refused [
       | inl refused ↦ inl (inr (_, c.open.ensures.asked, inr (_, c.make.ensures.asked, inr (_, c.make-2.ensures.asked, refused))))
       | inr memory ↦ inr (memory.0, memory.1, (_, c.open.ensures.asked, (_, c.make.ensures.asked, (_, c.make-2.ensures.asked, c.memory_of.ensures.asked))))
     ])
@@ -27,6 +27,6 @@ returns g c = record {
   input = c.in_ok-open.ensures.input;
   out = c.in_ok-make.ensures.output;
   err = c.in_ok-make-2.ensures.output;
-  new = c.in_ok-memory_of.ensures.sectors;
-  of_image = c.in_ok-memory_of.ensures.image;
+  new = c.in_ok-device.ensures.sectors;
+  of_image = c.in_ok-device.ensures.image;
 }

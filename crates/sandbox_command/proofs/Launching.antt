@@ -1,0 +1,150 @@
+-- A run is what is said of it: one that gets no volume, or no session, or whose guest ran.
+use Rattle.std.proofs.Common.{◌≡◌, ◌-◌, ◌^◌, ℕ, true, List, Option, Some, Result, inl, inr, refl, sym, ◌∙◌, ap, subst}
+use Rattle.std.specs.Io.KnownBytes.{Keeps}
+use Rattle.std.proofs.KnownBytes.{Keeps-refl}
+use Rattle.vol_sector.specs.Disk.{Disk, Leaves}
+use Rattle.vol_sector.specs.declared.device.Device.{Ghosts}
+use Rattle.vol_sector.specs.declared.fault.Refused.{Refused}
+use Rattle.vol_tree.specs.Opened.{Opened}
+use Rattle.wasm_module.specs.declared.module.Module.{Module}
+use Rattle.wasm_steps.specs.Configuration.{first_configuration}
+use Rattle.wasi_calls.specs.declared.host.settings.Settings.{Settings}
+use Rattle.wasi_calls.specs.declared.host.wasi_host.HostParts.{HostParts}
+use Rattle.sandbox_core.specs.declared.session.RefusedSession.{RefusedSession}
+use Rattle.sandbox_core.specs.declared.report.Report.{Report}
+use Rattle.sandbox_core.specs.declared.tally.Tally.{Tally}
+use Rattle.sandbox_core.specs.Devices.{Calls, Devices, disk_of, numbers_of, tree_of}
+use Rattle.sandbox_core.specs.Report.{ReportsCounted}
+use Rattle.sandbox_core.specs.Runs.{StandsInRun}
+use Rattle.sandbox_core.specs.Session.{HandsBack, IsRefused, Opens, SessionState, Shares, given, limited_to}
+use Rattle.sandbox_core.proofs.Headline.{reach_moves}
+use Rattle.sandbox_core.proofs.Limiting.{opens_limited, shares_limited}
+use Rattle.run_report.specs.declared.counted.Counted.{Counted}
+use Rattle.run_report.specs.declared.fault.Fault.TheVariants as reason
+use Rattle.volume_tasks.specs.Volumes.{IsOpenFor, IsRefusedFor}
+use Rattle.sandbox_words.specs.declared.request.Run.{Run}
+use Rattle.sandbox_words.specs.Request.{Text}
+use Rattle.sandbox_command.specs.declared.program.Executed.{Executed}
+use Rattle.sandbox_command.specs.internal.Seeds.{with_seed}
+use Rattle.sandbox_command.specs.Execution.{NoVolume, OnVolume, RunsOn}
+use Rattle.sandbox_command.specs.Reporting.{counted_bytes, counting, from_here, kept_where_not_begun, kept_where_refused, not_run, output_of, run_summary, session_reason, volume_of}
+use Rattle.sandbox_command.specs.Running.{Launches, NotOpened, Ran, counted_devices, returned_device}
+use Rattle.sandbox_command.specs.Status.{EndsWith, session_status, volume_status}
+use Rattle.sandbox_command.specs.Streams.{IsSilent}
+use Rattle.sandbox_command.specs.Supplies.{AreSettings}
+use Rattle.sandbox_command.proofs.Began.{began, counting_from, device_back, launch_honest, opened_honest, whole_crash}
+use Rattle.sandbox_command.proofs.Seeding.{opens_seeded, shares_seeded}
+
+-- the streams that came in
+pub kept_streams : {D R W1 W2 : Type 0} (outs : W1 → Option (List ℕ)) (errs : W2 → Option (List ℕ)) (input : R) (out : W1) (err : W2) (left : Executed D R W1 W2)
+    → left.input ≡ input → left.out ≡ out → left.err ≡ err → IsSilent outs errs Keeps input out err left
+kept_streams {W1 = W1} {W2 = W2} outs errs input out err left in_is out_is err_is = record {
+  input_is = in_is;
+  out_keeps = subst (λ (w : W1). Keeps (outs out) (outs w)) (sym out_is) (Keeps-refl (outs out));
+  err_follows = subst (λ (w : W2). Keeps (errs err) (errs w)) (sym err_is) (Keeps-refl (errs err));
+}
+
+module _ {D R W1 W2 : Type 0} (device : Ghosts D) (remaining : R → Option (List ℕ)) (outs : W1 → Option (List ℕ)) (errs : W2 → Option (List ℕ)) (run : Run) (m : Module) where
+  -- ---- its volume
+
+  pub on_volume : (random : Text) (d : D) (input : R) (out : W1) (err : W2) (v : Opened D) (parts : HostParts D R W1 W2) (left : Executed D R W1 W2)
+      → IsOpenFor device.honest device.disk device.size device.failures (volume_of run) d v → AreSettings run random parts.settings → parts ≡ given parts.settings v input out err
+      → Launches device.honest device.disk device.size device.failures device.goes_on remaining outs errs m run parts left
+      → RunsOn device.honest device.disk device.size device.failures device.goes_on remaining outs errs run m random d input out err left
+  on_volume random d input out err v parts left opened are same launches =
+      let launched = subst (λ (p : HostParts D R W1 W2). Launches device.honest device.disk device.size device.failures device.goes_on remaining outs errs m run p left) same launches in
+      inr (record {
+        volume = v;
+        opened = opened;
+        settings = parts.settings;
+        are_settings = are;
+        launched = launched;
+        crash = whole_crash device.honest device.disk device.size device.failures device.goes_on remaining outs errs m run (given parts.settings v input out err) left (volume_of run) d opened launched;
+        honest = λ h. launch_honest device.honest device.disk device.size device.failures device.goes_on remaining outs errs m run (given parts.settings v input out err) left
+            launched (opened_honest device.honest device.disk device.size device.failures device.goes_on (volume_of run) d v opened h);
+      })
+
+  pub no_volume : (random : Text) (d : D) (input : R) (out : W1) (err : W2) (refused : Refused D) (left : Executed D R W1 W2)
+      → IsRefusedFor device.honest device.disk device.size device.failures (volume_of run) d refused
+      → left.status ≡ volume_status refused.fault → left.flushed ≡ true
+      → left.summary ≡ Some (not_run run (reason.Volume refused.fault) (kept_where_refused refused.fault) left.status)
+      → left.device ≡ refused.device → left.input ≡ input → left.out ≡ out → left.err ≡ err
+      → RunsOn device.honest device.disk device.size device.failures device.goes_on remaining outs errs run m random d input out err left
+  no_volume random d input out err refused left why ends flushed summary is in_is out_is err_is = inl (record {
+    refused = refused;
+    why = why;
+    device_is = is;
+    ends = ends;
+    flushed = flushed;
+    summary = summary;
+    streams = kept_streams outs errs input out err left in_is out_is err_is;
+  })
+
+  -- ---- its session, whose streams are counted from its beginning on
+
+  module _ (parts : HostParts D R W1 W2) (input : Counted R) (out : Counted W1) (err : Counted W2) (in_is : input ≡ from_here (2 ^ 64 - 1) parts.input) (out_is : out ≡ from_here (output_of run) parts.out) (err_is : err ≡ from_here (output_of run) parts.err) where
+    abbrev on : Devices D (Counted R) (Counted W1) (Counted W2)
+    on = counted_devices device.honest device.disk device.size device.failures device.goes_on remaining outs errs
+
+    abbrev handed : HostParts D (Counted R) (Counted W1) (Counted W2)
+    handed = given parts.settings parts.volume input out err
+
+    pub ran : (begun : SessionState D (Counted R) (Counted W1) (Counted W2)) → Opens m handed begun → Shares device handed begun
+        → (report : Report D (Counted R) (Counted W1) (Counted W2)) (tally : Tally) → ReportsCounted on (with_seed run.seed (limited_to run.limits.values begun)) run.limits.fuel report tally
+        → (left : Executed D R W1 W2) → EndsWith report.outcome report.volume left.flushed left.status → left.summary ≡ Some (run_summary run report tally left.status left.flushed)
+        → left.device ≡ returned_device report.volume → left.input ≡ report.input.stream → Keeps (outs report.out.stream) (outs left.out) → Keeps (errs report.err.stream) (errs left.err)
+        → Launches device.honest device.disk device.size device.failures device.goes_on remaining outs errs m run parts left
+    ran begun opening sharing report tally counted left ends summary is from out_keeps err_keeps =
+        let same = counting_from run parts input out err in_is out_is err_is in
+        let limited = limited_to run.limits.values begun in
+        let s = with_seed run.seed limited in
+        let opens = opens_seeded m (counting run parts) limited run.seed
+        (opens_limited m (counting run parts) begun run.limits.values (subst (λ (p : HostParts D (Counted R) (Counted W1) (Counted W2)). Opens m p begun) same opening)) in
+        let shares = shares_seeded device (counting run parts) limited run.seed
+        (shares_limited device (counting run parts) begun run.limits.values (subst (λ (p : HostParts D (Counted R) (Counted W1) (Counted W2)). Shares device p begun) same sharing)) in
+        let i = opens.starts.instance in
+        let first = first_configuration opens.starts.entered opens.starts.store in
+        let reports = counted.reports in
+        let last = reports.last.host in
+        let run = reports.run i first opens.starts.stands in
+        let back = is ∙ device_back reports.volume.new report.volume reports.volume.handed_back in
+        inr (record {
+          session = s;
+          opens = opens;
+          shares = shares;
+          report = report;
+          tally = tally;
+          counted = counted;
+          ends = ends;
+          summary = summary;
+          device = is;
+          input = from ∙ ap (λ (r : Counted R). r.stream) reports.input;
+          out = subst (λ (w : Counted W1). Keeps (outs w.stream) (outs left.out)) reports.out out_keeps;
+          err = subst (λ (w : Counted W2). Keeps (errs w.stream) (errs left.err)) reports.err err_keeps;
+          over_paths = λ h. reach_moves on i s.host last first run.last run.answers run.reach (shares.reads.kept.honest.0 h);
+          crash = λ h lasts.
+              subst (λ (d : D). Leaves (device.disk parts.volume.device) (device.disk d) (StandsInRun (Calls on) numbers_of tree_of run))
+              (sym back)
+              (began _ (Calls on) (disk_of on) numbers_of tree_of
+              i s.host last first run.last run.answers (device.disk parts.volume.device) (device.disk reports.volume.new.device) parts.volume.numbers parts.volume.tree run.reach (sym {b = parts.volume.numbers} shares.reads.kept.numbers) (sym {b = parts.volume.tree} (shares.reads.tree h))
+              lasts (shares.reads.crash h) (reports.crash (shares.reads.kept.honest.0 h) i first opens.starts.stands));
+        })
+
+    pub no_session : (r : RefusedSession D (Counted R) (Counted W1) (Counted W2)) → HandsBack device m handed r → IsRefused device.honest r.fault m handed
+        → (left : Executed D R W1 W2) → left.status ≡ session_status r.fault → left.flushed ≡ true → left.summary ≡ Some (not_run run (session_reason r.fault) (kept_where_not_begun run.volume r.fault) left.status)
+        → left.device ≡ r.parts.volume.device → left.input ≡ r.parts.input.stream → left.out ≡ r.parts.out.stream → left.err ≡ r.parts.err.stream
+        → Launches device.honest device.disk device.size device.failures device.goes_on remaining outs errs m run parts left
+    no_session r hands refused left ends flushed summary is from out_from err_from = inl (record {
+      fault = r.fault;
+      refused = subst (λ (p : HostParts D (Counted R) (Counted W1) (Counted W2)). IsRefused device.honest r.fault m p) (counting_from run parts input out err in_is out_is err_is) refused;
+      volume = r.parts.volume;
+      kept = hands.volume;
+      device = is;
+      ends = ends;
+      flushed = flushed;
+      summary = summary;
+      streams = kept_streams outs errs parts.input parts.out parts.err left
+          (from ∙ ap (λ (r : Counted R). r.stream) (hands.input ∙ in_is))
+          (out_from ∙ ap (λ (w : Counted W1). w.stream) (hands.out ∙ out_is))
+          (err_from ∙ ap (λ (w : Counted W2). w.stream) (hands.err ∙ err_is));
+    })
