@@ -28,6 +28,7 @@ use Rattle.sandbox_command.specs.Execution.{Runs}
 use Rattle.sandbox_command.specs.Files.{Clashes, IsPerformed, RunsNamed}
 use Rattle.sandbox_command.specs.Sources.{own_of, sink_contents, source_remaining}
 use Rattle.sandbox_command.specs.Status.{file_status}
+use Rattle.sandbox_command.specs.Stopping.{TellsLines}
 use Rattle.sandbox_command.specs.Streams.{AppendsSome}
 use Rattle.sandbox_command.specs.Testing.{RunsLines}
 use Rattle.sandbox_command.proofs.Bounds.{of_load, of_session, runs_within}
@@ -49,16 +50,19 @@ module _ {P I O V R W1 W2 : Type 0} (on : Around P I O V R W1 W2) {D : Type 0} (
   pub runs_with : (bytes items random rest : List ℕ) → bytes ≡ items → random ≡ rest → (left : Executed D (Source I R) (Sink O W1) (Sink O W2)) → Ended bytes random left
       → (own : Sink O W2) → AppendsSome (told_in (own_of left.err spare.err)) (told_in own) → (all : Left D I O R W1 W2) → all ≡ left_of left spare own
       → (last : Sink O W2) → AppendsSome (told_in all.own) (told_in last)
+      → (frames : Text) → TellsLines bytes run.frames left.stopped frames
       → (before : ℕ) (summary : Option Summary) (p handed told q : P) (status : ℕ) → HandsIt left.device left.status left.summary p handed before summary
-      → IsTold on.places on.written run.report report summary before handed told status → on.places.ended (record all { own = last }) told q
+      → IsTold on.places on.written run.report report summary frames before handed told status → on.places.ended (record all { own = last }) told q
       → RunsWith on known HandsIt run items rest device streams spare report p q status
-  runs_with bytes items random rest first second left runs own lines all same last more before summary p handed told q status hands tells ended = record {
+  runs_with bytes items random rest first second left runs own lines all same last more frames are_lines before summary p handed told q status hands tells ended = record {
     left = left;
     runs = subst (λ (b : List ℕ). Ended b rest left) first (subst (λ (b : List ℕ). Ended bytes b left) second runs);
     before = before;
     summary = summary;
     handed = handed;
     hands = hands;
+    lines_of_frames = frames;
+    are_lines = subst (λ (b : List ℕ). TellsLines b run.frames left.stopped frames) first are_lines;
     told = told;
     tells = tells;
     own = last;
@@ -88,11 +92,11 @@ file_within OutOfMemory n is = omega (arith, is)
 file_within kind n is = omega (arith, is)
 
 module _ {P I O V : Type 0} (places : Ghosts P I O V) where
-  told_within : (written : Writer O) (name : Option (Bor Text)) (report : Option O) (summary : Option Summary) (before : ℕ) (p q : P) (status : ℕ) → IsTold places written name report summary before p q status → before ≤ 124 → status ≤ 124
-  told_within written None report summary before p q status is most = within status before is.1 most
-  told_within written (Some name) None summary before p q status is most = absurd is
-  told_within written (Some name) (Some report) None before p q status is most = within status before is.1 most
-  told_within written (Some name) (Some report) (Some summary) before p q status is most = elim is.why [
+  told_within : (written : Writer O) (name : Option (Bor Text)) (report : Option O) (summary : Option Summary) (lines : Text) (before : ℕ) (p q : P) (status : ℕ) → IsTold places written name report summary lines before p q status → before ≤ 124 → status ≤ 124
+  told_within written None report summary lines before p q status is most = within status before is.1 most
+  told_within written (Some name) None summary lines before p q status is most = absurd is
+  told_within written (Some name) (Some report) None lines before p q status is most = within status before is.1 most
+  told_within written (Some name) (Some report) (Some summary) lines before p q status is most = elim is.why [
     | inl printed ↦ within status before printed.2 most
     | inr (kind, refused, fault) ↦ omega (arith, fault)
   ]
@@ -109,7 +113,7 @@ module _ {P I O V R W1 W2 : Type 0} (on : Around P I O V R W1 W2) where
       → (run : Run) (bytes : List ℕ) (random : Text) (device : D) (streams : Streams (Source I R) (Sink O W1) (Sink O W2)) (spare : Spare R W1 W2) (report : Option O) (p q : P) (status : ℕ)
       → RunsWith on known HandsIt run bytes random device streams spare report p q status → status ≤ 124
   with_within known HandsIt keeps run bytes random device streams spare report p q status it =
-      told_within on.places on.written run.report report it.summary it.before it.handed it.told status it.tells
+      told_within on.places on.written run.report report it.summary it.lines_of_frames it.before it.handed it.told status it.tells
       (keeps it.left.device it.left.status it.left.summary p it.handed it.before it.summary it.hands
       (runs_within known.honest known.disk known.size known.failures known.goes_on (source_remaining on.read.remaining on.input.remaining)
       (sink_contents on.written.contents on.out.contents) (sink_contents on.written.contents on.err.contents) run bytes random device streams.input streams.out streams.err it.left it.runs))
@@ -129,7 +133,7 @@ module _ {P I O V R W1 W2 : Type 0} (on : Around P I O V R W1 W2) where
     | inr (first, lacks, is) ↦ file_within first status is
   ]
   alone_within run given p q status (inr (inl it)) =
-      told_within on.places on.written run.report it.report _ (file_status it.kind) it.begun it.told status it.tells (file_within it.kind (file_status it.kind) refl)
+      told_within on.places on.written run.report it.report _ it.lines (file_status it.kind) it.begun it.told status it.tells (file_within it.kind (file_status it.kind) refl)
   alone_within run given p q status (inr (inr it)) = medium_within it.opened.medium run it.opened given it.report it.begun q status it.runs
 
   -- ---- what was performed

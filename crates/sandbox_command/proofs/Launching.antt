@@ -1,5 +1,5 @@
 -- A run is what is said of it: one that gets no volume, or no session, or whose guest ran.
-use Rattle.std.proofs.Common.{◌≡◌, ◌-◌, ◌^◌, ℕ, true, List, Option, Some, Result, inl, inr, refl, sym, ◌∙◌, ap, subst}
+use Rattle.std.proofs.Common.{◌≡◌, ◌-◌, ◌^◌, ℕ, true, List, take, Option, Some, Result, inl, inr, refl, sym, ◌∙◌, ap, subst}
 use Rattle.std.specs.Io.KnownBytes.{Keeps}
 use Rattle.std.proofs.KnownBytes.{Keeps-refl}
 use Rattle.vol_sector.specs.Disk.{Disk, Leaves}
@@ -14,7 +14,10 @@ use Rattle.sandbox_core.specs.declared.session.RefusedSession.{RefusedSession}
 use Rattle.sandbox_core.specs.declared.report.Report.{Report}
 use Rattle.sandbox_core.specs.declared.tally.Tally.{Tally}
 use Rattle.sandbox_core.specs.Devices.{Calls, Devices, disk_of, numbers_of, tree_of}
-use Rattle.sandbox_core.specs.Report.{ReportsCounted}
+use Rattle.vol_tree.proofs.GoingOn.{goes_then}
+use Rattle.wasm_interp.specs.declared.frames.Frame.{Frame}
+use Rattle.wasm_interp.specs.Frames.{frames_of}
+use Rattle.observed_run.specs.Telling.{ReportsTold, TellsFrames}
 use Rattle.sandbox_core.specs.Runs.{StandsInRun}
 use Rattle.sandbox_core.specs.Session.{HandsBack, IsRefused, Opens, SessionState, Shares, given, limited_to}
 use Rattle.sandbox_core.proofs.Headline.{reach_moves}
@@ -25,6 +28,8 @@ use Rattle.volume_tasks.specs.Volumes.{IsOpenFor, IsRefusedFor}
 use Rattle.sandbox_words.specs.declared.request.Run.{Run}
 use Rattle.sandbox_words.specs.Request.{Text}
 use Rattle.sandbox_command.specs.declared.program.Executed.{Executed}
+use Rattle.sandbox_command.specs.declared.stopping.Stopped.{Stopped}
+use Rattle.sandbox_command.proofs.Frames.{first_frames}
 use Rattle.sandbox_command.specs.internal.Seeds.{with_seed}
 use Rattle.sandbox_command.specs.Execution.{NoVolume, OnVolume, RunsOn}
 use Rattle.sandbox_command.specs.Reporting.{counted_bytes, counting, from_here, kept_where_not_begun, kept_where_refused, not_run, output_of, run_summary, session_reason, volume_of}
@@ -90,11 +95,13 @@ module _ {D R W1 W2 : Type 0} (device : Ghosts D) (remaining : R → Option (Lis
     handed = given parts.settings parts.volume input out err
 
     pub ran : (begun : SessionState D (Counted R) (Counted W1) (Counted W2)) → Opens m handed begun → Shares device handed begun
-        → (report : Report D (Counted R) (Counted W1) (Counted W2)) (tally : Tally) → ReportsCounted on (with_seed run.seed (limited_to run.limits.values begun)) run.limits.fuel report tally
-        → (left : Executed D R W1 W2) → EndsWith report.outcome report.volume left.flushed left.status → left.summary ≡ Some (run_summary run report tally left.status left.flushed)
+        → (report : Report D (Counted R) (Counted W1) (Counted W2)) (tally : Tally) (room : List Frame) (depth : ℕ) → ReportsTold on (with_seed run.seed (limited_to run.limits.values begun)) run.limits.fuel report tally room depth
+        → (stopped : Stopped) → stopped.depth ≡ depth → stopped.innermost.items ≡ take depth room
+        → (left : Executed D R W1 W2) → left.stopped ≡ Some stopped → EndsWith report.outcome report.volume left.flushed left.status → left.summary ≡ Some (run_summary run report tally left.status left.flushed)
         → left.device ≡ returned_device report.volume → left.input ≡ report.input.stream → Keeps (outs report.out.stream) (outs left.out) → Keeps (errs report.err.stream) (errs left.err)
         → Launches device.honest device.disk device.size device.failures device.goes_on remaining outs errs m run parts left
-    ran begun opening sharing report tally counted left ends summary is from out_keeps err_keeps =
+    ran begun opening sharing report tally room depth told stopped depth_is taken left stopped_is ends summary is from out_keeps err_keeps =
+        let counted = told.counted in
         let same = counting_from run parts input out err in_is out_is err_is in
         let limited = limited_to run.limits.values begun in
         let s = with_seed run.seed limited in
@@ -115,6 +122,11 @@ module _ {D R W1 W2 : Type 0} (device : Ghosts D) (remaining : R → Option (Lis
           report = report;
           tally = tally;
           counted = counted;
+          stopped = stopped;
+          is_stopped = stopped_is;
+          frames = first_frames (frames_of reports.last.machine) room depth stopped told.frames depth_is taken;
+          goes = λ end le earlier before. subst (λ (d : D). device.goes_on end earlier d) (sym back)
+              (goes_then device.goes_on parts.volume s.host.volume reports.volume.new shares.reads.kept.numbers shares.reads.goes reports.goes end le earlier before);
           ends = ends;
           summary = summary;
           device = is;

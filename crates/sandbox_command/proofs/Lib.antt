@@ -7,6 +7,8 @@ mod Began
 mod Unbegun
 mod Bounds
 mod Finishing
+mod Frames
+pub mod Frames
 mod AfterFlush
 mod Seeding
 mod Launching

@@ -1,6 +1,6 @@
 -- A run alone, on the files that its words name (`docs/USING.md`, "The command `run`"), over any `Places`: what is asked for in
 -- turn, what the run begins with, how it ends, and that nothing follows on what it had.
-use Rattle.std.specs.Prelude.{◌≡◌, ◌⊎◌, ℕ, List, Option, Some, None, option_map}
+use Rattle.std.specs.Prelude.{◌≡◌, ◌⊎◌, ◌++◌, ℕ, List, Option, Some, None, option_map}
 use Rattle.std.specs.Borrow.{Bor}
 use Rattle.std.specs.Io.KnownBytes.{Appends}
 use Rattle.std.specs.declared.io.ErrorKind.{ErrorKind}
@@ -31,6 +31,7 @@ use Rattle.sandbox_command.specs.Execution.{Runs}
 use Rattle.sandbox_command.specs.Places.{Chain, HandsOut, IsOfImage, IsOfName, IsOfRandom, IsRefusedAmong, IsRefusedOfAll, Prints, report_accesses, run_accesses}
 use Rattle.sandbox_command.specs.Sources.{guest_of, own_of, sink_contents, sink_of, source_of, source_remaining, spare_of}
 use Rattle.sandbox_command.specs.Status.{file_status}
+use Rattle.sandbox_command.specs.Stopping.{AreLinesOfNone, TellsLines}
 use Rattle.sandbox_command.specs.Streams.{AppendsSome}
 
 -- the report of a run whose volume couldn't be handed out
@@ -83,21 +84,21 @@ module _ {P I O V : Type 0} (places : Ghosts P I O V) where
       ⊎ ((kind : ErrorKind) × places.refused (HandsOut name.now) kind p q × (status ≡ 124) × (summary ≡ option_map lost said))))
 
 module _ {P I O V : Type 0} (places : Ghosts P I O V) (written : Writer O) where
-  -- It was printed into its file, which is at its end then; or that was refused, and the status is 124.
-  pub record IsPrinted (name : Text) (report : O) (summary : Summary) (before : ℕ) (p q : P) (status : ℕ) : Type 0 where
+  -- It was printed with these further lines into its file, which is at its end then; or that was refused, and the status is 124.
+  pub record IsPrinted (name : Text) (report : O) (summary : Summary) (lines : Text) (before : ℕ) (p q : P) (status : ℕ) : Type 0 where
     pub printed : P
     pub asked_for : places.asked (Prints name) p printed
     pub left : O
-    pub why : (places.printed name (report_text summary) p printed × Appends (written.contents report) (written.contents left) (report_text summary) × (status ≡ before))
+    pub why : (places.printed name (report_text summary ++ lines) p printed × Appends (written.contents report) (written.contents left) (report_text summary ++ lines) × (status ≡ before))
         ⊎ ((kind : ErrorKind) × places.refused (Prints name) kind p printed × (status ≡ 124))
     pub ended : places.ended left printed q
 
   -- the same, where there is one
-  abbrev pub IsTold : Option (Bor Text) → Option O → Option Summary → (before : ℕ) → P → P → (status : ℕ) → Type 0
-  IsTold None report summary before p q status = (q ≡ p) × (status ≡ before)
-  IsTold (Some name) None summary before p q status = ⊥
-  IsTold (Some name) (Some report) None before p q status = (q ≡ p) × (status ≡ before)
-  IsTold (Some name) (Some report) (Some summary) before p q status = IsPrinted name.now report summary before p q status
+  abbrev pub IsTold : Option (Bor Text) → Option O → Option Summary → (lines : Text) → (before : ℕ) → P → P → (status : ℕ) → Type 0
+  IsTold None report summary lines before p q status = (q ≡ p) × (status ≡ before)
+  IsTold (Some name) None summary lines before p q status = ⊥
+  IsTold (Some name) (Some report) None lines before p q status = (q ≡ p) × (status ≡ before)
+  IsTold (Some name) (Some report) (Some summary) lines before p q status = IsPrinted name.now report summary lines before p q status
 
 -- ---- its end
 
@@ -127,8 +128,11 @@ module _ {P I O V R W1 W2 : Type 0} (on : Around P I O V R W1 W2) where
     pub summary : Option Summary
     pub handed : P
     pub hands : HandsIt left.device left.status left.summary p handed before summary
+    -- its report tells where it stopped
+    pub lines_of_frames : Text
+    pub are_lines : TellsLines bytes run.frames left.stopped lines_of_frames
     pub told : P
-    pub tells : IsTold on.places on.written run.report report summary before handed told status
+    pub tells : IsTold on.places on.written run.report report summary lines_of_frames before handed told status
     pub own : Sink O W2
     pub lines : AppendsSome (sink_contents on.written.contents on.err.contents (own_of left.err spare.err))
         (sink_contents on.written.contents on.err.contents own)
@@ -169,8 +173,10 @@ module _ {P I O V R W1 W2 : Type 0} (on : Around P I O V R W1 W2) where
     pub report : Option O
     pub begun : P
     pub has_report : HasReport on.places run.report between begun report
+    pub lines : Text
+    pub are_lines : AreLinesOfNone lines
     pub told : P
-    pub tells : IsTold on.places on.written run.report report (Some (unread run kind)) (file_status kind) begun told status
+    pub tells : IsTold on.places on.written run.report report (Some (unread run kind)) lines (file_status kind) begun told status
     pub ends : EndsGiven on given told q
 
   -- Its report can't be made. The status is that of this, or of one of its files that is refused before.

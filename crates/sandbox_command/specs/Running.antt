@@ -1,7 +1,7 @@
 -- What it means that a valid module is run on an open volume (`docs/USING.md`, "How a run ends"). Either it gets no
 -- session (`NotOpened`), or `Ran` has one that ran from the module's first configuration, with its report, its end and
 -- what a crash may leave.
-use Rattle.std.specs.Prelude.{◌≡◌, ◌⊎◌, ℕ, true, List, Option, Some, Result, Ok, Err}
+use Rattle.std.specs.Prelude.{◌≡◌, ◌⊎◌, ◌≤◌, ℕ, true, List, Option, Some, Result, Ok, Err}
 use Rattle.std.proofs.Common.{inl, inr}
 use Rattle.std.specs.Io.KnownBytes.{Keeps}
 use Rattle.vol_sector.specs.Disk.{Image, Disk, Leaves}
@@ -25,7 +25,10 @@ use Rattle.sandbox_core.specs.declared.tally.Tally.{Tally}
 use Rattle.sandbox_core.specs.Report.{ReportsCounted}
 use Rattle.sandbox_words.specs.declared.request.Run.{Run}
 use Rattle.run_report.specs.declared.counted.Counted.{Counted}
+use Rattle.wasm_interp.specs.Frames.{frames_of}
+use Rattle.observed_run.specs.Telling.{TellsFrames}
 use Rattle.sandbox_command.specs.declared.program.Executed.{Executed}
+use Rattle.sandbox_command.specs.declared.stopping.Stopped.{Stopped}
 use Rattle.sandbox_command.specs.Status.{EndsWith, session_status}
 use Rattle.sandbox_command.specs.Streams.{IsSilent}
 use Rattle.sandbox_command.specs.Reporting.{counted_bytes, counting, kept_where_not_begun, not_run, run_summary, session_reason}
@@ -79,9 +82,15 @@ module _ {D R W1 W2 : Type 0} (is_honest : D → Type 0) (disk : D → Disk) (se
     pub report : Report D (Counted R) (Counted W1) (Counted W2)
     pub tally : Tally
     pub counted : ReportsCounted counted_devices session run.limits.fuel report tally
+    -- the functions that were at work when it stopped are those of its last session
+    pub stopped : Stopped
+    pub is_stopped : left.stopped ≡ Some stopped
+    pub frames : TellsFrames (frames_of counted.reports.last.machine) stopped.innermost.items stopped.depth
     pub ends : EndsWith report.outcome report.volume left.flushed left.status
     pub summary : left.summary ≡ Some (run_summary run report tally left.status left.flushed)
     pub device : left.device ≡ returned_device report.volume
+    -- on any device that goes on from the volume's
+    pub goes : (end : ℕ) → parts.volume.numbers.sectors ≤ end → (earlier : D) → goes_on end earlier parts.volume.device → goes_on end earlier left.device
     -- The streams are those of the run's last host: the output and the side of errors have what the guest wrote there and
     -- nothing else.
     pub input : left.input ≡ counted.reports.last.host.input.reader.stream

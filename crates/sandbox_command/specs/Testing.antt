@@ -29,6 +29,7 @@ use Rattle.sandbox_command.specs.Beginning.{IsImage, unread}
 use Rattle.sandbox_command.specs.Execution.{NotLoaded, NotSupplied, RunsOn}
 use Rattle.sandbox_command.specs.Places.{Access, Opens, Makes, Reads, Prints, Chain, ChainWithFailure, IsOfImage, IsOfRandom, IsRefusedAmong, file_accesses, reads_of}
 use Rattle.sandbox_command.specs.Status.{file_status}
+use Rattle.sandbox_command.specs.Stopping.{AreLinesBy, AreLinesOfNone}
 
 -- ---- the list
 
@@ -83,7 +84,7 @@ LacksFiles places run t kind p q = IsRefusedAmong places.asked places.refused (s
 module _ {P I O V : Type 0} (places : Ghosts P I O V) (read : Reader I) (written : Writer O) where
   -- A run of the module as the words say, with all their fuel, on sectors of its own, those of the image or empty ones, and
   -- with the files of the test for its streams; and what its report says. All that it left was given up as it was.
-  pub record IsTested (run : Run) (m : Module) (random : Text) (t : Test) (p q : P) (summary : Option Summary) : Type 0 where
+  pub record IsTested (run : Run) (bytes : List ℕ) (m : Module) (random : Text) (t : Test) (p q : P) (summary : Option Summary) (frames : Text) : Type 0 where
     pub prepared : P
     pub asked_for : Chain places.asked (stream_accesses run t) p prepared
     pub input : I
@@ -98,52 +99,56 @@ module _ {P I O V : Type 0} (places : Ghosts P I O V) (read : Reader I) (written
     pub left : Executed RamDevice I O O
     pub runs : RunsOn in_memory.honest in_memory.disk in_memory.size in_memory.failures in_memory.goes_on read.remaining written.contents written.contents run m random device input out err left
     pub summary_is : summary ≡ left.summary
+    -- its report tells where it stopped
+    pub are_lines : AreLinesBy bytes m run.frames left.stopped frames
     pub ended : places.ended left prepared q
 
   -- A test was run so, or its files aren't there, and its report says why.
-  abbrev pub IsTestedOrUnread : Run → Module → Text → Test → (p q : P) → Option Summary → Type 0
-  IsTestedOrUnread run m random t p q summary =
-      ((kind : ErrorKind) × LacksFiles places run t kind p q × (summary ≡ Some (unread run kind))) ⊎ IsTested run m random t p q summary
+  abbrev pub IsTestedOrUnread : Run → List ℕ → Module → Text → Test → (p q : P) → Option Summary → (frames : Text) → Type 0
+  IsTestedOrUnread run bytes m random t p q summary frames =
+      ((kind : ErrorKind) × LacksFiles places run t kind p q × (summary ≡ Some (unread run kind)) × AreLinesOfNone frames) ⊎ IsTested run bytes m random t p q summary frames
 
   -- A guest ran in it, however it ended, and its report was printed into the file of that name, which was made before, and
   -- given up as it was then.
-  pub record HasRun (run : Run) (m : Module) (random : Text) (t : Test) (p q : P) : Type 0 where
+  pub record HasRun (run : Run) (bytes : List ℕ) (m : Module) (random : Text) (t : Test) (p q : P) : Type 0 where
     pub report : O
     pub is_its_report : places.is_output t.report.now report
     pub made : P
     pub is_made : places.asked (Makes t.report.now) p made
     pub summary : Summary
     pub tested : P
-    pub ran_so : IsTested run m random t made tested (Some summary)
+    pub frames : Text
+    pub ran_so : IsTested run bytes m random t made tested (Some summary) frames
     pub outcome : Outcome
     pub ran : summary.end ≡ Ran outcome
     pub printed : P
     pub asked_for : places.asked (Prints t.report.now) tested printed
-    pub is_printed : places.printed t.report.now (report_text summary) tested printed
+    pub is_printed : places.printed t.report.now (report_text summary ++ frames) tested printed
     pub left : O
-    pub tells : Appends (written.contents report) (written.contents left) (report_text summary)
+    pub tells : Appends (written.contents report) (written.contents left) (report_text summary ++ frames)
     pub ended : places.ended left printed q
 
   -- Its report was made, and then it was tested; but the report couldn't be printed, or it says that no guest ran, and why.
-  pub record HasNotRun (run : Run) (m : Module) (random : Text) (t : Test) (p q : P) : Type 0 where
+  pub record HasNotRun (run : Run) (bytes : List ℕ) (m : Module) (random : Text) (t : Test) (p q : P) : Type 0 where
     pub report : O
     pub is_its_report : places.is_output t.report.now report
     pub made : P
     pub is_made : places.asked (Makes t.report.now) p made
     pub summary : Summary
     pub tested : P
-    pub ran_so : IsTestedOrUnread run m random t made tested (Some summary)
+    pub frames : Text
+    pub ran_so : IsTestedOrUnread run bytes m random t made tested (Some summary) frames
     pub printed : P
     pub asked_for : places.asked (Prints t.report.now) tested printed
     pub why : ((kind : ErrorKind) × places.refused (Prints t.report.now) kind tested printed)
-        ⊎ ((fault : Fault) × (summary.end ≡ Refused fault) × places.printed t.report.now (report_text summary) tested printed)
+        ⊎ ((fault : Fault) × (summary.end ≡ Refused fault) × places.printed t.report.now (report_text summary ++ frames) tested printed)
     pub left : O
     pub ended : places.ended left printed q
 
   -- Its report couldn't be made, and nothing more was asked for; or it was, and no guest ran, or it couldn't be printed.
-  abbrev pub HasFailed : Run → Module → Text → Test → (p q : P) → Type 0
-  HasFailed run m random t p q =
-      ((kind : ErrorKind) × places.asked (Makes t.report.now) p q × places.refused (Makes t.report.now) kind p q) ⊎ HasNotRun run m random t p q
+  abbrev pub HasFailed : Run → List ℕ → Module → Text → Test → (p q : P) → Type 0
+  HasFailed run bytes m random t p q =
+      ((kind : ErrorKind) × places.asked (Makes t.report.now) p q × places.refused (Makes t.report.now) kind p q) ⊎ HasNotRun run bytes m random t p q
 
   -- The words are refused, or the bytes; or they spell a valid module, and each test is tried in turn. The status is 0 where
   -- each has run, and 124 where one at least failed.
@@ -152,8 +157,8 @@ module _ {P I O V : Type 0} (places : Ghosts P I O V) (read : Reader I) (written
       ((summary : Option Summary) × NotSupplied run status summary × (q ≡ p))
       ⊎ (((summary : Option Summary) × NotLoaded run bytes status summary × (q ≡ p))
       ⊎ ((m : Module) × Spells bytes m × IsValid m
-      × (((status ≡ 0) × Chain (HasRun run m random) tests p q)
-      ⊎ ((status ≡ 124) × ChainWithFailure (HasRun run m random) (HasFailed run m random) tests p q))))
+      × (((status ≡ 0) × Chain (HasRun run bytes m random) tests p q)
+      ⊎ ((status ≡ 124) × ChainWithFailure (HasRun run bytes m random) (HasFailed run bytes m random) tests p q))))
 
   -- A line of the list is no test, or memory is wanting, and nothing more is asked for; or its lines are those of these tests.
   abbrev pub RunsText : Run → (text bytes random : Text) → (p q : P) → (status : ℕ) → Type 0

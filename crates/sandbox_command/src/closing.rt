@@ -20,6 +20,7 @@ use crate::program;
 use crate::program::Executed;
 use crate::refusals::{tell_of_outcome, tell_of_refusal};
 use crate::reporting::not_run;
+use crate::stopping::tell_frames;
 use crate::streams::{Sink, Source, Spare, apart};
 use crate::explaining::tell_of_kind;
 use run_report::{End, Fault, Kept, Summary};
@@ -76,6 +77,7 @@ pub(crate) fn finished<D: Drop, I: Drop, O: Write + Drop, R: Drop, W1: Drop, W2:
     run: &Run<'_>,
     module: &[u8],
     ended: Executed<D, Source<I, R>, Sink<O, W1>, Sink<O, W2>>,
+    lines: &[u8],
     spare: Spare<R, W1, W2>,
 ) -> (Ending, Left<D, I, O, R, W1, W2>)
     ensures ending { (result.0.status ≡ ended.status) × (result.0.summary ≡ ended.summary) }
@@ -86,6 +88,7 @@ pub(crate) fn finished<D: Drop, I: Drop, O: Write + Drop, R: Drop, W1: Drop, W2:
     let Executed {
         status,
         summary,
+        stopped,
         device,
         input,
         out,
@@ -94,6 +97,7 @@ pub(crate) fn finished<D: Drop, I: Drop, O: Write + Drop, R: Drop, W1: Drop, W2:
     } = ended;
     let (mut own, guest) = apart(err, spare.err);
     tell_ending(alloc, &mut own, run, module, &summary);
+    tell_frames(&mut own, &stopped, lines);
     let left = Left {
         device,
         input,
@@ -178,22 +182,23 @@ pub(crate) fn handed_out<P: Places, W: Write>(
     }
 }
 
-/// Prints the report of a run into its file, and gives the status: that of the run, or 124 where the report can't be printed.
+/// Prints the report of a run, with these lines of where it stopped, into its file, and gives the status: that of the run, or 124 where the report can't be printed.
 pub(crate) fn told<P: Places, W: Write>(
     places: &mut P,
     name: Option<&str>,
     report: Option<P::Output>,
     ending: Ending,
+    lines: &[u8],
     err: &mut W,
 ) -> u8
     requires { IsOfName P.is_output name report }
-    ensures tells { IsTold P.Places P.Output.Write name.entry report ending.summary ending.status places.old places.new result }
+    ensures tells { IsTold P.Places P.Output.Write name.entry report ending.summary lines.now ending.status places.old places.new result }
     ensures lines { AppendsSome (W.contents err.old) (W.contents err.new) }
 {
     let (Some(name), Some(mut report), Some(summary)) = (name, report, ending.summary) else {
         return ending.status;
     };
-    let printed = places.print(name, &mut report, &summary);
+    let printed = places.print(name, &mut report, &summary, lines);
     places.end(report);
     match printed {
         Ok(()) => ending.status,

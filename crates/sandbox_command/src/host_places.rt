@@ -13,7 +13,7 @@ use sandbox_device::{
 };
 use sandbox_words::{Invocation, Run};
 use std::fs::File;
-use std::io::{ErrorKind, Read};
+use std::io::{ErrorKind, Read, Write};
 use std::{fs, io};
 
 /// The most bytes of a list of tests.
@@ -219,7 +219,12 @@ impl<'a> HostPlaces<'a> {
     }
 
     /// Prints a report into a file that has no other part in its line, and ends the line.
-    fn print_apart(&mut self, file: &mut Output, summary: &Summary) -> io::Result<()> {
+    fn print_apart(
+        &mut self,
+        file: &mut Output,
+        summary: &Summary,
+        lines: &[u8],
+    ) -> io::Result<()> {
         let report = match file.identity() {
             Ok(it) if self.held.is_apart(it) => it,
             _ => {
@@ -228,7 +233,8 @@ impl<'a> HostPlaces<'a> {
             }
         };
         self.held.end_line(report, summary)?;
-        summary.print(file)
+        summary.print(file)?;
+        file.write_all(lines)
     }
 }
 
@@ -319,8 +325,14 @@ impl<'a> Places for HostPlaces<'a> {
         self.replaced(device)
     }
 
-    fn print(&mut self, _name: &str, file: &mut Output, summary: &Summary) -> io::Result<()> {
-        self.print_apart(file, summary)
+    fn print(
+        &mut self,
+        _name: &str,
+        file: &mut Output,
+        summary: &Summary,
+        lines: &[u8],
+    ) -> io::Result<()> {
+        self.print_apart(file, summary, lines)
     }
 
     fn end<X: Drop>(&mut self, it: X) {

@@ -1,6 +1,6 @@
 //! The places where files stand: all that a command does with files.
 
-ghost use Rattle.std.specs.Prelude.{◌≡◌, ◌≤◌, ℕ, List, IfErr, IfOk, OnOk, length, min, string_bytes};
+ghost use Rattle.std.specs.Prelude.{◌≡◌, ◌≤◌, ◌++◌, ℕ, List, IfErr, IfOk, OnOk, length, min, string_bytes};
 ghost use Rattle.std.specs.IoError.{error_kind};
 ghost use Rattle.std.specs.Io.KnownBytes.{Appends};
 ghost use Rattle.std.specs.declared.io.ErrorKind.{ErrorKind as Kind};
@@ -127,14 +127,21 @@ pub trait Places {
         ensures refused { IfErr result (λ error. refused (HandsOut name.now) (error_kind error) self.old self.new) }
         ensures handed { OnOk result (handed_out name.now device.now self.old self.new) };
 
-    /// Prints a report into a file that was made under this name. Where that fails, some of it may have been printed.
-    fn print(&mut self, name: &str, file: &mut Self::Output, summary: &Summary) -> io::Result<()>
+    /// Prints a report, and further lines of it, into a file that was made under this name. Where that fails, some of it may have been
+    /// printed.
+    fn print(
+        &mut self,
+        name: &str,
+        file: &mut Self::Output,
+        summary: &Summary,
+        lines: &[u8],
+    ) -> io::Result<()>
         requires { is_output name.now file.old }
         ensures asked { asked (Prints name.now) self.old self.new }
         ensures refused { IfErr result (λ error. refused (Prints name.now) (error_kind error) self.old self.new) }
-        ensures printed { OnOk result (printed name.now (report_text summary.now) self.old self.new) }
+        ensures printed { OnOk result (printed name.now (report_text summary.now ++ lines.now) self.old self.new) }
         ensures tells { OnOk result
-            (Appends (Self.Output.contents file.old) (Self.Output.contents file.new) (report_text summary.now)) };
+            (Appends (Self.Output.contents file.old) (Self.Output.contents file.new) (report_text summary.now ++ lines.now)) };
 
     /// Gives up what a command had, as it is: nothing more is read, written or changed with it.
     fn end<X: Drop>(&mut self, it: X)

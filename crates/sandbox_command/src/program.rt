@@ -7,9 +7,10 @@ ghost use Rattle.clap.specs.Values.{kind_of};
 ghost use Rattle.sandbox_core.specs.Devices.{devices};
 ghost use Rattle.sandbox_core.specs.Session.{given, limited_to, used_by};
 ghost use Rattle.run_report.specs.declared.fault.Fault.TheVariants as reason;
-ghost use Rattle.sandbox_core.specs.Report.{ReportsCounted};
+ghost use Rattle.observed_run.specs.Telling.{ReportsTold};
 ghost use Rattle.sandbox_command.specs.Status.{status_of, EndsWith, load_status, session_status};
 ghost use Rattle.sandbox_command.specs.Status.{volume_status, words_status, command_line_status};
+ghost use Rattle.sandbox_command.specs.Stopping.{TellsLines};
 ghost use Rattle.sandbox_command.specs.Streams.{AppendsSome};
 ghost use Rattle.sandbox_command.specs.Reporting.{broken_in, kept_where_not_begun, kept_where_refused, not_run, output_of, run_summary, session_reason, volume_of};
 ghost use Rattle.sandbox_command.specs.Running.{Launches, returned_device};
@@ -24,14 +25,16 @@ use crate::output::{GREATEST, NOT_COMMITTED, tell, tell_after, tell_fault, tell_
 use crate::reporting::{
     kept_after_run, kept_where_not_begun, kept_where_refused, not_run, session_reason,
 };
+use crate::explaining::About;
+use crate::stopping::{Stopped, lines_of, no_lines, room_for, stopped_with};
 use crate::streams::Streams;
 use crate::supplies::{Supplies, settings, supplied};
-use crate::explaining::About;
 use crate::work::VolumeWork;
+use observed_run::{Told, run_told};
 use run_report::{Counted, Cut, End, Fault, Kept, Summary};
 use sandbox_core::{
-    HostParts, LoadFault, Outcome, RefusedSession, Report, Session, SessionFault, Tally, Valid,
-    Volume, run_counted_with_module,
+    Frame, HostParts, LoadFault, Outcome, RefusedSession, Report, Session, SessionFault, Tally, Valid,
+    Volume,
 };
 use sandbox_words::Run;
 use std::alloc::Global;
@@ -62,6 +65,8 @@ pub struct Executed<D, R, W1, W2> {
     pub summary: Option<Summary>,
     /// Whether no output that was flushed refused it. What isn't flushed refuses nothing.
     pub flushed: bool,
+    /// Where a guest that ran stopped.
+    pub stopped: Option<Stopped>,
     pub device: D,
     pub input: R,
     pub out: W1,
@@ -213,6 +218,7 @@ pub(crate) fn left_with<D: Drop, R: Drop, W1: Drop, W2: Drop>(
     ensures status { result.status ≡ status }
     ensures summary { result.summary ≡ summary }
     ensures flushed { result.flushed ≡ flushed }
+    ensures stopped { result.stopped ≡ None }
     ensures device { result.device ≡ device }
     ensures input { result.input ≡ streams.input }
     ensures out { result.out ≡ streams.out }
@@ -223,6 +229,7 @@ pub(crate) fn left_with<D: Drop, R: Drop, W1: Drop, W2: Drop>(
         status,
         summary,
         flushed,
+        stopped: None,
         device,
         input,
         out,
@@ -257,7 +264,9 @@ fn reported<D: Device + Drop, R: Drop, W1: Write + Drop, W2: Write + Drop>(
     run: &Run<'_>,
     report: Report<D, Counted<R>, Counted<W1>, Counted<W2>>,
     tally: Tally,
+    stopped: Stopped,
 ) -> Executed<D, R, W1, W2>
+    ensures stopped { result.stopped ≡ Some stopped }
     ensures ends { EndsWith report.outcome report.volume result.flushed result.status }
     ensures summary { result.summary ≡ Some (run_summary run.now report tally result.status result.flushed) }
     ensures device { result.device ≡ returned_device report.volume }
@@ -301,7 +310,9 @@ fn reported<D: Device + Drop, R: Drop, W1: Write + Drop, W2: Write + Drop>(
         broken,
         cut,
     };
-    left_with(status, Some(summary), flushed, device, streams)
+    let mut left = left_with(status, Some(summary), flushed, device, streams);
+    left.stopped = Some(stopped);
+    left
 }
 
 /// Ends a run that could not begin, and says why. Nothing is flushed. Gives the device of the volume and the streams back.
@@ -314,6 +325,7 @@ fn not_begun<D: Drop, R: Drop, W1: Drop, W2: Drop>(
     ensures status { result.status ≡ why.0 }
     ensures summary { result.summary ≡ Some (not_run run.now why.1 why.2 why.0) }
     ensures flushed { result.flushed ≡ true }
+    ensures stopped { result.stopped ≡ None }
     ensures device { result.device ≡ device }
     ensures input { result.input ≡ streams.input }
     ensures out { result.out ≡ streams.out }
@@ -369,19 +381,22 @@ fn seed<D: Device + Drop, R: Read + Drop, W1: Write + Drop, W2: Write + Drop>(
     }
 }
 
-/// Runs a session that has used nothing within the limits of a run, with the random bytes of its seed. Gives its module back.
+/// Runs a session that has used nothing within the limits of a run, with the random bytes of its seed. Gives its module back, and the
+/// innermost functions that were at work when it stopped into the room.
 fn run_within<'a, D: Device + Drop, R: Read + Drop, W1: Write + Drop, W2: Write + Drop>(
     run: &Run<'_>,
     mut session: Session<'a, '_, '_, D, R, W1, W2>,
-) -> (Valid<'a>, Report<D, R, W1, W2>, Tally)
+    room: &mut [Frame],
+) -> Told<Valid<'a>, D, R, W1, W2>
     requires { (used_by session ≡ 0) × (session.host.generator ≡ None) }
-    ensures module { result.0 ≡ session.entry.machine.valid }
-    ensures counted { ReportsCounted (devices D.Device R.Read W1.Write W2.Write)
-        (with_seed run.now.seed (limited_to run.now.limits.values session.entry)) run.now.limits.fuel result.1 result.2 }
+    ensures module { result.kept ≡ session.entry.machine.valid }
+    ensures told { ReportsTold (devices D.Device R.Read W1.Write W2.Write)
+        (with_seed run.now.seed (limited_to run.now.limits.values session.entry)) run.now.limits.fuel result.report result.tally
+        room.new result.depth }
 {
     session.limit_values(run.limits.values as usize);
     seed(run, &mut session);
-    run_counted_with_module(session, run.limits.fuel)
+    run_told(session, run.limits.fuel, room)
 }
 
 /// How many bytes each output of a run takes at most.
@@ -415,8 +430,10 @@ fn launch<'a, D: Device + Drop, R: Read + Drop, W1: Write + Drop, W2: Write + Dr
     let complaints = Counted::new(err, most);
     match Session::new(alloc, valid, settings, volume, taken, given, complaints) {
         Ok(session) => {
-            let (valid, report, tally) = run_within(run, session);
-            (valid, reported(run, report, tally))
+            let mut room = room_for(alloc, run);
+            let told = run_within(run, session, room.as_mut_slice());
+            let stopped = stopped_with(told.depth, room);
+            (told.kept, reported(run, told.report, told.tally, stopped))
         }
         Err(
             RefusedSession {
@@ -502,8 +519,8 @@ pub(crate) fn run_valid<'a, D: Device + Drop, R: Read + Drop, W1: Write + Drop, 
     }
 }
 
-/// Runs a module on the volume of a device, with random bytes, and gives the device back. It prints no line of the
-/// program's own: `tell_end` does that, where the caller wants them.
+/// Runs a module on the volume of a device, with random bytes, and gives the device back, and the lines of its report that tell where
+/// it stopped. It prints no line of the program's own: `tell_end` does that, where the caller wants them.
 pub(crate) fn run<D: Device + Drop, R: Read + Drop, W1: Write + Drop, W2: Write + Drop>(
     alloc: Global,
     run: &Run<'_>,
@@ -511,9 +528,10 @@ pub(crate) fn run<D: Device + Drop, R: Read + Drop, W1: Write + Drop, W2: Write 
     random: &[u8],
     device: D,
     streams: Streams<R, W1, W2>,
-) -> Executed<D, R, W1, W2>
-    ensures { Runs D.honest D.disk D.size D.failures D.goes_on R.remaining W1.contents W2.contents
-        run.now «module».now random.now device streams.input streams.out streams.err result }
+) -> (Executed<D, R, W1, W2>, Vec<u8>)
+    ensures runs { Runs D.honest D.disk D.size D.failures D.goes_on R.remaining W1.contents W2.contents
+        run.now «module».now random.now device streams.input streams.out streams.err result.0 }
+    ensures lines { TellsLines «module».now run.now.frames result.0.stopped result.1.items }
 {
     let (status, fault) = match supplied(alloc, run) {
         Ok(supplies) => match sandbox_core::load(alloc, module) {
@@ -521,14 +539,16 @@ pub(crate) fn run<D: Device + Drop, R: Read + Drop, W1: Write + Drop, W2: Write 
                 let (valid, left) = run_valid(
                     alloc, run, valid, &supplies, random, device, streams,
                 );
+                let lines = lines_of(alloc, run, module, valid.module(), &left.stopped);
                 drop(valid);
-                return left;
+                return (left, lines);
             }
             Err(fault) => (load_status(fault), Fault::Module(fault)),
         },
         Err(fault) => (session_status(fault), session_reason(fault)),
     };
-    not_begun(run, (status, fault, Kept::None), device, streams)
+    let left = not_begun(run, (status, fault, Kept::None), device, streams);
+    (left, no_lines(alloc, run))
 }
 
 /// Does something with the volume on a device, and gives the exit status, the device and the streams. What is put into the

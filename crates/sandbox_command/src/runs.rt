@@ -7,11 +7,14 @@ ghost use Rattle.sandbox_command.specs.Around.{EndsGiven, around, in_memory};
 ghost use Rattle.sandbox_command.specs.Beginning.{unread};
 ghost use Rattle.sandbox_command.specs.Places.{IsOfName};
 ghost use Rattle.sandbox_command.specs.Status.{file_status};
+ghost use Rattle.sandbox_command.specs.Stopping.{AreLinesOfNone};
+ghost use Rattle.sandbox_words.specs.Request.{Text};
 
 use crate::closing::{Ending, finished, handed_out, refuse, told, unread};
 use crate::opening::{Medium, Opened, made_report, open_all};
 use crate::places::Places;
 use crate::program;
+use crate::stopping::no_lines;
 use crate::streams::{Sink, Source, Spare, Streams, sink_of, source_of};
 use sandbox_device::RamDevice;
 use sandbox_words::Run;
@@ -44,7 +47,7 @@ pub(crate) fn run_alone<P: Places, R: Read + Drop, W1: Write + Drop, W2: Write +
             Err(error) => end_refused(places, &error, given),
         },
         Err(error) => match made_report(places, run.report) {
-            Ok(report) => end_unread(places, run, &error, report, given),
+            Ok(report) => end_unread(alloc, places, run, &error, report, given),
             Err(_) => end_refused(places, &error, given),
         },
     }
@@ -68,6 +71,7 @@ pub(crate) fn end_refused<P: Places, R: Read + Drop, W1: Write + Drop, W2: Write
 
 /// Says that a file of a run is refused, also in its report, and gives up the streams.
 fn end_unread<P: Places, R: Read + Drop, W1: Write + Drop, W2: Write + Drop>(
+    alloc: Global,
     places: &mut P,
     run: &Run<'_>,
     error: &io::Error,
@@ -75,8 +79,8 @@ fn end_unread<P: Places, R: Read + Drop, W1: Write + Drop, W2: Write + Drop>(
     given: Streams<R, W1, W2>,
 ) -> u8
     requires { IsOfName P.is_output run.now.report report }
-    ensures { (told : P)
-        × IsTold P.Places P.Output.Write run.now.report report (Some (unread run.now (error_kind error.now))) (file_status (error_kind error.now)) places.old told result
+    ensures { (told : P) × (lines : Text) × AreLinesOfNone lines
+        × IsTold P.Places P.Output.Write run.now.report report (Some (unread run.now (error_kind error.now))) lines (file_status (error_kind error.now)) places.old told result
         × EndsGiven (around P.Places P.Input.Read P.Output.Write P.Volume.Device R.Read W1.Write W2.Write) given told places.new }
 {
     let mut given = given;
@@ -84,7 +88,15 @@ fn end_unread<P: Places, R: Read + Drop, W1: Write + Drop, W2: Write + Drop>(
         status: refuse(&*places, error, &mut given.err),
         summary: Some(unread(run, error)),
     };
-    let status = told(places, run.report, report, ending, &mut given.err);
+    let lines = no_lines(alloc, run);
+    let status = told(
+        places,
+        run.report,
+        report,
+        ending,
+        lines.as_slice(),
+        &mut given.err,
+    );
     places.end(given);
     status
 }
@@ -153,9 +165,10 @@ fn run_in_file<P: Places, R: Read + Drop, W1: Write + Drop, W2: Write + Drop>(
         spare,
     } = wired;
     let (module, random) = (module.as_slice(), random.as_slice());
-    let ended = program::run(alloc, run, module, random, device, streams);
-    let (ending, mut left) = finished(alloc, run, module, ended, spare);
-    let status = told(places, run.report, report, ending, &mut left.own);
+    let (ended, lines) = program::run(alloc, run, module, random, device, streams);
+    let lines = lines.as_slice();
+    let (ending, mut left) = finished(alloc, run, module, ended, lines, spare);
+    let status = told(places, run.report, report, ending, lines, &mut left.own);
     places.end(left);
     status
 }
@@ -182,10 +195,11 @@ fn run_in_memory<P: Places, R: Read + Drop, W1: Write + Drop, W2: Write + Drop>(
         spare,
     } = wired;
     let (module, random) = (module.as_slice(), random.as_slice());
-    let ended = program::run(alloc, run, module, random, device, streams);
-    let (ending, mut left) = finished(alloc, run, module, ended, spare);
+    let (ended, lines) = program::run(alloc, run, module, random, device, streams);
+    let lines = lines.as_slice();
+    let (ending, mut left) = finished(alloc, run, module, ended, lines, spare);
     let ending = handed_out(places, run.volume_out, &left.device, ending, &mut left.own);
-    let status = told(places, run.report, report, ending, &mut left.own);
+    let status = told(places, run.report, report, ending, lines, &mut left.own);
     places.end(left);
     status
 }

@@ -17,6 +17,7 @@ use crate::output::tell_fault;
 use crate::places::Places;
 use crate::program::{load_status, refuse_file, run_valid, session_status};
 use crate::reporting::session_reason;
+use crate::stopping::{lines_of, no_lines};
 use crate::streams::Streams;
 use crate::supplies::{Supplies, supplied};
 use run_report::{End, Fault, Summary};
@@ -34,6 +35,13 @@ struct Test<'a> {
     output: &'a str,
     errors: &'a str,
     report: &'a str,
+}
+
+/// The bytes that all tests share.
+#[derive(Clone, Copy)]
+struct Files<'a> {
+    module: &'a [u8],
+    random: &'a [u8],
 }
 
 /// What a test begins with: its sectors, and the files of its streams.
@@ -119,28 +127,31 @@ fn prepare<P: Places>(
     Ok(Prepared { device, streams })
 }
 
-/// Runs the module on the files of a test. Gives it back, and what the report of the test says.
+/// Runs the module on the files of a test. Gives it back, what the report of the test says, and its lines of where the run stopped.
 fn tested<'m, P: Places>(
     alloc: Global,
     places: &mut P,
     run: &Run<'_>,
     valid: Valid<'m>,
     supplies: &Supplies<'_>,
-    random: &[u8],
+    files: Files<'_>,
     test: Test<'_>,
-) -> (Valid<'m>, Option<Summary>)
+) -> (Valid<'m>, Option<Summary>, Vec<u8>)
     requires { AreSupplies run.now supplies.now }
     ensures module { result.0 ≡ valid.entry }
-    ensures tested { IsTestedOrUnread P.Places P.Input.Read P.Output.Write run.now valid.entry random.now test.entry places.old places.new result.1 }
+    ensures tested { IsTestedOrUnread P.Places P.Input.Read P.Output.Write run.now files.«module».now valid.entry files.random.now test.entry
+        places.old places.new result.1 result.2.items }
 {
     match prepare(alloc, places, run, test) {
         Ok(Prepared { device, streams }) => {
-            let (valid, left) = run_valid(alloc, run, valid, supplies, random, device, streams);
+            let (valid, left) =
+                run_valid(alloc, run, valid, supplies, files.random, device, streams);
             let summary = left.summary;
+            let frames = lines_of(alloc, run, files.module, valid.module(), &left.stopped);
             places.end(left);
-            (valid, summary)
+            (valid, summary, frames)
         }
-        Err(error) => (valid, Some(unread(run, &error))),
+        Err(error) => (valid, Some(unread(run, &error)), no_lines(alloc, run)),
     }
 }
 
@@ -150,12 +161,15 @@ fn is_told_of_guest<P: Places>(
     name: &str,
     report: P::Output,
     summary: &Summary,
+    frames: &[u8],
 ) -> bool
     requires { P.is_output name.now report }
-    ensures { IsTold P.Places P.Output.Write result name.now report summary.now places.old places.new }
+    ensures { IsTold P.Places P.Output.Write result name.now report summary.now frames.now places.old places.new }
 {
     let mut report = report;
-    let is_printed = places.print(name, &mut report, summary).is_ok();
+    let is_printed = places
+        .print(name, &mut report, summary, frames)
+        .is_ok();
     places.end(report);
     match summary.end {
         End::Ran(_) => is_printed,
@@ -171,24 +185,24 @@ fn run_test<'m, P: Places>(
     run: &Run<'_>,
     valid: Valid<'m>,
     supplies: &Supplies<'_>,
-    random: &[u8],
+    files: Files<'_>,
     test: Test<'_>,
 ) -> (Valid<'m>, bool)
     requires { AreSupplies run.now supplies.now }
     ensures module { result.0 ≡ valid.entry }
     ensures ends { OneEndsAs
-        (HasRun P.Places P.Input.Read P.Output.Write run.now valid.entry random.now)
-        (HasFailed P.Places P.Input.Read P.Output.Write run.now valid.entry random.now)
+        (HasRun P.Places P.Input.Read P.Output.Write run.now files.«module».now valid.entry files.random.now)
+        (HasFailed P.Places P.Input.Read P.Output.Write run.now files.«module».now valid.entry files.random.now)
         result.1 test.entry places.old places.new }
 {
     let Ok(report) = places.make(test.report) else {
         return (valid, false);
     };
-    let (valid, said) = tested(alloc, places, run, valid, supplies, random, test);
+    let (valid, said, frames) = tested(alloc, places, run, valid, supplies, files, test);
     let Some(summary) = said else {
         return (valid, false);
     };
-    let has_run = is_told_of_guest(places, test.report, report, &summary);
+    let has_run = is_told_of_guest(places, test.report, report, &summary, frames.as_slice());
     (valid, has_run)
 }
 
@@ -200,19 +214,19 @@ fn run_all<'m, P: Places>(
     run: &Run<'_>,
     valid: Valid<'m>,
     supplies: &Supplies<'_>,
-    random: &[u8],
+    files: Files<'_>,
     tests: &[Test<'_>],
 ) -> bool
     requires { AreSupplies run.now supplies.now }
     ensures { AllEndAs
-        (HasRun P.Places P.Input.Read P.Output.Write run.now valid.entry random.now)
-        (HasFailed P.Places P.Input.Read P.Output.Write run.now valid.entry random.now)
+        (HasRun P.Places P.Input.Read P.Output.Write run.now files.«module».now valid.entry files.random.now)
+        (HasFailed P.Places P.Input.Read P.Output.Write run.now files.«module».now valid.entry files.random.now)
         result tests.now places.old places.new }
 {
     let mut valid = valid;
     let mut have_run = true;
     for test in tests {
-        let (kept, has_run) = run_test(alloc, places, run, valid, supplies, random, *test);
+        let (kept, has_run) = run_test(alloc, places, run, valid, supplies, files, *test);
         valid = kept;
         have_run = have_run && has_run;
     }
@@ -248,7 +262,8 @@ fn run_tests<P: Places, W: Write>(
     };
     match sandbox_core::load(alloc, module) {
         Ok(valid) => {
-            if run_all(alloc, places, run, valid, &supplies, random, tests) {
+            let files = Files { module, random };
+            if run_all(alloc, places, run, valid, &supplies, files, tests) {
                 return 0;
             }
             refuse_file(err)

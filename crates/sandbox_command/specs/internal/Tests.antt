@@ -32,18 +32,18 @@ pub record IsPrepared {P I O V : Type 0} (places : Ghosts P I O V) (run : Run) (
   pub of_image : IsOfImage places.is_image run.image prepared.device
 
 -- A report was printed, and tells of a guest that ran; or it couldn't be printed, or tells of none.
-abbrev pub IsToldAs : {P : Type 0} → (refuses : Access → ErrorKind → P → P → Type 0) → (prints : Text → Text → P → P → Type 0) → Bool → Text → Summary → (p q : P) → (before after : Option (List ℕ)) → Type 0
-IsToldAs refuses prints true name summary p q before after =
-    ((outcome : Outcome) × (summary.end ≡ Ran outcome)) × prints name (report_text summary) p q × Appends before after (report_text summary)
-IsToldAs refuses prints false name summary p q before after = ((kind : ErrorKind) × refuses (Prints name) kind p q)
-    ⊎ ((fault : Fault) × (summary.end ≡ Refused fault) × prints name (report_text summary) p q)
+abbrev pub IsToldAs : {P : Type 0} → (refuses : Access → ErrorKind → P → P → Type 0) → (prints : Text → Text → P → P → Type 0) → Bool → Text → Summary → (frames : Text) → (p q : P) → (before after : Option (List ℕ)) → Type 0
+IsToldAs refuses prints true name summary frames p q before after =
+    ((outcome : Outcome) × (summary.end ≡ Ran outcome)) × prints name (report_text summary ++ frames) p q × Appends before after (report_text summary ++ frames)
+IsToldAs refuses prints false name summary frames p q before after = ((kind : ErrorKind) × refuses (Prints name) kind p q)
+    ⊎ ((fault : Fault) × (summary.end ≡ Refused fault) × prints name (report_text summary ++ frames) p q)
 
 -- It was printed so, and then its file was given up.
-pub record IsTold {P I O V : Type 0} (places : Ghosts P I O V) (written : Writer O) (is_told : Bool) (name : Text) (report : O) (summary : Summary) (p q : P) : Type 0 where
+pub record IsTold {P I O V : Type 0} (places : Ghosts P I O V) (written : Writer O) (is_told : Bool) (name : Text) (report : O) (summary : Summary) (frames : Text) (p q : P) : Type 0 where
   pub printed : P
   pub asked_for : places.asked (Prints name) p printed
   pub left : O
-  pub told : IsToldAs places.refused places.printed is_told name summary p printed (written.contents report) (written.contents left)
+  pub told : IsToldAs places.refused places.printed is_told name summary frames p printed (written.contents report) (written.contents left)
   pub ended : places.ended left printed q
 
 -- this one went well, or failed

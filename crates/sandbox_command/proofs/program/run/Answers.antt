@@ -1,20 +1,22 @@
-use Rattle.std.proofs.Common.{ℕ, inl, inr, refl, sym, ◌∙◌, ap, Some}
+use Rattle.std.proofs.Common.{ℕ, inl, inr, refl, sym, ◌∙◌, ap, subst, Some}
 use Rattle.run_report.specs.declared.fault.Fault.{Fault}
 use Rattle.sandbox_command.specs.Execution.{IsUntouched}
+use Rattle.sandbox_command.specs.Stopping.{AreLinesBy, TellsLines}
+use Rattle.sandbox_command.proofs.Frames.{lines_told}
 use Rattle.sandbox_command.proofs.Launching.{kept_streams}
 use Rattle.sandbox_command.proofs.Unbegun.{not_run_so}
 use Rattle.sandbox_command.proofs.program.run.Goals as goal
 use Rattle.sandbox_command.proofs.program.run.Goals.{in-Ok+in-Err-load, in-Err}
 
 -- the module is valid
-pub returns-in-Ok-load : goal.returns-in-Ok-load
-returns-in-Ok-load g c =
+pub returns-in-Ok-load-clause-runs : goal.returns-in-Ok-load-clause-runs
+returns-in-Ok-load-clause-runs g c =
     let found = c.in-Ok-load.ensures.found in
     inr (inr (c.in-Ok-load.valid, found.0, found.1, c.run_valid-valid.ensures.runs))
 
 -- the words are refused, or the bytes
-pub returns : goal.returns
-returns g c =
+pub returns-clause-runs : goal.returns-clause-runs
+returns-clause-runs g c =
     let ended = c.not_begun.ensures in
     let streams = c.args.streams in
     let untouched : IsUntouched g.D.Device.honest g.D.Device.disk g.D.Device.size g.D.Device.failures g.D.Device.goes_on g.R.Read.remaining g.W1.Write.contents g.W2.Write.contents
@@ -46,3 +48,13 @@ returns g c =
         untouched,
       )
     ]
+
+-- it tells where it stopped
+pub returns-in-Ok-load-clause-lines : goal.returns-in-Ok-load-clause-lines
+returns-in-Ok-load-clause-lines g c =
+    lines_told c.args.«module».now c.in-Ok-load.valid c.args.run.now.frames c.run_valid-valid.result.1.stopped c.lines_of-lines.result.items c.in-Ok-load.ensures.found.0
+    (subst (λ m. AreLinesBy c.args.«module».now m c.args.run.now.frames c.run_valid-valid.result.1.stopped c.lines_of-lines.result.items) c.run_valid-valid.ensures.module c.lines_of-lines.ensures)
+
+-- nothing is told where it didn't begin
+pub returns-clause-lines : goal.returns-clause-lines
+returns-clause-lines g c = subst (λ s. TellsLines c.args.«module».now c.args.run.now.frames s c.no_lines.result.items) (sym c.not_begun.ensures.stopped) c.no_lines.ensures

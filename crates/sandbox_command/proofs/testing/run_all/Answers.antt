@@ -25,14 +25,14 @@ loop-test-preserved g c =
     record {
       valid = c.run_test-kept.ensures.«module» ∙ c.loop-test.invariant.valid;
       ends = one_more
-          (λ m. HasRun g.P.Places g.P.Input.Read g.P.Output.Write c.args.run.now m c.args.random.now)
-          (λ m. HasFailed g.P.Places g.P.Input.Read g.P.Output.Write c.args.run.now m c.args.random.now)
+          (λ m. HasRun g.P.Places g.P.Input.Read g.P.Output.Write c.args.run.now c.args.files.«module».now m c.args.files.random.now)
+          (λ m. HasFailed g.P.Places g.P.Input.Read g.P.Output.Write c.args.run.now c.args.files.«module».now m c.args.files.random.now)
           c.args.valid c.loop-test.valid c.loop-test.have_run c.run_test-kept.result.1 c.if-have_run.have_run cases c.args.tests.now c.loop-test.test-index _ c.args.places.now c.loop-test.places c.run_test-kept.new.places
           c.loop-test.invariant.valid c.loop-test-test.true c.loop-test.invariant.ends c.run_test-kept.ensures.ends;
     }
 
 pub returns : goal.returns
 returns g c = AllEndAs-end
-    (HasRun g.P.Places g.P.Input.Read g.P.Output.Write c.args.run.now c.args.valid c.args.random.now)
-    (HasFailed g.P.Places g.P.Input.Read g.P.Output.Write c.args.run.now c.args.valid c.args.random.now)
+    (HasRun g.P.Places g.P.Input.Read g.P.Output.Write c.args.run.now c.args.files.«module».now c.args.valid c.args.files.random.now)
+    (HasFailed g.P.Places g.P.Input.Read g.P.Output.Write c.args.run.now c.args.files.«module».now c.args.valid c.args.files.random.now)
     c.loop-test.have_run c.args.tests.now c.loop-test.test-index c.args.places.now c.loop-test.places c.loop-test-test.false c.loop-test.invariant.ends

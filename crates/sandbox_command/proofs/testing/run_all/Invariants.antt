@@ -8,7 +8,7 @@ abbrev pub invariant-loop-test : goal.invariant-loop-test
 invariant-loop-test g l = record {
   valid : l.valid ≡ l.initial.valid;
   ends : AllEndAs
-      (HasRun g.P.Places g.P.Input.Read g.P.Output.Write l.run l.initial.valid l.random)
-      (HasFailed g.P.Places g.P.Input.Read g.P.Output.Write l.run l.initial.valid l.random)
+      (HasRun g.P.Places g.P.Input.Read g.P.Output.Write l.run l.files.«module».now l.initial.valid l.files.random.now)
+      (HasFailed g.P.Places g.P.Input.Read g.P.Output.Write l.run l.files.«module».now l.initial.valid l.files.random.now)
       l.have_run (take l.test-index l.tests) l.initial.places l.places;
 }

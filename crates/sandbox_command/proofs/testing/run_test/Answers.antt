@@ -1,4 +1,4 @@
-use Rattle.std.proofs.Common.{◌≡◌, Bool, true, false, Option, Some, None, inl, inr, refl, sym, ◌∙◌, ap, subst}
+use Rattle.std.proofs.Common.{◌≡◌, ℕ, List, Bool, true, false, Option, Some, None, inl, inr, refl, sym, ◌∙◌, ap, subst}
 use Rattle.std.proofs.lemmas.Option.{none-some}
 use Rattle.std.specs.declared.io.ErrorKind.{ErrorKind}
 use Rattle.std.specs.declared.io.ErrorKind.TheVariants.{OutOfMemory}
@@ -34,14 +34,14 @@ no_guest : (run : Run) (kind : ErrorKind) (outcome : Outcome) → (unread run ki
 no_guest run OutOfMemory outcome is = ran_refused (sym is)
 no_guest run kind outcome is = ran_refused (sym is)
 
-module _ {P I O V : Type 0} (places : Ghosts P I O V) (read : Reader I) (written : Writer O) (run : Run) (m : Module) (random : Text) (t : Test) where
-  abbrev Tested : (made tested : P) → Option Summary → Type 0
-  Tested made tested said = IsTestedOrUnread places read written run m random t made tested said
+module _ {P I O V : Type 0} (places : Ghosts P I O V) (read : Reader I) (written : Writer O) (run : Run) (bytes : List ℕ) (m : Module) (random : Text) (t : Test) where
+  abbrev Tested : (made tested : P) → Option Summary → (frames : Text) → Type 0
+  Tested made tested said frames = IsTestedOrUnread places read written run bytes m random t made tested said frames
 
   -- there is always something to be said
-  said_something : (made tested : P) (said : Option Summary) → said ≡ None → Tested made tested said → ⊥
-  said_something made tested said is (inl (kind, lacks, same)) = none-some _ (sym is ∙ same)
-  said_something made tested said is (inr it) = elim it.runs [
+  said_something : (made tested : P) (said : Option Summary) (frames : Text) → said ≡ None → Tested made tested said frames → ⊥
+  said_something made tested said frames is (inl (kind, lacks, same, none)) = none-some _ (sym is ∙ same)
+  said_something made tested said frames is (inr it) = elim it.runs [
     | inl refused ↦ none-some _ (sym is ∙ (it.summary_is ∙ refused.summary))
     | inr on ↦ elim on.launched [
       | inl refused ↦ none-some _ (sym is ∙ (it.summary_is ∙ refused.summary))
@@ -50,22 +50,23 @@ module _ {P I O V : Type 0} (places : Ghosts P I O V) (read : Reader I) (written
   ]
 
   -- where a guest ran, its files could be read and made
-  was_tested : (made tested : P) (summary : Summary) (outcome : Outcome) → summary.end ≡ Ran outcome → Tested made tested (Some summary)
-      → IsTested places read written run m random t made tested (Some summary)
-  was_tested made tested summary outcome ran (inl (kind, lacks, same)) = absurd (no_guest run kind outcome (sym (ap end_in same) ∙ ran))
-  was_tested made tested summary outcome ran (inr it) = it
+  was_tested : (made tested : P) (summary : Summary) (frames : Text) (outcome : Outcome) → summary.end ≡ Ran outcome → Tested made tested (Some summary) frames
+      → IsTested places read written run bytes m random t made tested (Some summary) frames
+  was_tested made tested summary frames outcome ran (inl (kind, lacks, same, none)) = absurd (no_guest run kind outcome (sym (ap end_in same) ∙ ran))
+  was_tested made tested summary frames outcome ran (inr it) = it
 
-  ends : (has_run : Bool) (p made tested q : P) (report : O) (summary : Summary) → places.is_output t.report.now report → places.asked (Makes t.report.now) p made → Tested made tested (Some summary)
-      → IsTold places written has_run t.report.now report summary tested q
-      → OneEndsAs (HasRun places read written run m random) (HasFailed places read written run m random) has_run t p q
-  ends true p made tested q report summary its is_made ran_so it = record {
+  ends : (has_run : Bool) (p made tested q : P) (report : O) (summary : Summary) (frames : Text) → places.is_output t.report.now report → places.asked (Makes t.report.now) p made → Tested made tested (Some summary) frames
+      → IsTold places written has_run t.report.now report summary frames tested q
+      → OneEndsAs (HasRun places read written run bytes m random) (HasFailed places read written run bytes m random) has_run t p q
+  ends true p made tested q report summary frames its is_made ran_so it = record {
     report = report;
     is_its_report = its;
     made = made;
     is_made = is_made;
     summary = summary;
     tested = tested;
-    ran_so = was_tested made tested summary it.told.0.0 it.told.0.1 ran_so;
+    frames = frames;
+    ran_so = was_tested made tested summary frames it.told.0.0 it.told.0.1 ran_so;
     outcome = it.told.0.0;
     ran = it.told.0.1;
     printed = it.printed;
@@ -75,7 +76,7 @@ module _ {P I O V : Type 0} (places : Ghosts P I O V) (read : Reader I) (written
     tells = it.told.2;
     ended = it.ended;
   }
-  ends false p made tested q report summary its is_made ran_so it =
+  ends false p made tested q report summary frames its is_made ran_so it =
       inr (record {
         report = report;
         is_its_report = its;
@@ -83,6 +84,7 @@ module _ {P I O V : Type 0} (places : Ghosts P I O V) (read : Reader I) (written
         is_made = is_made;
         summary = summary;
         tested = tested;
+        frames = frames;
         ran_so = ran_so;
         printed = it.printed;
         asked_for = it.asked_for;
@@ -101,15 +103,17 @@ returns-in_default g c =
 pub returns-in_default-said : goal.returns-in_default-said
 returns-in_default-said g c =
     absurd (said_something g.P.Places g.P.Input.Read g.P.Output.Write
-    c.args.run.now c.args.valid c.args.random.now c.args.test c.make.new.self c.tested-valid.new.places c.tested-valid.result.1 c.in_default-said.is c.tested-valid.ensures.tested)
+    c.args.run.now c.args.files.«module».now c.args.valid c.args.files.random.now c.args.test c.make.new.self c.tested-valid.new.places c.tested-valid.result.1 c.tested-valid.result.2.items c.in_default-said.is c.tested-valid.ensures.tested)
 
 pub returns : goal.returns
 returns g c = record {
   «module» = c.tested-valid.ensures.«module»;
   ends = ends g.P.Places g.P.Input.Read g.P.Output.Write
-      c.args.run.now c.args.valid c.args.random.now c.args.test c.is_told_of_guest-has_run.result c.args.places.now c.make.new.self c.tested-valid.new.places _ c.in-Ok.report c.in-Some.summary
-      c.in-Ok.ensures.output c.make.ensures.asked
+      c.args.run.now c.args.files.«module».now c.args.valid c.args.files.random.now c.args.test c.is_told_of_guest-has_run.result c.args.places.now c.make.new.self c.tested-valid.new.places _ c.in-Ok.report c.in-Some.summary
+      c.as_slice.result.now c.in-Ok.ensures.output c.make.ensures.asked
+      (subst (λ (text : Text). IsTestedOrUnread g.P.Places g.P.Input.Read g.P.Output.Write
+      c.args.run.now c.args.files.«module».now c.args.valid c.args.files.random.now c.args.test c.make.new.self c.tested-valid.new.places (Some c.in-Some.summary) text) (sym c.as_slice.ensures.value)
       (subst (λ (s : Option Summary). IsTestedOrUnread g.P.Places g.P.Input.Read g.P.Output.Write
-      c.args.run.now c.args.valid c.args.random.now c.args.test c.make.new.self c.tested-valid.new.places s) c.in-Some.is c.tested-valid.ensures.tested)
+      c.args.run.now c.args.files.«module».now c.args.valid c.args.files.random.now c.args.test c.make.new.self c.tested-valid.new.places s c.tested-valid.result.2.items) c.in-Some.is c.tested-valid.ensures.tested))
       c.is_told_of_guest-has_run.ensures;
 }

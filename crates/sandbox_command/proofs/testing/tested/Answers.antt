@@ -1,4 +1,5 @@
-use Rattle.std.proofs.Common.{Some, ap, inl, inr, refl}
+use Rattle.std.proofs.Common.{Some, ap, inl, inr, refl, subst}
+use Rattle.sandbox_command.specs.Stopping.{AreLinesBy}
 use Rattle.sandbox_command.proofs.testing.tested.Goals as goal
 
 pub returns-in-Ok : goal.returns-in-Ok
@@ -21,9 +22,10 @@ returns-in-Ok g c =
         left = c.run_valid-valid.result.1;
         runs = c.run_valid-valid.ensures.runs;
         summary_is = refl;
+        are_lines = subst (λ m. AreLinesBy c.args.files.«module».now m c.args.run.now.frames c.run_valid-valid.result.1.stopped c.lines_of-frames.result.items) c.run_valid-valid.ensures.«module» c.lines_of-frames.ensures;
         ended = c.end.ensures;
       });
     }
 
 pub returns-in-Err : goal.returns-in-Err
-returns-in-Err g c = record { «module» = refl; tested = inl (_, c.in-Err.ensures, ap Some c.unread.ensures) }
+returns-in-Err g c = record { «module» = refl; tested = inl (_, c.in-Err.ensures, ap Some c.unread.ensures, c.no_lines.ensures) }

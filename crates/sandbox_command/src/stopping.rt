@@ -1,0 +1,182 @@
+//! Where a run stopped: the functions that were at work then, and the lines that tell of them.
+
+ghost use Rattle.std.specs.Prelude.{◌≡◌, ◌++◌, IfOk, OnOk, codes, take};
+ghost use Rattle.wasm_module.specs.declared.module.Module.{Module as ModuleValue};
+ghost use Rattle.module_survey.specs.Sites.{IsSite};
+ghost use Rattle.sandbox_command.specs.Stopping.{AreFrameLines, AreLinesBy, AreLinesOf, AreLinesOfNone, instruction_of};
+ghost use Rattle.sandbox_command.specs.Streams.{AppendsSome};
+ghost use Rattle.sandbox_words.specs.Request.{Text};
+
+use crate::output::{say, tell};
+use module_survey::add_site;
+use sandbox_core::Frame;
+use sandbox_words::Run;
+use std::alloc::Global;
+use std::io;
+use std::io::Write;
+use wasm_module::Module;
+
+/// The functions that were at work when a run stopped.
+#[derive(Drop)]
+pub struct Stopped {
+    /// How many they were; 0 after an exit, and of a run that could not begin.
+    pub depth: usize,
+    /// The innermost of them, the innermost first: as many as are told, or none where memory was refused.
+    pub innermost: Vec<Frame>,
+}
+
+/// A machine has no more functions at work.
+const MOST_FRAMES: usize = 65_536;
+
+/// Room for as many frames as a run tells; none where memory is refused.
+pub(crate) fn room_for(alloc: Global, run: &Run<'_>) -> Vec<Frame> {
+    let most = (run.frames as usize).min(MOST_FRAMES);
+    let mut room = Vec::new(alloc);
+    for _ in 0..most {
+        if room.push(Frame { own: 0, next: 0 }).is_err() {
+            return room;
+        }
+    }
+    room
+}
+
+/// What is told of a run that stopped with so many functions at work, of which the innermost are in the room.
+pub(crate) fn stopped_with(depth: usize, room: Vec<Frame>) -> Stopped
+    ensures depth { result.depth ≡ depth }
+    ensures innermost { result.innermost.items ≡ take depth room.items }
+{
+    let mut innermost = room;
+    innermost.truncate(depth);
+    Stopped { depth, innermost }
+}
+
+/// The instruction at which a function stands that has so many inside it and goes on with this one: a caller at its call.
+fn instruction_of(inside: usize, next: usize) -> usize
+    ensures { result ≡ instruction_of inside next }
+{
+    if inside == 0 {
+        next
+    } else {
+        next.saturating_sub(1)
+    }
+}
+
+/// Adds the line of a frame with so many inside it.
+fn add_frame(
+    text: &mut Vec<u8>,
+    bytes: &[u8],
+    module: &Module<'_>,
+    inside: usize,
+    frame: Frame,
+) -> io::Result<()>
+    ensures { OnOk result ((site : Text) × IsSite bytes.now «module».now frame.own (instruction_of inside frame.next) site
+        × (text.new.items ≡ text.old.items ++ (codes "frame:" ++ (site ++ codes "\n")))) }
+{
+    text.write_all(b"frame:")?;
+    add_site(text, bytes, module, frame.own, instruction_of(inside, frame.next))?;
+    text.write_all(b"\n")
+}
+
+/// Adds a line for each of these frames, the innermost first.
+fn add_frames(
+    text: &mut Vec<u8>,
+    bytes: &[u8],
+    module: &Module<'_>,
+    frames: &[Frame],
+) -> io::Result<()>
+    ensures { OnOk result ((lines : Text) × AreFrameLines bytes.now «module».now frames.now lines × (text.new.items ≡ text.old.items ++ lines)) }
+{
+    for inside in 0..frames.len() {
+        add_frame(text, bytes, module, inside, frames[inside])?;
+    }
+    Ok(())
+}
+
+/// The lines of a report that tell where a run of a module of these bytes stopped.
+pub(crate) fn frame_lines(
+    alloc: Global,
+    run: &Run<'_>,
+    bytes: &[u8],
+    module: &Module<'_>,
+    stopped: &Stopped,
+) -> io::Result<Vec<u8>>
+    ensures { IfOk result (λ text. AreLinesOf bytes.now «module».now run.now.frames stopped.now text.items) }
+{
+    let mut text = Vec::new(alloc);
+    if run.frames > 0 {
+        write!(text, "frames:{}\n", stopped.depth)?;
+        add_frames(&mut text, bytes, module, stopped.innermost.as_slice())?;
+    }
+    Ok(text)
+}
+
+/// The lines of the report of a run that didn't begin; none where it tells no frames.
+pub(crate) fn no_lines(alloc: Global, run: &Run<'_>) -> Vec<u8>
+    ensures { AreLinesOfNone result.items }
+{
+    if run.frames == 0 {
+        return Vec::new(alloc);
+    }
+    match Vec::from_slice(alloc, b"frames:0\n") {
+        Ok(text) => text,
+        Err(_) => Vec::new(alloc),
+    }
+}
+
+/// The lines of a report that tell where a run stopped; none where memory is refused.
+pub(crate) fn lines_of(
+    alloc: Global,
+    run: &Run<'_>,
+    bytes: &[u8],
+    module: &Module<'_>,
+    stopped: &Option<Stopped>,
+) -> Vec<u8>
+    ensures { AreLinesBy bytes.now «module».now run.now.frames stopped.now result.items }
+{
+    let Some(stopped) = stopped else {
+        return no_lines(alloc, run);
+    };
+    match frame_lines(alloc, run, bytes, module, stopped) {
+        Ok(text) => text,
+        Err(_) => Vec::new(alloc),
+    }
+}
+
+/// Prints the line of a frame.
+fn tell_frame<W: Write>(err: &mut W, site: &str)
+    ensures { AppendsSome (W.contents err.old) (W.contents err.new) }
+{
+    say(err, b"sandbox: at ");
+    say(err, site.as_bytes());
+    say(err, b"\n");
+}
+
+/// Prints the lines of a report that tell of frames as lines of the program's own.
+fn tell_lines<W: Write>(err: &mut W, lines: &str)
+    ensures { AppendsSome (W.contents err.old) (W.contents err.new) }
+{
+    for line in lines.lines() {
+        if let Some(site) = line.strip_prefix("frame:") {
+            tell_frame(err, site);
+        }
+    }
+}
+
+/// Prints how many functions were at work beside those that are told.
+fn tell_others<W: Write>(err: &mut W, depth: usize, told: usize)
+    ensures { AppendsSome (W.contents err.old) (W.contents err.new) }
+{
+    if told > 0 && depth > told {
+        tell(err, format_args!("and {} more", depth - told));
+    }
+}
+
+/// Prints where a run stopped, by the lines that its report has of it.
+pub(crate) fn tell_frames<W: Write>(err: &mut W, stopped: &Option<Stopped>, lines: &[u8])
+    ensures { AppendsSome (W.contents err.old) (W.contents err.new) }
+{
+    if let (Some(stopped), Ok(lines)) = (stopped, str::from_utf8(lines)) {
+        tell_lines(err, lines);
+        tell_others(err, stopped.depth, stopped.innermost.len());
+    }
+}
