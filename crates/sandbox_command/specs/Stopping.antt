@@ -1,6 +1,6 @@
 -- Where a run stopped: the lines of its report that tell of the functions that were at work then (`docs/USING.md`, "The report of a
 -- run"). Which they are says `TellsFrames` (`crates/observed_run/specs`); here stands what a line says of one.
-use Rattle.std.specs.Prelude.{◌≡◌, ◌⊎◌, ◌-◌, ◌==◌, ℕ, List, [], ◌∷◌, ◌++◌, length, Option, Some, None, codes, decimal, if◌then◌else◌}
+use Rattle.std.specs.Prelude.{◌≡◌, ◌⊎◌, ◌-◌, ◌==◌, ℕ, zero, suc, List, [], ◌∷◌, ◌++◌, length, Option, Some, None, codes, decimal, if◌then◌else◌}
 use Rattle.wasm_module.specs.declared.module.Module.{Module}
 use Rattle.wasm_module.specs.Module.{Spells}
 use Rattle.wasm_interp.specs.declared.frames.Frame.{Frame}
@@ -21,8 +21,9 @@ pub data AreFrameLines (bytes : List ℕ) (m : Module) : List Frame → Text →
 
 -- how many functions were at work, and a line for each that is told; without frames nothing
 abbrev pub AreLinesOf : List ℕ → Module → (most : ℕ) → Stopped → Text → Type 0
-AreLinesOf bytes m most stopped text = if most == 0 then text ≡ [] else
-    ((lines : Text) × AreFrameLines bytes m stopped.innermost.items lines × (text ≡ (codes "frames:" ++ (decimal stopped.depth ++ codes "\n")) ++ lines))
+AreLinesOf bytes m zero stopped text = text ≡ []
+AreLinesOf bytes m (suc most) stopped text =
+    (lines : Text) × AreFrameLines bytes m stopped.innermost.items lines × (text ≡ (codes "frames:" ++ (decimal stopped.depth ++ codes "\n")) ++ lines)
 
 -- what is told of a run that didn't begin
 abbrev pub AreLinesOfNone : Text → Type 0

@@ -151,14 +151,22 @@ fn tell_frame<W: Write>(err: &mut W, site: &str)
     say(err, b"\n");
 }
 
+/// Prints a line of a report that tells of a frame as a line of the program's own.
+fn tell_site<W: Write>(err: &mut W, line: &str)
+    ensures { AppendsSome (W.contents err.old) (W.contents err.new) }
+{
+    match line.strip_prefix("frame:") {
+        Some(site) => tell_frame(err, site),
+        None => say(err, b""),
+    }
+}
+
 /// Prints the lines of a report that tell of frames as lines of the program's own.
 fn tell_lines<W: Write>(err: &mut W, lines: &str)
     ensures { AppendsSome (W.contents err.old) (W.contents err.new) }
 {
     for line in lines.lines() {
-        if let Some(site) = line.strip_prefix("frame:") {
-            tell_frame(err, site);
-        }
+        tell_site(err, line);
     }
 }
 
@@ -171,12 +179,20 @@ fn tell_others<W: Write>(err: &mut W, depth: usize, told: usize)
     }
 }
 
+/// Prints the functions at work that are told, and how many others there were.
+fn tell_all<W: Write>(err: &mut W, stopped: &Stopped, lines: &str)
+    ensures { AppendsSome (W.contents err.old) (W.contents err.new) }
+{
+    tell_lines(err, lines);
+    tell_others(err, stopped.depth, stopped.innermost.len());
+}
+
 /// Prints where a run stopped, by the lines that its report has of it.
 pub(crate) fn tell_frames<W: Write>(err: &mut W, stopped: &Option<Stopped>, lines: &[u8])
     ensures { AppendsSome (W.contents err.old) (W.contents err.new) }
 {
-    if let (Some(stopped), Ok(lines)) = (stopped, str::from_utf8(lines)) {
-        tell_lines(err, lines);
-        tell_others(err, stopped.depth, stopped.innermost.len());
+    match (stopped, str::from_utf8(lines)) {
+        (Some(stopped), Ok(lines)) => tell_all(err, stopped, lines),
+        _ => say(err, b""),
     }
 }

@@ -139,7 +139,7 @@ fn tested<'m, P: Places>(
 ) -> (Valid<'m>, Option<Summary>, Vec<u8>)
     requires { AreSupplies run.now supplies.now }
     ensures module { result.0 ≡ valid.entry }
-    ensures tested { IsTestedOrUnread P.Places P.Input.Read P.Output.Write run.now files.«module».now valid.entry files.random.now test.entry
+    ensures tested { IsTestedOrUnread P.Places P.Input.Read P.Output.Write run.now files.entry.«module».now valid.entry files.entry.random.now test.entry
         places.old places.new result.1 result.2.items }
 {
     match prepare(alloc, places, run, test) {
@@ -191,8 +191,8 @@ fn run_test<'m, P: Places>(
     requires { AreSupplies run.now supplies.now }
     ensures module { result.0 ≡ valid.entry }
     ensures ends { OneEndsAs
-        (HasRun P.Places P.Input.Read P.Output.Write run.now files.«module».now valid.entry files.random.now)
-        (HasFailed P.Places P.Input.Read P.Output.Write run.now files.«module».now valid.entry files.random.now)
+        (HasRun P.Places P.Input.Read P.Output.Write run.now files.entry.«module».now valid.entry files.entry.random.now)
+        (HasFailed P.Places P.Input.Read P.Output.Write run.now files.entry.«module».now valid.entry files.entry.random.now)
         result.1 test.entry places.old places.new }
 {
     let Ok(report) = places.make(test.report) else {
@@ -219,8 +219,8 @@ fn run_all<'m, P: Places>(
 ) -> bool
     requires { AreSupplies run.now supplies.now }
     ensures { AllEndAs
-        (HasRun P.Places P.Input.Read P.Output.Write run.now files.«module».now valid.entry files.random.now)
-        (HasFailed P.Places P.Input.Read P.Output.Write run.now files.«module».now valid.entry files.random.now)
+        (HasRun P.Places P.Input.Read P.Output.Write run.now files.entry.«module».now valid.entry files.entry.random.now)
+        (HasFailed P.Places P.Input.Read P.Output.Write run.now files.entry.«module».now valid.entry files.entry.random.now)
         result tests.now places.old places.new }
 {
     let mut valid = valid;

@@ -1,4 +1,7 @@
-use Rattle.std.proofs.Common.{◌∙◌}
+use Rattle.std.proofs.Common.{◌∙◌, ℕ, List, take, ap}
+use Rattle.sandbox_command.specs.Reporting.{from_here}
+use Rattle.wasm_interp.specs.declared.frames.Frame.{Frame}
+use Rattle.sandbox_command.proofs.Frames.{room_left}
 use Rattle.sandbox_command.proofs.Launching.{no_session, ran}
 use Rattle.sandbox_command.proofs.program.launch.Goals as goal
 
@@ -7,9 +10,10 @@ pub returns-in-Ok-clause-launches : goal.returns-in-Ok-clause-launches
 returns-in-Ok-clause-launches g c =
     let ended = c.reported.ensures in
     ran g.D.Device g.R.Read.remaining g.W1.Write.contents g.W2.Write.contents c.args.run.now c.args.valid c.args.parts
-    c.new-taken.result c.new-given.result c.new-complaints.result c.new-taken.ensures c.new-given.ensures c.new-complaints.ensures
+    c.new-taken.result c.new-given.result c.new-complaints.result c.new-taken.ensures (c.new-given.ensures ∙ ap (λ (n : ℕ). from_here n c.args.parts.out) c.output_of-most.ensures) (c.new-complaints.ensures ∙ ap (λ (n : ℕ). from_here n c.args.parts.err) c.output_of-most.ensures)
     c.in-Ok.session c.in-Ok.ensures.opens c.in-Ok.ensures.shares c.run_within-told.result.report c.run_within-told.result.tally c.run_within-told.new.room c.run_within-told.result.depth c.run_within-told.ensures.told
-    c.stopped_with-stopped.result c.stopped_with-stopped.ensures.depth c.stopped_with-stopped.ensures.innermost
+    c.stopped_with-stopped.result c.stopped_with-stopped.ensures.depth
+    (c.stopped_with-stopped.ensures.innermost ∙ ap (λ (fs : List Frame). take c.run_within-told.result.depth fs) (room_left c.room_for-room.result.len c.run_within-told.new.room _ (c.run_within-told.auto.room ∙ c.as_mut_slice.ensures.len)))
     c.reported.result ended.stopped ended.ends ended.summary ended.device ended.input ended.out ended.err
 
 -- there is no session
@@ -17,7 +21,7 @@ pub returns-in-Err-clause-launches : goal.returns-in-Err-clause-launches
 returns-in-Err-clause-launches g c =
     let ended = c.no_session.ensures in
     no_session g.D.Device g.R.Read.remaining g.W1.Write.contents g.W2.Write.contents c.args.run.now c.args.valid c.args.parts
-    c.new-taken.result c.new-given.result c.new-complaints.result c.new-taken.ensures c.new-given.ensures c.new-complaints.ensures
+    c.new-taken.result c.new-given.result c.new-complaints.result c.new-taken.ensures (c.new-given.ensures ∙ ap (λ (n : ℕ). from_here n c.args.parts.out) c.output_of-most.ensures) (c.new-complaints.ensures ∙ ap (λ (n : ℕ). from_here n c.args.parts.err) c.output_of-most.ensures)
     c.in-Err.field-0 c.in-Err.ensures.hands_back c.in-Err.ensures.refused
     c.no_session.result ended.ends ended.flushed ended.summary ended.device ended.input ended.out ended.err
 

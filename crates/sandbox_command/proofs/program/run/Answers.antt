@@ -17,13 +17,13 @@ returns-in-Ok-load-clause-runs g c =
 -- the words are refused, or the bytes
 pub returns-clause-runs : goal.returns-clause-runs
 returns-clause-runs g c =
-    let ended = c.not_begun.ensures in
+    let ended = c.not_begun-left.ensures in
     let streams = c.args.streams in
     let untouched : IsUntouched g.D.Device.honest g.D.Device.disk g.D.Device.size g.D.Device.failures g.D.Device.goes_on g.R.Read.remaining g.W1.Write.contents g.W2.Write.contents
-        c.args.device streams.input streams.out streams.err c.not_begun.result = record {
+        c.args.device streams.input streams.out streams.err c.not_begun-left.result = record {
       device_is = ended.device;
       flushed = ended.flushed;
-      streams = kept_streams g.W1.Write.contents g.W2.Write.contents streams.input streams.out streams.err c.not_begun.result ended.input ended.out ended.err;
+      streams = kept_streams g.W1.Write.contents g.W2.Write.contents streams.input streams.out streams.err c.not_begun-left.result ended.input ended.out ended.err;
     } in
     elim c.match-supplied.branch [
       | in-Ok+in-Err-load w ↦ inr (inl (
@@ -53,8 +53,8 @@ returns-clause-runs g c =
 pub returns-in-Ok-load-clause-lines : goal.returns-in-Ok-load-clause-lines
 returns-in-Ok-load-clause-lines g c =
     lines_told c.args.«module».now c.in-Ok-load.valid c.args.run.now.frames c.run_valid-valid.result.1.stopped c.lines_of-lines.result.items c.in-Ok-load.ensures.found.0
-    (subst (λ m. AreLinesBy c.args.«module».now m c.args.run.now.frames c.run_valid-valid.result.1.stopped c.lines_of-lines.result.items) c.run_valid-valid.ensures.module c.lines_of-lines.ensures)
+    (subst (λ m. AreLinesBy c.args.«module».now m c.args.run.now.frames c.run_valid-valid.result.1.stopped c.lines_of-lines.result.items) (c.«module».ensures.value ∙ c.run_valid-valid.ensures.module) c.lines_of-lines.ensures)
 
 -- nothing is told where it didn't begin
 pub returns-clause-lines : goal.returns-clause-lines
-returns-clause-lines g c = subst (λ s. TellsLines c.args.«module».now c.args.run.now.frames s c.no_lines.result.items) (sym c.not_begun.ensures.stopped) c.no_lines.ensures
+returns-clause-lines g c = subst (λ s. TellsLines c.args.«module».now c.args.run.now.frames s c.no_lines.result.items) (sym c.not_begun-left.ensures.stopped) c.no_lines.ensures

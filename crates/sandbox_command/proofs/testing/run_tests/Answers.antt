@@ -26,8 +26,8 @@ returns-then-run_all-clause-runs g c =
       inl (
         refl,
         went_all
-            (HasRun g.P.Places g.P.Input.Read g.P.Output.Write c.args.run.now c.in-Ok-load.valid c.args.random.now)
-            (HasFailed g.P.Places g.P.Input.Read g.P.Output.Write c.args.run.now c.in-Ok-load.valid c.args.random.now)
+            (HasRun g.P.Places g.P.Input.Read g.P.Output.Write c.args.run.now c.args.«module».now c.in-Ok-load.valid c.args.random.now)
+            (HasFailed g.P.Places g.P.Input.Read g.P.Output.Write c.args.run.now c.args.«module».now c.in-Ok-load.valid c.args.random.now)
             c.run_all.result c.args.tests.now _ _ c.if-run_all.true c.run_all.ensures,
       ),
     ))
@@ -43,8 +43,8 @@ returns-in-Ok-load-clause-runs g c =
       inr (
         c.refuse_file.ensures.status,
         failed_some
-            (HasRun g.P.Places g.P.Input.Read g.P.Output.Write c.args.run.now c.in-Ok-load.valid c.args.random.now)
-            (HasFailed g.P.Places g.P.Input.Read g.P.Output.Write c.args.run.now c.in-Ok-load.valid c.args.random.now)
+            (HasRun g.P.Places g.P.Input.Read g.P.Output.Write c.args.run.now c.args.«module».now c.in-Ok-load.valid c.args.random.now)
+            (HasFailed g.P.Places g.P.Input.Read g.P.Output.Write c.args.run.now c.args.«module».now c.in-Ok-load.valid c.args.random.now)
             c.run_all.result c.args.tests.now _ _ c.if-run_all.false c.run_all.ensures,
       ),
     ))

@@ -1,4 +1,4 @@
-use Rattle.std.proofs.Common.{Some, ap, inl, inr, refl, subst}
+use Rattle.std.proofs.Common.{Some, ◌∙◌, ap, inl, inr, refl, subst}
 use Rattle.sandbox_command.specs.Stopping.{AreLinesBy}
 use Rattle.sandbox_command.proofs.testing.tested.Goals as goal
 
@@ -22,7 +22,7 @@ returns-in-Ok g c =
         left = c.run_valid-valid.result.1;
         runs = c.run_valid-valid.ensures.runs;
         summary_is = refl;
-        are_lines = subst (λ m. AreLinesBy c.args.files.«module».now m c.args.run.now.frames c.run_valid-valid.result.1.stopped c.lines_of-frames.result.items) c.run_valid-valid.ensures.«module» c.lines_of-frames.ensures;
+        are_lines = subst (λ m. AreLinesBy c.args.files.«module».now m c.args.run.now.frames c.run_valid-valid.result.1.stopped c.lines_of-frames.result.items) (c.«module».ensures.value ∙ c.run_valid-valid.ensures.«module») c.lines_of-frames.ensures;
         ended = c.end.ensures;
       });
     }

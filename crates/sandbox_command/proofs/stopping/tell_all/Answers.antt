@@ -1,0 +1,7 @@
+use Rattle.sandbox_command.proofs.Lines.{lines_then}
+use Rattle.sandbox_command.proofs.stopping.tell_all.Goals as goal
+
+pub returns : goal.returns
+returns g c =
+    let errs = g.W.Write.contents in
+    lines_then (errs c.args.err.now) (errs c.tell_lines.new.err) (errs c.tell_others.new.err) c.tell_lines.ensures c.tell_others.ensures
