@@ -8,7 +8,6 @@ mod Unbegun
 mod Bounds
 mod Finishing
 mod Frames
-pub mod Frames
 mod AfterFlush
 mod Seeding
 mod Launching

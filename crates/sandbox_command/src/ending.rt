@@ -27,21 +27,38 @@ pub(crate) trait Failed {
         ensures line { AppendsSome (W.contents err.old) (W.contents err.new) };
 }
 
+/// Prints the line of a failure, and gives the status.
+fn say_failure<W: Write>(err: &mut W, failure: Failure) -> u8
+    ensures status { result ≡ failure_status failure }
+    ensures line { AppendsSome (W.contents err.old) (W.contents err.new) }
+{
+    match failure {
+        Failure::Volume(VolumeFault::Memory) => out_of_memory(err),
+        failure => {
+            tell(err, failure);
+            FAULT
+        }
+    }
+}
+
+/// Prints what a failure means for a command.
+fn tell_of_failure<W: Write>(err: &mut W, failure: Failure, about: &About<'_>)
+    ensures { AppendsSome (W.contents err.old) (W.contents err.new) }
+{
+    match failure {
+        Failure::Volume(fault) => about.tell_of_volume(err, fault),
+        Failure::Tree(errno) => about.tell_of_errno(err, errno),
+        Failure::Stream => about.tell_of_stream(err),
+    }
+}
+
 impl Failed for Failure {
     ghost fails_with = { failure_status };
 
     fn say<W: Write>(&self, err: &mut W, about: &About<'_>) -> u8 {
-        let failure = *self;
-        match failure {
-            Failure::Volume(VolumeFault::Memory) => return out_of_memory(err),
-            _ => tell(err, failure),
-        }
-        match failure {
-            Failure::Volume(fault) => about.tell_of_volume(err, fault),
-            Failure::Tree(errno) => about.tell_of_errno(err, errno),
-            Failure::Stream => about.tell_of_stream(err),
-        }
-        FAULT
+        let status = say_failure(err, *self);
+        tell_of_failure(err, *self, about);
+        status
     }
 }
 
@@ -69,8 +86,8 @@ impl Failed for ExportFailure {
     }
 }
 
-/// Prints why an archive is refused, and gives the status.
-fn refuse_why<W: Write>(err: &mut W, why: Why, about: &About<'_>) -> u8
+/// Prints the line of an archive that is refused, and gives the status.
+fn say_why<W: Write>(err: &mut W, why: Why) -> u8
     ensures status { result ≡ why_status why }
     ensures line { AppendsSome (W.contents err.old) (W.contents err.new) }
 {
@@ -78,10 +95,19 @@ fn refuse_why<W: Write>(err: &mut W, why: Why, about: &About<'_>) -> u8
         Why::Memory => out_of_memory(err),
         why => {
             tell(err, why);
-            tell_of_archive(err, why, about);
             FAULT
         }
     }
+}
+
+/// Prints why an archive is refused, and gives the status.
+fn refuse_why<W: Write>(err: &mut W, why: Why, about: &About<'_>) -> u8
+    ensures status { result ≡ why_status why }
+    ensures line { AppendsSome (W.contents err.old) (W.contents err.new) }
+{
+    let status = say_why(err, why);
+    tell_of_archive(err, why, about);
+    status
 }
 
 /// Prints what it means that an archive is refused so.

@@ -3,4 +3,4 @@ use Rattle.sandbox_command.proofs.Given.{given, refused}
 use Rattle.sandbox_command.proofs.host_places.HostPlacesPlaces.cut.Goals as goal
 
 pub returns : goal.returns
-returns c = record { asked = tt; refused = refused (Cuts c.args.name.now) c.cut_apart.result; output = given c.args.name.now (λ x. x) c.cut_apart.result }
+returns c = record { asked = tt; refused = refused (Cuts c.args.name.now) c.cut_apart-done.result; output = given c.args.name.now (λ x. x) c.cut_apart-done.result }

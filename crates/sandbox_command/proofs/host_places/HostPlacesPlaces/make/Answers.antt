@@ -3,4 +3,4 @@ use Rattle.sandbox_command.proofs.Given.{given, refused}
 use Rattle.sandbox_command.proofs.host_places.HostPlacesPlaces.make.Goals as goal
 
 pub returns : goal.returns
-returns c = record { asked = tt; refused = refused (Makes c.args.name.now) c.made.result; output = given c.args.name.now (λ x. x) c.made.result }
+returns c = record { asked = tt; refused = refused (Makes c.args.name.now) c.made-done.result; output = given c.args.name.now (λ x. x) c.made-done.result }

@@ -4,4 +4,4 @@ use Rattle.sandbox_command.proofs.Given.{given, refused}
 use Rattle.sandbox_command.proofs.host_places.HostPlacesPlaces.text.Goals as goal
 
 pub returns : goal.returns
-returns c = record { asked = tt; refused = refused (Reads c.args.name.now) c.text_of.result; text = given c.args.name.now string_bytes c.text_of.result }
+returns c = record { asked = tt; refused = refused (Reads c.args.name.now) c.text_of-done.result; text = given c.args.name.now string_bytes c.text_of-done.result }
