@@ -10,16 +10,20 @@ use Rattle.vol_tree.specs.Superblock.{version_number, IsNoVersion}
 use Rattle.vol_tree.specs.Tree.{Tree}
 use Rattle.vol_tree.specs.Stands.{StandsAs}
 use Rattle.vol_tree.specs.Opening.{StandsOn}
+use Rattle.vol_tree.specs.Opened.{GoesOn}
+use Rattle.vol_tree.proofs.GoingOn.{goes_same, goes_then}
 use Rattle.vol_tree.proofs.OneTree.{version_is}
+use Rattle.wasm_module.specs.declared.module.Module.{Module}
 use Rattle.sandbox_device.specs.internal.RecordedLaws.{now_may_stay}
 use Rattle.sandbox_device.specs.declared.recorded_device.RecordedDevice.{RecordedDevice}
 use Rattle.sandbox_host.specs.declared.numbers.Told.{Told}
 use Rattle.sandbox_host.specs.declared.held.Ended.{Ended}
+use Rattle.sandbox_host.specs.declared.supplies.Supplies.{Supplies}
 use Rattle.sandbox_host.specs.declared.volumes.Origin.{Origin}
 use Rattle.sandbox_host.specs.declared.volumes.Origin.TheVariants.{Fresh, Sectors}
-use Rattle.sandbox_host.specs.Host.{State, HostVolume, Commits, size_of}
+use Rattle.sandbox_host.specs.Host.{State, HostVolume, Commits, known, size_of}
 use Rattle.sandbox_host.specs.Volumes.{IsVolume, RefusesSectors}
-use Rattle.sandbox_host.specs.Sessions.{Finishes, returned_device, commit_number}
+use Rattle.sandbox_host.specs.Sessions.{Begins, Finishes, returned_device, commit_number}
 use Rattle.sandbox_host.specs.Headline.{Resumed}
 use Rattle.sandbox_host.specs.Carried.{OpensAgain, FitsDevice, IsCarried, IsCarriedOn}
 
@@ -81,19 +85,28 @@ carried one s e fits ends =
 pub record Same (old new : HostVolume) : Type 0 where
   pub numbers : new.numbers ≡ old.numbers
   pub size : size_of new.device ≡ size_of old.device
+  pub goes : GoesOn known.device.goes_on old new
+
+pub same_then : (a b c : HostVolume) → Same a b → Same b c → Same a c
+same_then a b c first next = record {
+  numbers = next.numbers ∙ first.numbers;
+  size = next.size ∙ first.size;
+  goes = goes_then known.device.goes_on a b c first.numbers first.goes next.goes;
+}
 
 pub resumed_same : (s s' : State) (rs : List (Told × State)) → Resumed s rs s' → Same s.host.volume s'.host.volume
 resumed_same s s' [] is = record {
   numbers = ap (λ (t : State). t.host.volume.numbers) is;
   size = ap (λ (t : State). size_of t.host.volume.device) is;
+  goes = goes_same known.device.goes_on s.host.volume s'.host.volume (ap (λ (t : State). t.host.volume.device) is);
 }
 resumed_same s s' (r ∷ rs) is =
     let more = resumed_same r.1 s' rs is.1 in
-    record { numbers = more.numbers ∙ is.0.1.resumes.numbers; size = more.size ∙ is.0.1.resumes.size }
+    same_then s.host.volume r.1.host.volume s'.host.volume (record { numbers = is.0.1.resumes.numbers; size = is.0.1.resumes.size; goes = is.0.1.resumes.goes }) more
 
 fits_at_first : (origin : Origin) (v : HostVolume) → IsVolume origin v → FitsDevice v
 fits_at_first Fresh v is = record { room = omega (arith, is.size, ap (λ (n : Superblock). n.sectors) is.numbers); few = omega (arith, is.size) }
-fits_at_first (Sectors sectors recorded) v is = record { room = omega (arith, is.size, is.stands.room); few = omega (arith, is.size, is.few) }
+fits_at_first (Sectors sectors recorded) v is = record { room = omega (arith, is.is_in.size, is.is_in.stands.room); few = omega (arith, is.is_in.size, is.is_in.few) }
 
 fits_then : (old new : HostVolume) → Same old new → FitsDevice old → FitsDevice new
 fits_then old new same fits = record {
@@ -101,11 +114,19 @@ fits_then old new same fits = record {
   few = omega (arith, same.size, fits.few);
 }
 
+-- a session that begins has only asked its volume
+pub begun_same : (m : Module) (supplies : Supplies) (origin : Origin) (s : State) (begins : Begins m supplies origin s) → Same begins.volume s.host.volume
+begun_same m supplies origin s begins = record {
+  numbers = begins.shares.reads.kept.numbers;
+  size = begins.shares.reads.kept.size;
+  goes = begins.shares.reads.goes;
+}
+
 pub carried_on : OneTree → IsCarriedOn
 carried_on one m supplies origin s s' rs e begins resumed ends =
     let first : HostVolume = begins.volume in
     let last : HostVolume = s'.host.volume in
     let resumes = resumed_same s s' rs resumed in
-    let same : Same first last = record { numbers = resumes.numbers ∙ begins.shares.reads.kept.numbers; size = resumes.size ∙ begins.shares.reads.kept.size } in
+    let same : Same first last = same_then first s.host.volume last (begun_same m supplies origin s begins) resumes in
     let again = carried one s' e (fits_then first last same (fits_at_first origin first begins.is_volume)) ends in
     ((left_by s' e ends).size ∙ same.size, subst (λ (n : Superblock). OpensAgain e.device.sectors n last.tree) same.numbers again)

@@ -88,7 +88,7 @@ closed_one one v T (r ∷ rs) c d U (inl is) stood stands = inl (subst (StandsAs
 closed_one one v T (r ∷ rs) c d U (inr is) stood stands = inr (closed_one one v r.1.host.volume.tree rs c d U is stood stands)
 
 -- the device that a commit hands back
-committed : (v : HostVolume) (result : Result HostVolume (Refused RecordedDevice)) → (commits : Commits v result) → returned_device result ≡ commits.new.device
+pub committed : (v : HostVolume) (result : Result HostVolume (Refused RecordedDevice)) → (commits : Commits v result) → returned_device result ≡ commits.new.device
 committed v (Ok w) commits = ap (λ (x : HostVolume). x.device) commits.handed_back
 committed v (Err r) commits = commits.handed_back.0
 
@@ -99,7 +99,7 @@ all_left one m supplies sectors recorded s s' rs begins resumed d now =
     ⊎_elim (λ none. absurd none) (λ is. is) (resumes_left one begins.volume.numbers (λ i. ⊥) (λ i j U none a b. none) s s' rs resumed begins.shares.reads.kept.numbers at_first d now)
   where
     at_first : (i : Image) → Left s.host.volume.device i → ⊥ ⊎ StandsAs i begins.volume.numbers s.host.volume.tree
-    at_first i then = inr (subst (StandsAs i begins.volume.numbers) (sym (begins.shares.reads.tree tt)) (begins.is_volume.since i (⊎_elim (λ old. old) (λ none. absurd none) ((begins.shares.reads.crash tt).since 0 i (omega arith) then))))
+    at_first i then = inr (subst (StandsAs i begins.volume.numbers) (sym (begins.shares.reads.tree tt)) (begins.is_volume.is_in.since i (⊎_elim (λ old. old) (λ none. absurd none) ((begins.shares.reads.crash tt).since 0 i (omega arith) then))))
 
 numbers_then : (m : Module) (supplies : Supplies) (origin : Origin) (s s' : State) (rs : List (Told × State)) (begins : Begins m supplies origin s) → Resumed s rs s' → s'.host.volume.numbers ≡ begins.volume.numbers
 numbers_then m supplies origin s s' rs begins resumed = (resumed_same s s' rs resumed).numbers ∙ begins.shares.reads.kept.numbers

@@ -1,7 +1,7 @@
 -- What a handle has, and what opening, resuming and finishing make of it. The first part reads a `Held` (a loaded
 -- module, a session that runs, one that is finished, or nothing) by its cases; in the second `Begins`, `Paused` and
 -- `Finishes` tie these calls to the session of `sandbox_core`.
-use Rattle.std.specs.Prelude.{◌≡◌, ◌-◌, ◌^◌, ◌==◌, ℕ, Bool, true, false, List, [], length, take, drop, ◌++◌, min, Option, Some, None, Result, Ok, Err, if◌then◌else◌}
+use Rattle.std.specs.Prelude.{◌≡◌, ◌-◌, ◌^◌, ◌==◌, ℕ, Bool, true, false, List, [], length, take, drop, ◌++◌, min, max, Option, Some, None, Result, Ok, Err, if◌then◌else◌}
 use Rattle.vol_sector.specs.declared.fault.Refused.{Refused}
 use Rattle.wasm_module.specs.declared.module.Module.{Module}
 use Rattle.wasm_module.specs.Module.{Spells}
@@ -21,7 +21,7 @@ use Rattle.sandbox_host.specs.declared.session.HostSession.{HostSession}
 use Rattle.sandbox_host.specs.declared.session.HostSession.TheVariants.{Own, Shared}
 use Rattle.wasm_interp.specs.Shared.{Ready}
 use Rattle.sandbox_host.specs.Numbers.{told_pause}
-use Rattle.sandbox_host.specs.Supplies.{most_output, is_known, settings_of}
+use Rattle.sandbox_host.specs.Supplies.{most_output, most_values, is_known, settings_of}
 use Rattle.sandbox_host.specs.Host.{HostVolume, Bytes, State, Opens, Shares, Resumes, Commits}
 use Rattle.sandbox_host.specs.Volumes.{IsVolume}
 
@@ -180,6 +180,7 @@ pub record Begins (m : Module) (supplies : Supplies) (origin : Origin) (s : Stat
   pub errors_bound : err.most ≡ most_output supplies.limits
   pub output_open : out.full ≡ false
   pub errors_open : err.full ≡ false
+  pub values : s.machine.most_values ≡ max (most_values supplies.limits) 4097
   pub opens : Opens m (given (settings_of supplies) volume supplies.input out err) s
   pub shares : Shares (given (settings_of supplies) volume supplies.input out err) s
 

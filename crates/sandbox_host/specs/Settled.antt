@@ -18,6 +18,7 @@ use Rattle.sandbox_host.specs.declared.volumes.Origin.TheVariants.{Sectors}
 use Rattle.sandbox_host.specs.Host.{State}
 use Rattle.sandbox_host.specs.Sessions.{Begins, Paused, Finishes}
 use Rattle.sandbox_host.specs.Headline.{Resumed}
+use Rattle.sandbox_host.specs.Recording.{KeepsRecord}
 
 -- the image stands for the tree at first, or for that after one of these resumes
 abbrev pub StandsForOne : Superblock → Tree → List (Told × State) → Image → Type 0
@@ -38,6 +39,17 @@ IsSettledSoFar = (m : Module) (supplies : Supplies) (sectors : Bor (List (List �
     → (begins : Begins m supplies (Sectors sectors recorded) s) → Resumed s rs s'
     → k ≤ length (done_on s'.host.volume.device) → LeftBy (initial_image s'.host.volume.device) (take k (done_on s'.host.volume.device)) c
     → StandsForOne begins.volume.numbers begins.volume.tree rs c
+
+-- What a host is told of a session's record only grows: after more resumes, and at the end, it begins with what was told before.
+abbrev pub IsRecordKeptSoFar : Type 0
+IsRecordKeptSoFar = (m : Module) (supplies : Supplies) (sectors : Bor (List (List ℕ))) (recorded : Bool) (s old new : State) (rs more : List (Told × State))
+    → Begins m supplies (Sectors sectors recorded) s → Resumed s rs old → Resumed old more new
+    → KeepsRecord sectors.now recorded old.host.volume.device new.host.volume.device
+
+abbrev pub IsRecordKept : Type 0
+IsRecordKept = (m : Module) (supplies : Supplies) (sectors : Bor (List (List ℕ))) (recorded : Bool) (s s' : State) (rs : List (Told × State)) (e : Ended) (number : ℕ)
+    → Begins m supplies (Sectors sectors recorded) s → Resumed s rs s' → Finishes s' e number
+    → KeepsRecord sectors.now recorded s'.host.volume.device e.device
 
 -- a call that syncs was answered with success
 pub record TellsSync (told : Told) : Type 0 where

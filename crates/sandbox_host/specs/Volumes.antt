@@ -1,6 +1,6 @@
 -- The volume of a guest: a fresh one of 202 sectors and 16 slots, or that of sectors that a host in C hands in. For
 -- either `Origin`, `IsVolume` says what is opened and `RefusesVolume` why it isn't.
-use Rattle.std.specs.Prelude.{◌≡◌, ◌≤◌, ◌<◌, ◌==◌, ℕ, List, length, Option, Some, None, true, false, if◌then◌else◌}
+use Rattle.std.specs.Prelude.{◌≡◌, ◌≤◌, ◌<◌, ◌==◌, ℕ, Bool, List, length, Option, Some, None, true, false, if◌then◌else◌}
 use Rattle.vol_sector.specs.Disk.{Image}
 use Rattle.vol_sector.specs.Record.{image_of}
 use Rattle.vol_sector.specs.declared.fault.VolumeFault.{VolumeFault}
@@ -37,9 +37,15 @@ pub record IsIn (sectors : List (List ℕ)) (v : HostVolume) : Type 0 where
   pub working : Works v
   pub since : (c : Image) → (disk_of v.device).left_since 0 c → StandsAs c v.numbers v.tree
 
+-- Such a volume, on a device that began with these sectors, and that records what is done just where a record was asked for.
+pub record IsOpened (sectors : List (List ℕ)) (recorded : Bool) (v : HostVolume) : Type 0 where
+  pub is_in : IsIn sectors v
+  pub began : v.device.history.first ≡ sectors
+  pub is_recorded : v.device.is_recorded ≡ recorded
+
 abbrev pub IsVolume : Origin → HostVolume → Type 0
 IsVolume Fresh v = IsNew v
-IsVolume (Sectors sectors recorded) v = IsIn sectors.now v
+IsVolume (Sectors sectors recorded) v = IsOpened sectors.now recorded v
 
 -- Why the volume of these sectors isn't opened.
 abbrev pub RefusesSectors : List (List ℕ) → VolumeFault → Type 0

@@ -2,7 +2,7 @@
 
 ghost use Rattle.sandbox_host.specs.Headline.{HostHeadline};
 ghost use Rattle.sandbox_host.specs.Carried.{IsCarried, IsCarriedOn};
-ghost use Rattle.sandbox_host.specs.Settled.{IsSettled, IsSettledSoFar, IsSyncSettled};
+ghost use Rattle.sandbox_host.specs.Settled.{IsSettled, IsSettledSoFar, IsSyncSettled, IsRecordKept, IsRecordKeptSoFar};
 
 use crate::kept::Kept;
 use sandbox_core::laws::{headline, turns_are_safe};
@@ -42,3 +42,10 @@ pub fn record_is_settled()
     one_tree();
     record_is_followed();
 }
+
+/// The device of a session over sectors began with these, and records what is done just where a record was asked for. What was
+/// done by some time is the first that is done by any later time, up to the end.
+pub fn record_is_kept()
+    ensures at_the_end { IsRecordKept }
+    ensures so_far { IsRecordKeptSoFar }
+{}

@@ -1,4 +1,4 @@
-use Rattle.std.proofs.Common.{◌≡◌, ◌∙◌, true, sym, subst, inr}
+use Rattle.std.proofs.Common.{ℕ, max, ap, ◌≡◌, ◌∙◌, true, sym, subst, inr}
 use Rattle.wasi_calls.specs.declared.host.settings.Settings.{Settings}
 use Rattle.sandbox_core.specs.Session.{given, IsRefused}
 use Rattle.sandbox_core.proofs.Limiting.{opens_limited, shares_limited}
@@ -25,6 +25,8 @@ returns-in-Ok-new-clause-begins c =
       errors_bound = c.new-err.ensures.most ∙ c.most_output-most.ensures;
       output_open = c.new-out.ensures.begins;
       errors_open = c.new-err.ensures.begins;
+      values = ap (λ (t : State). t.machine.most_values) c.limit_values.ensures
+          ∙ (ap (λ (n : ℕ). max c.most_values.result n) made.opens.starts.room ∙ ap (λ (n : ℕ). max n 4097) c.most_values.ensures);
       opens = subst (λ (t : State). Opens c.args.valid (given (settings_of c.args.supplies.now) c.in-Ok.volume input c.new-out.result c.new-err.result) t) (sym c.limit_values.ensures)
           (opens_limited c.args.valid (given (settings_of c.args.supplies.now) c.in-Ok.volume input c.new-out.result c.new-err.result) session _
           (subst (λ (s : Settings). Opens c.args.valid (given s c.in-Ok.volume input c.new-out.result c.new-err.result) session) c.settings-settings.ensures made.opens));

@@ -4,6 +4,8 @@ use Rattle.vol_tree.specs.Stands.{StandsAs}
 use Rattle.sandbox_device.proofs.Recorded.{unused_leaves}
 use Rattle.vol_sector.specs.Record.{image_of}
 use Rattle.vol_tree.specs.Opening.{StandsOn}
+use Rattle.sandbox_host.specs.Volumes.{IsIn}
+use Rattle.sandbox_host.proofs.RecordKept.{goes_from_itself}
 use Rattle.sandbox_host.proofs.volumes.open_sectors.Goals as goal
 
 -- the device has the sectors, so what they stand for is found
@@ -15,11 +17,17 @@ returns-in-Ok-clause-opens c =
     let same : d.sectors ≡ c.args.sectors.now = c.in_ok-device.ensures.sectors in
     let stood : StandsOn (length d.sectors) (image_of d.sectors) v.numbers v.tree = c.in-Ok.ensures.stands tt in
     let crash = c.in-Ok.ensures.crash_ok v.numbers v.tree tt stood in
-    record {
+    let went = c.in-Ok.ensures.goes_on_ok v.numbers.sectors (omega arith) d (goes_from_itself v.numbers.sectors d) in
+    let is_in : IsIn c.args.sectors.now v = record {
       few = omega (arith, c.if-sectors-gt-MOST_SECTORS.false);
       stands = subst (λ (xs : List (List ℕ)). StandsOn (length xs) (image_of xs) v.numbers v.tree) same stood;
       size = c.in-Ok.ensures.kept_ok.1 ∙ ap length same;
       working = record { works = c.in-Ok.ensures.working; lasts = c.in-Ok.ensures.durable tt };
       since = λ i left. ⊎_elim (λ first. subst (λ (image : Image). StandsAs image v.numbers v.tree) (sym (unused_leaves d unused.1 unused.2 i first)) stood.stands) (λ is. is)
           (crash.since 0 i (omega arith) left);
+    } in
+    record {
+      is_in = is_in;
+      began = went.began ∙ unused.0;
+      is_recorded = went.is_recorded ∙ c.in_ok-device.ensures.recorded.0;
     }
