@@ -1,5 +1,5 @@
 -- The record of a session's device only grows.
-use Rattle.std.proofs.Common.{◌≡◌, ℕ, List, [], refl, ap, sym, subst, ◌∙◌, arith}
+use Rattle.std.proofs.Common.{ℕ, Bool, List, [], refl, sym, subst, ◌∙◌, arith}
 use Rattle.std.specs.Borrow.{Bor}
 use Rattle.vol_sector.specs.internal.PastLaws.{past_same}
 use Rattle.vol_sector.specs.internal.RecordLaws.{begins_itself}
