@@ -43,8 +43,15 @@ static PLAIN: Settings<'static, 'static> = Settings {
 
 type Owning = Session<'static, 'static, 'static, MemoryDevice, &'static [u8], Vec<u8>, Vec<u8>>;
 
-type Sharing =
-    SharedSession<'static, 'static, 'static, MemoryDevice, &'static [u8], Vec<u8>, Vec<u8>>;
+type Sharing = SharedSession<
+    'static,
+    'static,
+    'static,
+    MemoryDevice,
+    &'static [u8],
+    Vec<u8>,
+    Vec<u8>,
+>;
 
 fn volume(alloc: Global) -> Option<Volume<MemoryDevice>> {
     let device = MemoryDevice::new(alloc, 202, 400).ok()?;
@@ -57,14 +64,33 @@ fn volume(alloc: Global) -> Option<Volume<MemoryDevice>> {
 fn owning(alloc: Global) -> Option<Owning> {
     let valid = load(alloc, CALLER).ok()?;
     let (out, err) = (Vec::new(alloc), Vec::new(alloc));
-    Session::new(alloc, valid, PLAIN, volume(alloc)?, b"".as_slice(), out, err).ok()
+    Session::new(
+        alloc,
+        valid,
+        PLAIN,
+        volume(alloc)?,
+        b"".as_slice(),
+        out,
+        err,
+    )
+    .ok()
 }
 
-fn sharing(alloc: Global) -> Option<Sharing> {
+fn sharing(rt: &impl Abort, alloc: Global) -> Option<Sharing> {
     let valid = load(alloc, CALLER).ok()?;
     let shared = SharedModule::new(alloc, valid, 4).ok()?;
+    assert!(rt; shared.pages() == 4);
     let (out, err) = (Vec::new(alloc), Vec::new(alloc));
-    SharedSession::new(alloc, &shared, PLAIN, volume(alloc)?, b"".as_slice(), out, err).ok()
+    SharedSession::new(
+        alloc,
+        &shared,
+        PLAIN,
+        volume(alloc)?,
+        b"".as_slice(),
+        out,
+        err,
+    )
+    .ok()
 }
 
 /// How a run ends, how many units it has used, and how many functions are at work then.
@@ -75,10 +101,7 @@ type Place = (usize, usize);
 
 /// Whether the first frames are these.
 fn are_frames(room: &[Frame], wanted: &[Place]) -> bool {
-    wanted
-        .iter()
-        .zip(room.iter())
-        .all(|(want, frame)| frame.own == want.0 && frame.next == want.1)
+    wanted.iter().zip(room.iter()).all(|(want, frame)| frame.own == want.0 && frame.next == want.1)
 }
 
 /// Whether a run tells so, with room for three frames.
@@ -100,7 +123,7 @@ const TRAP: Outcome = Outcome::Trapped(Trap::DivideByZero);
 fn tells_the_frames_of_a_trap(rt: HostRuntime) {
     let session = owning(rt.alloc()).expect(&rt, "a session");
     assert!(rt; tells(&rt, session, 100, (TRAP, 17, 1), &[(2, 4)]));
-    let session = sharing(rt.alloc()).expect(&rt, "a session");
+    let session = sharing(&rt, rt.alloc()).expect(&rt, "a session");
     assert!(rt; tells(&rt, session, 100, (TRAP, 17, 1), &[(2, 4)]));
 }
 
