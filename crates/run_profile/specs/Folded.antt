@@ -1,6 +1,6 @@
 -- A profile as folded stacks, the text that tools for flame graphs read: a line for each stack in which units were taken, with its
--- functions, the outermost first, and its units.
-use Rattle.std.specs.Prelude.{ℕ, zero, suc, ◌<◌, List, [], ◌∷◌, ◌++◌, codes, decimal}
+-- functions, the outermost first, and its units. Where units went to a function below the one that took them, a last line tells so.
+use Rattle.std.specs.Prelude.{ℕ, zero, suc, Bool, true, false, ◌<◌, List, [], ◌∷◌, ◌++◌, codes, decimal}
 use Rattle.run_profile.specs.declared.stacks.Call.{Call}
 use Rattle.run_profile.specs.Stacks.{IsStack}
 
@@ -17,6 +17,11 @@ module _ (name : ℕ → Text) where
   -- and the units that were taken there
   abbrev pub line_text : List ℕ → ℕ → Text
   line_text functions units = stack_text functions ++ codes " " ++ decimal units ++ codes "\n"
+
+-- the last line of stacks that are cut; it is the only one with 0 units
+abbrev pub cut_text : Bool → Text
+cut_text true = codes "[cut] 0\n"
+cut_text false = []
 
 -- The text of these nodes, from this one on, which have these units: a line for each that has some.
 pub data IsFolded (calls : List Call) (name : ℕ → Text) : ℕ → List ℕ → Text → Type 0 where

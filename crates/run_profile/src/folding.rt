@@ -2,7 +2,7 @@
 
 ghost use Rattle.std.specs.Prelude.{◌≡◌, ◌<◌, ◌++◌, ℕ, List, OnOk, length, slice_index};
 ghost use Rattle.std.specs.Io.KnownBytes.{Appends};
-ghost use Rattle.run_profile.specs.Folded.{IsFolded, line_text, stack_text};
+ghost use Rattle.run_profile.specs.Folded.{IsFolded, cut_text, line_text, stack_text};
 ghost use Rattle.run_profile.specs.Stacks.{IsStack};
 
 use crate::stacks::Profile;
@@ -33,6 +33,13 @@ fn add_stack<N: Names>(names: &N, line: &mut Vec<u8>, functions: &[usize]) -> io
     Ok(())
 }
 
+/// The last line of a profile that is cut, which tells so.
+fn cut_line(is_cut: bool) -> &'static [u8]
+    ensures { result.now ≡ cut_text is_cut }
+{
+    if is_cut { b"[cut] 0\n" } else { b"" }
+}
+
 impl Profile {
     /// Prints the line of a node with units.
     fn print_node<N: Names, W: Write>(
@@ -53,10 +60,13 @@ impl Profile {
         out.write_all(line.as_slice())
     }
 
-    /// Prints the stacks in which units were taken, a line each, in the order in which they were first met: the functions, the outermost
-    /// first, with a semicolon between two, a blank, and the units. The units of all lines are those that were added. Where it fails, some
-    /// of it may have been printed.
-    pub fn print<N: Names, W: Write>(&self, alloc: Global, names: &N, out: &mut W) -> io::Result<()>
+    /// Prints the lines of all nodes with units.
+    fn print_stacks<N: Names, W: Write>(
+        &self,
+        alloc: Global,
+        names: &N,
+        out: &mut W,
+    ) -> io::Result<()>
         ensures { OnOk result ((text : List ℕ) × IsFolded self.now.calls (N.text names.now) 0 self.now.units text
             × Appends (W.contents out.old) (W.contents out.new) text) }
     {
@@ -66,5 +76,17 @@ impl Profile {
             }
         }
         Ok(())
+    }
+
+    /// Prints the stacks in which units were taken, a line each, in the order in which they were first met: the functions, the outermost
+    /// first, with a semicolon between two, a blank, and the units. The units of all lines are those that were added. Where some were
+    /// added to a function below the one that took them, a line `[cut] 0` comes last; no other line has 0. Where it fails, some of it may
+    /// have been printed.
+    pub fn print<N: Names, W: Write>(&self, alloc: Global, names: &N, out: &mut W) -> io::Result<()>
+        ensures { OnOk result ((text : List ℕ) × IsFolded self.now.calls (N.text names.now) 0 self.now.units text
+            × Appends (W.contents out.old) (W.contents out.new) (text ++ cut_text self.now.is_cut)) }
+    {
+        self.print_stacks(alloc, names, out)?;
+        out.write_all(cut_line(self.is_cut()))
     }
 }

@@ -104,6 +104,13 @@ impl Profile {
         self.is_cut = true;
     }
 
+    /// Whether units were added to a function below the one that took them.
+    pub fn is_cut(&self) -> bool
+        ensures { result ≡ self.now.is_cut }
+    {
+        self.is_cut
+    }
+
     /// The node of the functions that are at work, the innermost first. Where there is no room for it, that of the outermost of them.
     pub fn enter(&mut self, functions: &[usize]) -> usize
         ensures grows { Grows self.old self.new }
