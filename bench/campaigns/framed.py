@@ -1,13 +1,13 @@
 """Chosen modules and real programs of `bench/frames`: the deepest stacks, each trap, tables, start functions, imports, names of 60 KB; and
 programs that weren't written for this, at drawn amounts of fuel."""
 import collections
+import os
 import random
 
 import plain_reader
 import wasm_binary
 from common import Wrong
-from damage import own_path
-from framing import module_bytes, resumed, same_names, same_places
+from framing import module_bytes, resumed, same_names
 from timed import TIMED
 from wasm_binary import I32, I64, Body, Module, sized, u
 
@@ -216,6 +216,10 @@ def names(setting, host, _):
 # ---- real programs
 
 
+def module_of(folder, it):
+    return f"{folder}/{it.of}.wasm" if it.of else f"{folder}/rust-{it.name}.wasm"
+
+
 class Paused:
     """A real program that is stopped at each of some amounts of units, and at calls of the host."""
 
@@ -223,8 +227,7 @@ class Paused:
 
     def __init__(self, host, it, folder):
         self.host, self.name = host, it.name
-        self.path = f"{folder}/{it.of}.wasm" if it.of else f"{folder}/rust-{it.name}.wasm"
-        with open(self.path, "rb") as file:
+        with open(module_of(folder, it), "rb") as file:
             self.data = file.read()
         self.given = {"args": [self.name, *it.words], "input": it.input(), "random": bytes(4096), "pages": 8192, "output": 1 << 28}
         self.reading, self.found, self.deepest, self.calls = plain_reader.Reading(self.data), collections.Counter(), 0, 0
@@ -246,7 +249,7 @@ class Paused:
             self.checked(session, is_call_answered=True)
             self.found["calls"] += 1
 
-    def run(self, setting, chance, count):
+    def run(self, chance, count):
         sandbox = self.host.sandbox
         module = sandbox.Module(self.data)
         with module.session(**self.given) as session:
@@ -263,20 +266,22 @@ class Paused:
             told = session.run(2**63)
             if (told.kind, told.code, told.used, session.output()) != wanted:
                 raise Wrong(f"{self.name} ends otherwise with pauses: {told.kind} {told.code} {told.used}")
-        same_places(self.reading, own_path(setting, "real.wasm"))
-        same_names(self.host, self.data, self.reading)
-        return self.found + collections.Counter({"programs": 1, "pauses": count, "stacks": len(stacks), "units": whole.used})
+        called = {function for stack in stacks for function, _ in stack}
+        same_names(self.host, self.data, self.reading, called)
+        return self.found + collections.Counter({"pauses": count, "stacks": len(stacks), "names": len(called), "units": whole.used})
 
 
 def real(setting, host, given):
-    """Real programs at drawn amounts of fuel."""
-    folder, amounts, only = given
+    """Real programs at drawn amounts of fuel, those of `bench/real` that the folder has."""
+    folder, amounts = given
     found, deepest, count = collections.Counter(), 0, 0
     for k, it in enumerate(TIMED):
-        if only and it.name not in only:
+        if not os.path.exists(module_of(folder, it)):
             continue
         program = Paused(host, it, folder)
-        found += program.run(setting, random.Random(setting.seed * 1000 + k), amounts)
+        found += program.run(random.Random(setting.seed * 1000 + k), amounts)
         deepest, count = max(deepest, program.deepest), count + 1
         setting.done += 1
+    if not count:
+        raise Wrong(f"{folder} has no program: bench/real {folder} --times 1 builds them")
     return count, found + collections.Counter({"deepest": deepest})

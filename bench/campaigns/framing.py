@@ -292,10 +292,10 @@ def same_places(reading, path):
     return len(found)
 
 
-def same_names(host, data, reading):
-    """The names of all functions, and of numbers that are no function's; how many there are."""
+def same_names(host, data, reading, functions=None):
+    """The names of all functions or of these, and of numbers that are no function's; how many there are."""
     count = len(reading.imports) + len(reading.bodies)
-    for function in [*range(count + 3), 2**31, 2**32 - 1]:
+    for function in [*(functions or range(count)), count, count + 1, 2**31, 2**32 - 1]:
         told, wanted = host.name(data, function), plain_reader.name_of(data, function)
         if told != wanted:
             raise Wrong(f"function {function} is called {told[:80]!r}, by the reader {wanted[:80]!r}")
@@ -374,8 +374,11 @@ class Tried:
             raise Wrong(f"it ends with kind {whole.kind} and {whole.used} units, and wasm-interp by {trap} with {units}")
         with module.session(pages=16) as session:
             self.paused(session, marked, kept, pauses, whole)
-        return collections.Counter({"pauses": len(pauses), "frames": self.frames_count, "calls": self.calls, "names": same_names(self.host, self.data, self.reading),
-                                    "instructions": same_places(self.reading, self.other), programs.trap_text(trap) or "ended": 1})
+        found = collections.Counter({"pauses": len(pauses), "frames": self.frames_count, "calls": self.calls, programs.trap_text(trap) or "ended": 1})
+        found["names"] = same_names(self.host, self.data, self.reading)
+        if self.seed % 10 == 0:  # half of the time would go into what it prints
+            found["instructions"] = same_places(self.reading, self.other)
+        return found
 
     def paused(self, session, marked, kept, pauses, whole):
         """The same run with pauses, and the frames at each and at the end."""

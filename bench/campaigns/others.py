@@ -3,7 +3,6 @@
 A case is a name, words, input, files that are there (bytes, or the path of a file of the sources), and files that come of it.
 """
 import os
-import re
 import subprocess
 
 TEXT = "".join(f"{k}: the quick brown fox jumps over {k * k % 97} lazy dogs, *again* and `again`\n\n" for k in range(900)).encode()

@@ -17,7 +17,7 @@ import subprocess
 import tarfile
 
 from common import Wrong, succeeded
-from files import COMMANDS, SECTORS, SLOTS, Scene, content, drawn, wanted
+from files import COMMANDS, Scene, content, drawn, wanted
 
 KEYS = "end code text offset status units fuel pages read written complained calls syncs volume blame".split()
 
