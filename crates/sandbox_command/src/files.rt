@@ -172,6 +172,8 @@ fn execute_on<P: Places, R: Read + Drop, W1: Write + Drop, W2: Write + Drop>(
 }
 
 /// Tells what the module in a file is.
+// Likewise.
+#[inline(never)]
 fn inspect_file<P: Places, R: Read + Drop, W1: Write + Drop, W2: Write + Drop>(
     alloc: Global,
     places: &mut P,

@@ -324,6 +324,8 @@ fn run_lines<P: Places, W: Write>(
 
 /// Runs a module on the tests of a list, each on the files that its line names, gives up the streams that it was given, of
 /// which it uses `err` alone, and gives the status.
+// A function of its own, since what it needs would else be on the stack below a run alone, too.
+#[inline(never)]
 pub fn run_list<P: Places, R: Read + Drop, W1: Write + Drop, W2: Write + Drop>(
     alloc: Global,
     places: &mut P,
