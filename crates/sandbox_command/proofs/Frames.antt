@@ -59,8 +59,7 @@ one_line_more bytes m frames i d start before after lines site within so_far beg
     let line = codes "frame:" ++ (site ++ codes "\n") in
     let inside : length (take i frames) ≡ i = length-take-le i frames (omega (arith, within)) in
     let told : AreFrameLines bytes m (take i frames ++ (frame ∷ [])) (lines ++ line) =
-        one_more (take i frames) lines frame site so_far (subst (λ (n : ℕ). IsSite bytes m frame.own (instruction_of n frame.next) site) (sym inside) is) in
-    (
+    one_more (take i frames) lines frame site so_far (subst (λ (n : ℕ). IsSite bytes m frame.own (instruction_of n frame.next) site) (sym inside) is) in (
       lines ++ line,
       subst (λ (fs : List Frame). AreFrameLines bytes m fs (lines ++ line)) (sym (take_more frames i d within)) told,
       adds ∙ (ap (λ (t : Text). t ++ line) begins ∙ append_assoc start lines line),

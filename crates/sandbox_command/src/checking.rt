@@ -7,9 +7,9 @@ ghost use Rattle.sandbox_command.specs.Checking.{TellsChecked, checked_damage, d
 ghost use Rattle.sandbox_command.specs.Status.{ended_status, failure_status};
 
 use crate::ending::ended;
+use crate::explaining::About;
 use crate::program::{Executed, FAULT, left_with};
 use crate::streams::Streams;
-use crate::explaining::About;
 use arrayvec::ArrayVec;
 use run_report::rule_text;
 use sandbox_words::Task;

@@ -13,6 +13,7 @@ ghost use Rattle.sandbox_command.specs.Sources.{own_of, sink_contents};
 ghost use Rattle.sandbox_command.specs.Status.{file_status};
 ghost use Rattle.sandbox_command.specs.Streams.{AppendsSome};
 
+use crate::explaining::tell_of_kind;
 use crate::output::tell_of_file;
 use crate::places::Places;
 use crate::possession::is_silent;
@@ -22,7 +23,6 @@ use crate::refusals::{tell_of_outcome, tell_of_refusal};
 use crate::reporting::not_run;
 use crate::stopping::tell_frames;
 use crate::streams::{Sink, Source, Spare, apart};
-use crate::explaining::tell_of_kind;
 use run_report::{End, Fault, Kept, Summary};
 use sandbox_device::{Hindrance, RamDevice};
 use sandbox_words::Run;
@@ -224,7 +224,11 @@ pub(crate) fn unread(run: &Run<'_>, error: &io::Error) -> Summary
 fn tell_refused<P: Places, W: Write>(places: &P, error: &io::Error, err: &mut W)
     ensures { AppendsSome (W.contents err.old) (W.contents err.new) }
 {
-    tell_of_kind(err, places.first_refused().unwrap_or("a file"), error.kind());
+    tell_of_kind(
+        err,
+        places.first_refused().unwrap_or("a file"),
+        error.kind(),
+    );
 }
 
 /// Refuses a file that can't be read or written, by lines that go into none of the command's files.

@@ -5,10 +5,10 @@ ghost use Rattle.std.specs.Io.KnownBytes.{Keeps};
 ghost use Rattle.sandbox_command.specs.Status.{ended_status, export_status, failure_status, import_status, why_status};
 ghost use Rattle.sandbox_command.specs.Streams.{AppendsSome};
 
+use crate::explaining::{About, tell_bytes, tell_of_output, tell_words};
 use crate::output::{tell, tell_of_member};
 use crate::program::{Executed, FAULT, left_with, out_of_memory, refuse_file};
 use crate::streams::Streams;
-use crate::explaining::{About, tell_bytes, tell_of_output, tell_words};
 use meanings::{errno_cure, errno_text};
 use std::io::Write;
 use tar_stream::TarFault;

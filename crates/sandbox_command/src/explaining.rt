@@ -194,7 +194,12 @@ impl About<'_> {
         ensures { AppendsSome (W.contents err.old) (W.contents err.new) }
     {
         if is_of_input(self.work) {
-            tell_words(err, "standard input", "it can't be read", "look at who writes it");
+            tell_words(
+                err,
+                "standard input",
+                "it can't be read",
+                "look at who writes it",
+            );
         } else {
             tell_of_output(err, "standard output");
         }

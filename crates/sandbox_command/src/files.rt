@@ -116,11 +116,25 @@ pub fn perform_in<P: Places, R: Read + Drop, W1: Write + Drop, W2: Write + Drop>
         }
         Invocation::Import { file, path } => {
             let device = places.lock(file);
-            execute_on(alloc, places, file, VolumeWork::Import { path }, device, given)
+            execute_on(
+                alloc,
+                places,
+                file,
+                VolumeWork::Import { path },
+                device,
+                given,
+            )
         }
         Invocation::Export { file, path } => {
             let device = places.lock(file);
-            execute_on(alloc, places, file, VolumeWork::Export { path }, device, given)
+            execute_on(
+                alloc,
+                places,
+                file,
+                VolumeWork::Export { path },
+                device,
+                given,
+            )
         }
     }
 }

@@ -21,11 +21,11 @@ ghost use Rattle.sandbox_command.specs.Execution.{RunsOn, Runs, Executes};
 
 use crate::checking::ended_task;
 use crate::ending::ended;
+use crate::explaining::About;
 use crate::output::{GREATEST, NOT_COMMITTED, tell, tell_after, tell_fault, tell_outcome};
 use crate::reporting::{
     kept_after_run, kept_where_not_begun, kept_where_refused, not_run, session_reason,
 };
-use crate::explaining::About;
 use crate::stopping::{Stopped, lines_of, no_lines, room_for, stopped_with};
 use crate::streams::Streams;
 use crate::supplies::{Supplies, settings, supplied};
@@ -33,8 +33,8 @@ use crate::work::VolumeWork;
 use observed_run::{Told, run_told};
 use run_report::{Counted, Cut, End, Fault, Kept, Summary};
 use sandbox_core::{
-    Frame, HostParts, LoadFault, Outcome, RefusedSession, Report, Session, SessionFault, Tally, Valid,
-    Volume,
+    Frame, HostParts, LoadFault, Outcome, RefusedSession, Report, Session, SessionFault, Tally,
+    Valid, Volume,
 };
 use sandbox_words::Run;
 use std::alloc::Global;
@@ -248,9 +248,7 @@ fn cut_of<D: Device, R, W1, W2>(report: &Report<D, Counted<R>, Counted<W1>, Coun
 }
 
 /// Whether a stream of a run failed, which one that is cut doesn't.
-fn is_broken<D: Device, R, W1, W2>(
-    report: &Report<D, Counted<R>, Counted<W1>, Counted<W2>>,
-) -> bool
+fn is_broken<D: Device, R, W1, W2>(report: &Report<D, Counted<R>, Counted<W1>, Counted<W2>>) -> bool
     ensures { result ≡ broken_in report.now }
 {
     if report.out.full || report.err.full {

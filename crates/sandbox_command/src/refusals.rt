@@ -2,9 +2,9 @@
 
 ghost use Rattle.sandbox_command.specs.Streams.{AppendsSome};
 
+use crate::explaining::{say_meaning, say_part, tell_of_fault, tell_words};
 use crate::inspecting::Served;
 use crate::output::{say, say_name, tell};
-use crate::explaining::{say_meaning, say_part, tell_of_fault, tell_words};
 use meanings::{fault_cure, fault_text};
 use module_survey::{add_function_at, add_refused_import};
 use run_report::Fault;
@@ -98,15 +98,39 @@ fn tell_of_setting<W: Write>(err: &mut W, run: &Run<'_>)
     let argument_0 = run.name.unwrap_or(run.module);
     let pages = run.limits.pages;
     if pages > 65_536 {
-        tell(err, format_args!("--pages {pages}: {SETTING}: at most 65536"));
+        tell(
+            err,
+            format_args!("--pages {pages}: {SETTING}: at most 65536"),
+        );
     } else if let Some(word) = uncut_directory(run) {
-        tell_of_part(err, "--dir", word.as_bytes(), SETTING, "its form is GUEST=PATH");
+        tell_of_part(
+            err,
+            "--dir",
+            word.as_bytes(),
+            SETTING,
+            "its form is GUEST=PATH",
+        );
     } else if are_too_many(run.words.as_slice(), 1, argument_0.len() + 1) {
-        tell_words(err, "arguments", SETTING, "at most 1024 of them, and 65536 bytes");
+        tell_words(
+            err,
+            "arguments",
+            SETTING,
+            "at most 1024 of them, and 65536 bytes",
+        );
     } else if are_too_many(run.env.as_slice(), 0, 0) {
-        tell_words(err, "--env", SETTING, "at most 1024 texts NAME=VALUE, and 65536 bytes");
+        tell_words(
+            err,
+            "--env",
+            SETTING,
+            "at most 1024 texts NAME=VALUE, and 65536 bytes",
+        );
     } else {
-        tell_words(err, "--dir", SETTING, "at most 64, each with a name of 1 to 255 bytes");
+        tell_words(
+            err,
+            "--dir",
+            SETTING,
+            "at most 64, each with a name of 1 to 255 bytes",
+        );
     }
 }
 
@@ -182,7 +206,10 @@ fn clash_of(run: &Run<'_>) -> (&'static str, &'static str) {
     } else if run.profile.is_some() {
         ("--tests with --profile", "profile one run alone")
     } else {
-        ("--tests with --volume or --volume-out", "each test begins with --image")
+        (
+            "--tests with --volume or --volume-out",
+            "each test begins with --image",
+        )
     }
 }
 

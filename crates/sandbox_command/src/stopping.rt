@@ -73,7 +73,13 @@ fn add_frame(
         × (text.new.items ≡ text.old.items ++ (codes "frame:" ++ (site ++ codes "\n")))) }
 {
     text.write_all(b"frame:")?;
-    add_site(text, bytes, module, frame.own, instruction_of(inside, frame.next))?;
+    add_site(
+        text,
+        bytes,
+        module,
+        frame.own,
+        instruction_of(inside, frame.next),
+    )?;
     text.write_all(b"\n")
 }
 

@@ -144,8 +144,15 @@ fn tested<'m, P: Places>(
 {
     match prepare(alloc, places, run, test) {
         Ok(Prepared { device, streams }) => {
-            let (valid, left) =
-                run_valid(alloc, run, valid, supplies, files.random, device, streams);
+            let (valid, left) = run_valid(
+                alloc,
+                run,
+                valid,
+                supplies,
+                files.random,
+                device,
+                streams,
+            );
             let summary = left.summary;
             let frames = lines_of(alloc, run, files.module, valid.module(), &left.stopped);
             places.end(left);
@@ -167,9 +174,7 @@ fn is_told_of_guest<P: Places>(
     ensures { IsTold P.Places P.Output.Write result name.now report summary.now frames.now places.old places.new }
 {
     let mut report = report;
-    let is_printed = places
-        .print(name, &mut report, summary, frames)
-        .is_ok();
+    let is_printed = places.print(name, &mut report, summary, frames).is_ok();
     places.end(report);
     match summary.end {
         End::Ran(_) => is_printed,

@@ -20,7 +20,7 @@ returns-clause-runs g c =
     let ended = c.not_begun-left.ensures in
     let streams = c.args.streams in
     let untouched : IsUntouched g.D.Device.honest g.D.Device.disk g.D.Device.size g.D.Device.failures g.D.Device.goes_on g.R.Read.remaining g.W1.Write.contents g.W2.Write.contents
-        c.args.device streams.input streams.out streams.err c.not_begun-left.result = record {
+    c.args.device streams.input streams.out streams.err c.not_begun-left.result = record {
       device_is = ended.device;
       flushed = ended.flushed;
       streams = kept_streams g.W1.Write.contents g.W2.Write.contents streams.input streams.out streams.err c.not_begun-left.result ended.input ended.out ended.err;
