@@ -329,7 +329,7 @@ def hosts(setting):
     return sum(found.values()), ", ".join(f"{name} {count}" for name, count in sorted(found.items()))
 
 
-STACK = 256 * 1024  # bytes: a run of 0.9.5 on a volume needs more than 320 KiB, other commands fewer than 256
+STACK = 256 * 1024  # bytes
 
 
 def small_stack():
