@@ -121,7 +121,7 @@ def by_the_table(status, said):
     """Whether a status and error output stand in the table of statuses."""
     line = LINES.get(status)
     # the guest may have written before it
-    return bool(re.search(line + (IN_WORDS if status >= 120 else "") + "\n\\Z", said)) if line else 0 <= status < 119 and "sandbox:" not in said
+    return bool(re.search(line + (IN_WORDS if status >= 119 else "") + "\n\\Z", said)) if line else 0 <= status < 119 and "sandbox:" not in said
 
 
 def answer(setting, words, given=b"", seconds=2):
