@@ -1,1 +1,4 @@
+-- What crates above cite.
+pub mod Going
+
 mod Made

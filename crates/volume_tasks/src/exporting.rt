@@ -67,8 +67,9 @@ pub fn export_from<D: Device, W: Write>(
     path: &str,
     out: &mut W,
 ) -> (Result<(), ExportFailure>, D)
-    ensures { PerformsExport D.honest D.disk D.size D.failures path.now device
+    ensures performs { PerformsExport D.honest D.disk D.size D.failures path.now device
         (W.contents out.old) (W.contents out.new) result.1 result.0 }
+    ensures goes_on { KeepsWithin D.honest D.disk D.size D.goes_on device result.1 }
 {
     match Volume::open(alloc, device) {
         Ok(mut volume) => {

@@ -78,8 +78,9 @@ pub fn import_into<D: Device, R: Read>(
     path: &str,
     input: &mut R,
 ) -> (Result<u64, ImportFailure>, D)
-    ensures { PerformsImport D.honest D.disk D.size D.failures path.now device
+    ensures performs { PerformsImport D.honest D.disk D.size D.failures path.now device
         (R.remaining input.old) (R.remaining input.new) result.1 result.0 }
+    ensures goes_on { KeepsWithin D.honest D.disk D.size D.goes_on device result.1 }
 {
     match Volume::open(alloc, device) {
         Ok(mut volume) => {
