@@ -10,7 +10,7 @@ use Rattle.vol_sector.specs.declared.fault.Damage.{Damage}
 use Rattle.vol_sector.specs.declared.fault.VolumeFault.{VolumeFault}
 use Rattle.vol_sector.specs.declared.fault.VolumeFault.TheVariants as faults
 use Rattle.vol_tree.specs.declared.superblock.Superblock.{Superblock}
-use Rattle.vol_tree.specs.Superblock.{superblock, version_number, IsNoVersion}
+use Rattle.vol_tree.specs.Superblock.{HasRanges, superblock, version_number, IsNoVersion}
 use Rattle.vol_tree.specs.Tree.{Tree}
 use Rattle.vol_tree.proofs.Refusals.{same_error}
 use Rattle.vol_tree.specs.Opening.{StandsOn, NoVolumeOn, HasNoVersion, BeginsRight, IsDamaged, IsPast}

@@ -1,12 +1,12 @@
 -- The sectors past a volume that is opened.
-use Rattle.std.proofs.Common.{◌≡◌, ◌≤◌, ℕ, Result, Ok, Err, IfOk, IfErr}
+use Rattle.std.proofs.Common.{◌≤◌, ℕ, Result, Ok, Err, IfOk, IfErr}
 use Rattle.vol_sector.specs.Disk.{Disk}
 use Rattle.vol_sector.specs.Past.{StillGoesOn}
 use Rattle.vol_sector.specs.declared.fault.Refused.{Refused}
 use Rattle.vol_tree.specs.Superblock.{HasRanges}
 use Rattle.vol_tree.specs.Opened.{Opened}
 use Rattle.vol_tree.specs.Opening.{IsPast, StandsOn}
-use Rattle.vol_tree.proofs.Fronts.{past_front}
+use Rattle.large_volume.proofs.Going.{past_opened}
 use Rattle.volume_tasks.specs.Going.{device_of_opening}
 
 -- what `open` says of both its answers
@@ -17,5 +17,5 @@ pub opening_goes : {D : Type 0} (is_honest : D → Type 0) (disk : D → Disk) (
     → IfOk r (λ v. (bound : ℕ) → v.numbers.sectors ≤ bound → StillGoesOn (goes_on bound) device v.device)
     → IfErr r (λ e. StillGoesOn (goes_on end) device e.device)
     → StillGoesOn (goes_on end) device (device_of_opening r)
-opening_goes is_honest disk sectors_on goes_on device (Ok v) end past ranges stands ok err = ok end (past_front _ _ _ v.numbers end ranges.0 ranges.1 (λ h. (stands h).stands.front) past)
+opening_goes is_honest disk sectors_on goes_on device (Ok v) end past ranges stands ok err = ok end (past_opened _ _ (disk device).seen v.numbers end ranges.0 ranges.1 (λ h. (stands h).stands.front) past)
 opening_goes is_honest disk sectors_on goes_on device (Err e) end past ranges stands ok err = err

@@ -3,7 +3,7 @@
 -- not below the end of the volume: `KeepsWithin` of the volume that stands there, `FormatsWithin` of the one that is made.
 use Rattle.std.specs.Prelude.{◌⊎◌, ◌≤◌, ℕ, Option, Some, None, Result, Ok, Err}
 use Rattle.std.specs.Borrow.{Bor}
-use Rattle.vol_sector.specs.Disk.{Image, Disk}
+use Rattle.vol_sector.specs.Disk.{Disk}
 use Rattle.vol_sector.specs.Past.{StillGoesOn}
 use Rattle.vol_sector.specs.declared.fault.Refused.{Refused}
 use Rattle.vol_tree.specs.Opened.{Opened}

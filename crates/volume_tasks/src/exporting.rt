@@ -3,6 +3,7 @@
 ghost use Rattle.std.specs.Prelude.{◌≡◌};
 ghost use Rattle.path_walk.specs.Walk.{Asked};
 ghost use Rattle.volume_tasks.specs.declared.exporting.ExportFailure.TheVariants.{Path, Stopped};
+ghost use Rattle.volume_tasks.specs.Going.{KeepsWithin};
 ghost use Rattle.volume_tasks.specs.Exporting.{PerformsExport, PrintsDirectory, blames_export};
 ghost use Rattle.volume_tasks.specs.internal.Working.{IsWorking};
 

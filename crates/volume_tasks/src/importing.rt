@@ -5,6 +5,7 @@ ghost use Rattle.vol_sector.specs.Disk.{Image, Leaves};
 ghost use Rattle.vol_tree.specs.Opened.{Keeps, GoesOn};
 ghost use Rattle.vol_tree.specs.Stands.{StandsAs};
 ghost use Rattle.volume_tasks.specs.declared.importing.ImportFailure.TheVariants.{Path, Halted};
+ghost use Rattle.volume_tasks.specs.Going.{KeepsWithin};
 ghost use Rattle.volume_tasks.specs.Importing.{Brings, IsPartOfBringing, PerformsImport, blames_import};
 ghost use Rattle.volume_tasks.specs.Tasks.{ReflectsAny};
 ghost use Rattle.volume_tasks.specs.internal.Working.{IsWorking};

@@ -1,5 +1,4 @@
-use Rattle.vol_tree.proofs.Fronts.{past_front}
-use Rattle.large_volume.proofs.Going.{past_made}
+use Rattle.large_volume.proofs.Going.{past_made, past_opened}
 use Rattle.large_volume.proofs.Made.{not_formatted, not_opened, opened_and_raised}
 use Rattle.large_volume.proofs.formatting.format_large.Goals as goal
 
@@ -42,5 +41,5 @@ returns-in-Ok-open-clause-goes_on g c end past first from =
     let made = c.in-Ok.ensures in
     let opened = c.in-Ok-open.ensures in
     let here = past_made _ _ _ _ _ c.args.sectors c.args.slots end made.kept_ok.1 made.kept_ok.0.0 made.empty past in
-    let le = past_front _ _ _ c.in-Ok-open.volume.numbers end opened.ranges.0 opened.ranges.1 (λ h. (opened.stands h).stands.front) here in
+    let le = past_opened _ _ (g.D.Device.disk c.in-Ok.device).seen c.in-Ok-open.volume.numbers end opened.ranges.0 opened.ranges.1 (λ h. (opened.stands h).stands.front) here in
     c.raise.ensures.goes_on end le first (opened.goes_on_ok end le first (made.goes_on_ok end past.0 first from))

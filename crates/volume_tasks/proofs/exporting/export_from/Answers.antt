@@ -3,7 +3,7 @@ use Rattle.std.proofs.KnownBytes.{Keeps-refl}
 use Rattle.vol_sector.specs.Disk.{counted}
 use Rattle.vol_log.proofs.Moments.{leaves_quiet}
 use Rattle.vol_tree.specs.Stands.{StandsAs}
-use Rattle.vol_tree.proofs.Fronts.{past_front}
+use Rattle.large_volume.proofs.Going.{past_opened}
 use Rattle.volume_tasks.specs.Exporting.{PerformsExport, blames_export}
 use Rattle.volume_tasks.proofs.FreshVolume.{refused_open}
 use Rattle.volume_tasks.proofs.exporting.export_from.Goals as goal
@@ -58,7 +58,7 @@ returns-in-Err-clause-performs g c =
 pub returns-in-Ok-clause-goes_on : goal.returns-in-Ok-clause-goes_on
 returns-in-Ok-clause-goes_on g c end past first from =
     let opened = c.in-Ok.ensures in
-    let le = past_front _ _ _ c.in-Ok.volume.numbers end opened.ranges.0 opened.ranges.1 (λ h. (opened.stands h).stands.front) past in
+    let le = past_opened _ _ (g.D.Device.disk c.args.device).seen c.in-Ok.volume.numbers end opened.ranges.0 opened.ranges.1 (λ h. (opened.stands h).stands.front) past in
     subst (g.D.Device.goes_on end first) (sym c.into_device.ensures) (c.print_directory-done.ensures.asked.goes end le first (opened.goes_on_ok end le first from))
 
 pub returns-in-Err-clause-goes_on : goal.returns-in-Err-clause-goes_on

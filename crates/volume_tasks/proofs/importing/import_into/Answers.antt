@@ -2,7 +2,7 @@ use Rattle.std.proofs.Common.{inl, inr, refl, sym, ◌∙◌, ap, subst, Err, On
 use Rattle.vol_sector.specs.Disk.{Image, counted}
 use Rattle.vol_tree.specs.declared.superblock.Superblock.{Superblock}
 use Rattle.vol_tree.specs.Stands.{StandsAs}
-use Rattle.vol_tree.proofs.Fronts.{past_front}
+use Rattle.large_volume.proofs.Going.{past_opened}
 use Rattle.volume_tasks.specs.Importing.{IsPartOfBringing, PerformsImport, blames_import}
 use Rattle.volume_tasks.proofs.Brought.{opened_then}
 use Rattle.volume_tasks.proofs.FreshVolume.{refused_open}
@@ -61,7 +61,7 @@ returns-in-Err-clause-performs g c =
 pub returns-in-Ok-clause-goes_on : goal.returns-in-Ok-clause-goes_on
 returns-in-Ok-clause-goes_on g c end past first from =
     let opened = c.in-Ok.ensures in
-    let le = past_front _ _ _ c.in-Ok.volume.numbers end opened.ranges.0 opened.ranges.1 (λ h. (opened.stands h).stands.front) past in
+    let le = past_opened _ _ (g.D.Device.disk c.args.device).seen c.in-Ok.volume.numbers end opened.ranges.0 opened.ranges.1 (λ h. (opened.stands h).stands.front) past in
     subst (g.D.Device.goes_on end first) (sym c.into_device.ensures) (c.bring-done.ensures.goes_on end le first (opened.goes_on_ok end le first from))
 
 pub returns-in-Err-clause-goes_on : goal.returns-in-Err-clause-goes_on
