@@ -329,7 +329,7 @@ def hosts(setting):
     return sum(found.values()), ", ".join(f"{name} {count}" for name, count in sorted(found.items()))
 
 
-STACK = 448 * 1024  # bytes: a run of 0.9.6 on a volume needs 390 KiB, other commands fewer than 256
+STACK = 256 * 1024  # bytes: 88 KiB were enough for each
 
 
 def small_stack():

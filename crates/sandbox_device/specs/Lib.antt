@@ -7,4 +7,6 @@ pub mod Followed
 pub mod Opening
 pub mod FileEvidence
 pub mod Beside
+pub mod Replaced
+pub mod Written
 pub mod internal

@@ -1,11 +1,11 @@
 //! A device in a file of the system.
 
-ghost use Rattle.std.specs.Prelude.{◌≡◌, ◌<◌, ◌≤◌, ◌↔◌, ℕ, IfOk, OnOk, MatchResult, is_err, length, min, true};
+ghost use Rattle.std.specs.Prelude.{◌≡◌, ◌<◌, ◌≤◌, ◌↔◌, ◌⊎◌, ℕ, IfOk, IsTrue, OnOk, MatchResult, is_err, length, min, true};
 ghost use Rattle.vol_sector.specs.Disk.{counted, put, After, Keeps, Leaves, OneMore, Only, Wrote};
 ghost use Rattle.vol_sector.specs.Past.{LeavesPast, StillGoesOn};
 ghost use Rattle.vol_sector.specs.Record.{image_of};
 ghost use Rattle.vol_sector.specs.internal.PastLaws.{past_same, past_then};
-ghost use Rattle.sandbox_device.specs.File.{kept};
+ghost use Rattle.sandbox_device.specs.File.{BeginsWith, kept};
 ghost use Rattle.sandbox_device.specs.FileEvidence.{IsSettled, IsUnsettled, WasLocked};
 ghost use Rattle.sandbox_device.specs.Opening.{StandsApart};
 ghost use Rattle.sandbox_device.specs.internal.FileLaws.{mixed_since, mixed_now, now_may_stay};
@@ -139,6 +139,37 @@ impl<F: SectorFile + Drop> FileDevice<F> {
             return Err(io::Error::from(ErrorKind::UnexpectedEof)); // it was cut meanwhile
         }
         Ok(device)
+    }
+
+    /// Whether its first sector begins with these bytes.
+    fn begins_with(&self, beginning: &[u8; 8]) -> bool
+        ensures { IsTrue result → BeginsWith beginning.now self.now.sectors }
+    {
+        if self.sectors.len() == 0 {
+            return false;
+        }
+        let image = self.sectors.get(0);
+        &image[..8] == beginning.as_slice()
+    }
+
+    /// A device of a file as `lengthened` makes one; but a file that begins with these bytes stays as long as it is.
+    pub fn lengthened_unless(
+        alloc: Global,
+        file: F,
+        sectors: u32,
+        beginning: &[u8; 8],
+    ) -> io::Result<FileDevice<F>>
+        ensures few { IfOk result (λ d. length d.sectors ≤ 65536) }
+        ensures enough { IfOk result (λ d. min sectors 65536 ≤ length d.sectors ⊎ BeginsWith beginning.now d.sectors) }
+        ensures unused { IfOk result (λ d. d.failures ≡ 0) }
+        ensures same { IfOk result (λ d. d.file ≡ file) }
+    {
+        let device = FileDevice::of(alloc, file)?;
+        if device.begins_with(beginning) {
+            return Ok(device);
+        }
+        let FileDevice { file, .. } = device;
+        FileDevice::lengthened(alloc, file, sectors)
     }
 
     /// A device of the whole sectors of a file that is open to read and write, 65,536 at most.

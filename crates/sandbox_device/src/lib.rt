@@ -14,11 +14,13 @@ mod recorded_device;
 mod replacing;
 mod sector_file;
 mod sectors;
+mod written_file;
 
 pub use file_device::FileDevice;
 pub use identity::Identity;
-pub use opening::{Output, open_image, open_to_read};
+pub use opening::{Output, OutputOn, open_image, open_to_read};
 pub use ram_device::RamDevice;
 pub use recorded_device::RecordedDevice;
 pub use replacing::{Hindrance, Replacement};
 pub use sector_file::SectorFile;
+pub use written_file::WrittenFile;

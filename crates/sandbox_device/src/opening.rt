@@ -1,10 +1,15 @@
 //! Files of the system, opened so that none stands where a standard stream does, and that none is cut before it is written.
 
-ghost use Rattle.std.specs.Prelude.{IfOk};
+ghost use Rattle.std.specs.Prelude.{◌≡◌, IfOk, None, OnOk, false, take};
+ghost use Rattle.std.specs.Fs.{asks_truncate};
+ghost use Rattle.std.specs.Io.{WritesAtMost};
+ghost use Rattle.std.specs.Io.KnownBytes.{Keeps, WriteAppends};
 ghost use Rattle.sandbox_device.specs.Opening.{StandsApart};
+ghost use Rattle.sandbox_device.specs.Written.{CutsOnce, Flushes, Puts, WasCut, WasFlushed, WasPut};
 
 use crate::identity::Identity;
-use std::fs::{File, OpenOptions, TryLockError};
+use crate::written_file::WrittenFile;
+use std::fs::{File, OpenOptions};
 use std::io;
 use std::io::{ErrorKind, Write};
 use std::os::fd::AsRawFd;
@@ -14,12 +19,13 @@ use std::rt::Files;
 const LAST_STANDARD: i32 = 2;
 
 /// Opens a file with a number of its own. Where a standard stream is closed, the system gives its number to the next file that
-/// is opened: that one gets another number, and the stream stays closed.
+/// is opened: that one gets another number, and the stream stays closed. No file is cut as it is opened.
 pub(crate) fn open_apart<R: Files<File = File>>(
     files: &R,
     how: &OpenOptions,
     path: &str,
 ) -> io::Result<File>
+    requires { asks_truncate how.now ≡ false }
     ensures { IfOk result StandsApart }
 {
     let file = how.open(files, path)?;
@@ -54,24 +60,18 @@ pub fn open_image<R: Files<File = File>>(files: &R, path: &str) -> io::Result<Fi
     Ok(image)
 }
 
-/// Locks a file that is to be written. It is refused where another use of it has locked it; a pipe, a terminal or a device has
-/// no lock, and a file system that knows none refuses nothing.
-pub(crate) fn lock_to_write(file: &File) -> io::Result<()> {
-    if !file.metadata()?.is_file() {
-        return Ok(());
-    }
-    match file.try_lock() {
-        Err(TryLockError::WouldBlock) => Err(io::Error::from(ErrorKind::WouldBlock)),
-        _ => Ok(()),
-    }
-}
-
 /// A file that is written from its beginning. What it had stays until it is written or flushed for the first time.
 #[derive(Drop)]
-pub struct Output {
-    file: File,
+pub struct OutputOn<F> {
+    file: F,
     is_new: bool,
     is_cut: bool,
+}
+
+/// Such a file of the system.
+#[derive(Drop)]
+pub struct Output {
+    on: OutputOn<File>,
 }
 
 /// A file that wasn't there, or the one that is: and whether it was made.
@@ -90,51 +90,93 @@ fn made_or_opened<R: Files<File = File>>(files: &R, path: &str) -> io::Result<(F
     }
 }
 
-impl Output {
-    /// Opens a file to write, or makes it, and locks it where it can be. It is refused where another use of it has locked it.
-    pub fn open<R: Files<File = File>>(files: &R, path: &str) -> io::Result<Output>
-        ensures { IfOk result (λ it. StandsApart it.file) }
+impl<F: WrittenFile + Drop> OutputOn<F> {
+    /// Locks a file that was opened to write, and does nothing else to it.
+    pub fn new(file: F, is_new: bool) -> io::Result<OutputOn<F>>
+        ensures { IfOk result (λ it. F.locked file × (it ≡ record { file = file; is_new = is_new; is_cut = false })) }
     {
-        let (file, is_new) = made_or_opened(files, path)?;
-        lock_to_write(&file)?;
-        Ok(Output {
+        file.take_write_lock()?;
+        Ok(OutputOn {
             file,
             is_new,
             is_cut: false,
         })
     }
 
-    /// Whether it wasn't there before.
-    pub fn is_new(&self) -> bool {
-        self.is_new
-    }
-
-    /// Which file it is, if it is a regular one.
-    pub fn identity(&self) -> io::Result<Option<Identity>> {
-        Identity::of(&self.file)
-    }
-
     /// Cuts it to nothing, if that wasn't done. What has no length, as a pipe or a terminal, stays as it is.
-    pub fn cut(&mut self) -> io::Result<()> {
-        if self.is_cut {
-            return Ok(());
+    pub fn cut(&mut self) -> io::Result<()>
+        ensures { OnOk result (CutsOnce F.cut self.old self.new) }
+    {
+        if !self.is_cut {
+            self.file.cut_to_nothing()?;
+            self.is_cut = true;
         }
-        if self.file.metadata()?.is_file() {
-            self.file.set_len(0)?;
-        }
-        self.is_cut = true;
         Ok(())
     }
 }
 
-impl Write for Output {
-    fn write(&mut self, buf: &[u8]) -> io::Result<usize> {
+impl<F: WrittenFile + Drop> Write for OutputOn<F> {
+    fn write(&mut self, buf: &[u8]) -> io::Result<usize>
+        ensures bound { WritesAtMost result buf.now }
+        ensures bytes { WriteAppends None None result buf.now }
+        ensures puts { IfOk result (λ n. Puts F.cut F.wrote self.old (take n buf.now) self.new) }
+    {
         self.cut()?;
-        self.file.write(buf)
+        self.file.put(buf)
     }
 
-    fn flush(&mut self) -> io::Result<()> {
+    fn flush(&mut self) -> io::Result<()>
+        ensures bytes { Keeps None None }
+        ensures flushes { OnOk result (Flushes F.cut F.flushed self.old self.new) }
+    {
         self.cut()?;
-        self.file.flush()
+        self.file.flush_all()
+    }
+}
+
+impl Output {
+    /// Opens a file to write, or makes it, and locks it where it can be. It is refused where another use of it has locked it.
+    pub fn open<R: Files<File = File>>(files: &R, path: &str) -> io::Result<Output>
+        ensures { IfOk result (λ it. StandsApart it.on.file × (it.on.is_cut ≡ false)) }
+    {
+        let (file, is_new) = made_or_opened(files, path)?;
+        let on = OutputOn::new(file, is_new)?;
+        Ok(Output { on })
+    }
+
+    /// Whether it wasn't there before.
+    pub fn is_new(&self) -> bool
+        ensures { result ≡ self.now.on.is_new }
+    {
+        self.on.is_new
+    }
+
+    /// Which file it is, if it is a regular one.
+    pub fn identity(&self) -> io::Result<Option<Identity>> {
+        self.on.file.which()
+    }
+
+    /// Cuts it as `OutputOn::cut` does.
+    pub fn cut(&mut self) -> io::Result<()>
+        ensures { OnOk result (CutsOnce WasCut self.old.on self.new.on) }
+    {
+        self.on.cut()
+    }
+}
+
+impl Write for Output {
+    fn write(&mut self, buf: &[u8]) -> io::Result<usize>
+        ensures bound { WritesAtMost result buf.now }
+        ensures bytes { WriteAppends None None result buf.now }
+        ensures puts { IfOk result (λ n. Puts WasCut WasPut self.old.on (take n buf.now) self.new.on) }
+    {
+        self.on.write(buf)
+    }
+
+    fn flush(&mut self) -> io::Result<()>
+        ensures bytes { Keeps None None }
+        ensures flushes { OnOk result (Flushes WasCut WasFlushed self.old.on self.new.on) }
+    {
+        self.on.flush()
     }
 }

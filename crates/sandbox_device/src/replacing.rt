@@ -2,13 +2,17 @@
 //!
 //! Whoever is ended meanwhile leaves the file as it was, and maybe what was written beside it, which the next one takes away.
 
-ghost use Rattle.std.specs.Prelude.{IfOk, IfSome};
+ghost use Rattle.std.specs.Prelude.{◌≡◌, IfNone, IfOk, IfSome, string_bytes};
+ghost use Rattle.sandbox_device.specs.declared.replacing.Way.TheVariants.{Beside};
 ghost use Rattle.sandbox_device.specs.Opening.{StandsApart};
+ghost use Rattle.sandbox_device.specs.Ram.{joined_sectors};
+ghost use Rattle.sandbox_device.specs.Replaced.{WasReplaced};
 
 use crate::beside::{Beside, replace};
 use crate::identity::Identity;
-use crate::opening::{lock_to_write, open_apart};
+use crate::opening::open_apart;
 use crate::ram_device::RamDevice;
+use crate::written_file::lock_to_write;
 use std::fs::{File, Metadata, OpenOptions, TryLockError};
 use std::io::{BufWriter, ErrorKind, Write};
 use std::os::unix::fs::{MetadataExt, fchown};
@@ -281,7 +285,10 @@ impl Replacement {
         self,
         rt: &R,
         device: &RamDevice,
-    ) -> io::Result<Option<Hindrance>> {
+    ) -> io::Result<Option<Hindrance>>
+        ensures { self.way ≡ Beside → IfOk result (λ hindrance. IfNone hindrance
+            (WasReplaced R (string_bytes self.path) (joined_sectors device.now.sectors))) }
+    {
         match self.way {
             Way::Beside => self.fill_beside(rt, device),
             Way::InPlace(why) => {
@@ -308,11 +315,15 @@ impl Replacement {
         Ok((spare, folder))
     }
 
+    /// Writes the sectors into a file beside it, and gives that its name. Where none can be made there, it is written in place.
     fn fill_beside<R: Files<File = File> + AllocGlobal>(
         self,
         rt: &R,
         device: &RamDevice,
-    ) -> io::Result<Option<Hindrance>> {
+    ) -> io::Result<Option<Hindrance>>
+        ensures { IfOk result (λ hindrance. IfNone hindrance
+            (WasReplaced R (string_bytes self.path) (joined_sectors device.now.sectors))) }
+    {
         let Ok((spare, folder)) = self.spare(rt) else {
             self.fill_in_place(rt, device)?;
             return Ok(Some(Hindrance::Folder));
