@@ -1,0 +1,3 @@
+pub mod Branching
+pub mod Rewriting
+pub mod Moving

@@ -1,0 +1,6 @@
+//! The same module, supplies and volume give the same run, unless the host failed: memory, a stream or the device.
+#![tactic(auto)]
+
+mod laws;
+
+pub use laws::one_next_step;
