@@ -1,6 +1,10 @@
 //! Laws of runs, over definitions only.
 
-ghost use Rattle.same_run.specs.NextStep.{OneNextStep};
+ghost use Rattle.wasi_calls.specs.World.{World};
+ghost use Rattle.wasi_calls.specs.Calls as world;
+ghost use Rattle.same_run.specs.Failures.{FailuresStay, has_failed};
+ghost use Rattle.same_run.specs.NextStep.{AnswersOnce, OneNextStep};
+ghost use Rattle.same_run.specs.OneRun.{OneEnd, OneRun};
 
 use wasm_store::Host;
 
@@ -9,4 +13,23 @@ use wasm_store::Host;
 /// of growth leaves a choice.
 pub fn one_next_step<H: Host>()
     ensures { OneNextStep H H.calls }
+{}
+
+/// A world answers the same to the same question, unless the volume or a stream failed in the call; and what has failed
+/// stays failed.
+pub fn worlds_answer_once()
+    ensures once { AnswersOnce World world.Calls has_failed }
+    ensures stays { FailuresStay World world.Calls has_failed }
+{}
+
+/// A run is the only one, over any host that answers the same to the same question and whose failures stay: of two runs from
+/// the same configuration and host, none refused memory and with nothing failed at its end, one goes on from where the other
+/// ended.
+pub fn one_run<H: Host>()
+    ensures { OneRun H H.calls }
+{}
+
+/// Two such runs with the same fuel end alike: at the same configuration, with the same outcome, units and answers.
+pub fn one_end<H: Host>()
+    ensures { OneEnd H H.calls }
 {}

@@ -3,4 +3,4 @@
 
 mod laws;
 
-pub use laws::one_next_step;
+pub use laws::{one_end, one_next_step, one_run, worlds_answer_once};
