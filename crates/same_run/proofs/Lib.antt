@@ -4,3 +4,6 @@ pub mod Moving
 pub mod Marks
 pub mod Answering
 pub mod Running
+pub mod OneStart
+pub mod Worlds
+pub mod Sameness

@@ -2,10 +2,15 @@
 
 ghost use Rattle.wasi_calls.specs.World.{World};
 ghost use Rattle.wasi_calls.specs.Calls as world;
+ghost use Rattle.sandbox_core.specs.Devices.{devices};
 ghost use Rattle.same_run.specs.Failures.{FailuresStay, has_failed};
 ghost use Rattle.same_run.specs.NextStep.{AnswersOnce, OneNextStep};
 ghost use Rattle.same_run.specs.OneRun.{OneEnd, OneRun};
+ghost use Rattle.same_run.specs.OneStart.{OneStart};
+ghost use Rattle.same_run.specs.SameRun.{SameReport, SameRun};
 
+use std::io::{Read, Write};
+use vol_sector::Device;
 use wasm_store::Host;
 
 /// A step is the only one: from the same configuration and host two steps give the same, over any host that answers the
@@ -32,4 +37,21 @@ pub fn one_run<H: Host>()
 /// Two such runs with the same fuel end alike: at the same configuration, with the same outcome, units and answers.
 pub fn one_end<H: Host>()
     ensures { OneEnd H H.calls }
+{}
+
+/// A valid module begins in one way over any host: with one instance, one store and one list of functions to enter.
+pub fn one_start<H: Host>()
+    ensures { (h : H) → OneStart (H.links h) }
+{}
+
+/// Two runs with the same fuel from one configuration, over hosts of the same tree, room, descriptors and supplies, whatever
+/// their devices and streams are: where the host failed in neither and both read of the same input, they are the same.
+pub fn same_run<D: Device, R: Read, W1: Write, W2: Write, E: Device, S: Read, X1: Write, X2: Write>()
+    ensures { SameRun (devices D.Device R.Read W1.Write W2.Write) (devices E.Device S.Read X1.Write X2.Write) }
+{}
+
+/// The same module, supplies and volume give the same run, unless the host failed: memory, a stream or the device. So the
+/// reports of two such sessions tell of the same outcome, units, answers, bytes and tree.
+pub fn same_report<D: Device, R: Read, W1: Write, W2: Write, E: Device, S: Read, X1: Write, X2: Write>()
+    ensures { SameReport (devices D.Device R.Read W1.Write W2.Write) (devices E.Device S.Read X1.Write X2.Write) }
 {}

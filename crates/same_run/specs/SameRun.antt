@@ -1,0 +1,83 @@
+-- The same module, supplies and volume give the same run, unless the host failed: memory, a stream or the device. `SameRun`
+-- says so of two runs from one configuration, each over devices and streams of its own, and `SameReport` of the reports of
+-- two sessions.
+use Rattle.std.specs.Prelude.{◌≡◌, ℕ, ◌≤◌, ◌||◌, Bool, true, List, [], ◌++◌, Option}
+use Rattle.vol_tree.specs.Tree.{Tree}
+use Rattle.vol_tree.specs.Opened.{geometry}
+use Rattle.wasm_module.specs.declared.module.Module.{Module}
+use Rattle.wasm_valid.specs.Validity.{IsValid}
+use Rattle.wasm_steps.specs.declared.pause.Outcome.{Outcome}
+use Rattle.wasm_steps.specs.Configuration.{Instance, Configuration}
+use Rattle.wasm_interp.specs.Machine.{Represents}
+use Rattle.wasi_calls.specs.declared.host.wasi_host.HostParts.{HostParts}
+use Rattle.wasi_calls.specs.host.Worlds.{HostState, StreamBytes, StreamsMove, stream_failed, world_of}
+use Rattle.sandbox_core.specs.declared.report.Report.{Report}
+use Rattle.sandbox_core.specs.Devices.{Devices, Calls, IsHonest, tree_of}
+use Rattle.sandbox_core.specs.Session.{SessionState, OpensWith, Shares}
+use Rattle.sandbox_core.specs.Runs.{RunsWithin}
+use Rattle.sandbox_core.specs.Report.{Reports}
+use Rattle.same_run.specs.OneRun.{IsServed}
+
+-- the volume has failed, or a read or a write of a stream
+abbrev pub host_failed : {D R W1 W2 : Type 0} → HostState D R W1 W2 → Bool
+host_failed h = h.volume.failed || stream_failed h
+
+-- what the streams moved by in a run over these devices and streams
+abbrev pub MovedBy : {D R W1 W2 : Type 0} → Devices D R W1 W2 → HostState D R W1 W2 → HostState D R W1 W2 → StreamBytes → Type 0
+MovedBy on = StreamsMove on.input.remaining on.out.contents on.err.contents
+
+-- The reader gave a beginning of these bytes, and all of them where the input has ended.
+abbrev pub GaveOf : {D R W1 W2 : Type 0} → List ℕ → HostState D R W1 W2 → StreamBytes → Type 0
+GaveOf input last moved = (left : List ℕ) × (input ≡ moved.input ++ left) × (last.input.ended ≡ true → left ≡ [])
+
+module _ {D R W1 W2 D' R' W1' W2' : Type 0} (on : Devices D R W1 W2) (on' : Devices D' R' W1' W2') where
+  -- The hosts have the same tree, room, descriptors, texts, moment and random bytes: they show the same world, for each bytes of
+  -- the streams.
+  abbrev pub ShowAlike : HostState D R W1 W2 → HostState D' R' W1' W2' → Type 0
+  ShowAlike h h' = (b : StreamBytes) → world_of h b ≡ world_of h' b
+
+  module _ {i : Instance} {c : Configuration} {fuel : ℕ} {h last : HostState D R W1 W2} {h' last' : HostState D' R' W1' W2'} {outcome outcome' : Outcome} {used used' : ℕ} where
+    -- both ended so, with the same units, memory, table and globals, answers of calls, tree, and bytes read and written
+    pub record AreTheSame (run : RunsWithin (Calls on) i h c fuel last outcome used) (run' : RunsWithin (Calls on') i h' c fuel last' outcome' used')
+        (moved moved' : StreamBytes) : Type 0 where
+      pub ends : outcome ≡ outcome'
+      pub units : used ≡ used'
+      pub configuration : run.last ≡ run'.last
+      pub calls : run.answers ≡ run'.answers
+      pub tree : tree_of last ≡ tree_of last'
+      pub bytes : moved ≡ moved'
+
+    -- The streams of each moved by some bytes, and if both readers gave of the same input, both runs are the same.
+    abbrev pub RunAlike : RunsWithin (Calls on) i h c fuel last outcome used → RunsWithin (Calls on') i h' c fuel last' outcome' used' → Type 0
+    RunAlike run run' = (moved : StreamBytes) × (moved' : StreamBytes) × MovedBy on h last moved × MovedBy on' h' last' moved'
+        × ((input : List ℕ) → GaveOf input last moved → GaveOf input last' moved' → AreTheSame run run' moved moved')
+
+    -- The host failed in neither: no growth within the limit and no room for the stacks was refused, no stream failed, and no
+    -- device.
+    abbrev pub AreServed : RunsWithin (Calls on) i h c fuel last outcome used → RunsWithin (Calls on') i h' c fuel last' outcome' used' → Type 0
+    AreServed run run' = IsServed (Calls on) host_failed run × IsServed (Calls on') host_failed run'
+
+  -- Two runs with the same fuel from one configuration, over hosts that show the same world and whose devices keep their models.
+  abbrev pub SameRun : Type 0
+  SameRun = (i : Instance) (c : Configuration) (fuel : ℕ) (h last : HostState D R W1 W2) (h' last' : HostState D' R' W1' W2') (outcome outcome' : Outcome) (used used' : ℕ)
+      → IsHonest on h → IsHonest on' h' → ShowAlike h h'
+      → (run : RunsWithin (Calls on) i h c fuel last outcome used) → (run' : RunsWithin (Calls on') i h' c fuel last' outcome' used')
+      → used ≤ fuel → used' ≤ fuel → AreServed run run' → RunAlike run run'
+
+  -- the same settings, and volumes with the same tree and the same room
+  pub record AreAlike (parts : HostParts D R W1 W2) (parts' : HostParts D' R' W1' W2') : Type 0 where
+    pub settings : parts.settings ≡ parts'.settings
+    pub tree : parts.volume.tree ≡ parts'.volume.tree
+    pub room : geometry parts.volume.numbers ≡ geometry parts'.volume.numbers
+
+  -- Two sessions of a valid module, with the same supplies, the same tree and the same seed or none, that were run with the same
+  -- fuel, on devices that keep their models: the reports are those of the same run.
+  abbrev pub SameReport : Type 0
+  SameReport = (m : Module) (seed : Option ℕ) (parts : HostParts D R W1 W2) (parts' : HostParts D' R' W1' W2') (s : SessionState D R W1 W2) (s' : SessionState D' R' W1' W2')
+      (fuel : ℕ) (report : Report D R W1 W2) (report' : Report D' R' W1' W2')
+      → IsValid m → AreAlike parts parts'
+      → OpensWith seed m parts s → OpensWith seed m parts' s' → Shares on.device parts s → Shares on'.device parts' s'
+      → on.device.honest parts.volume.device → on'.device.honest parts'.volume.device
+      → (reports : Reports on s fuel report) → (reports' : Reports on' s' fuel report')
+      → (i : Instance) × (c : Configuration) × (stands : Represents s.machine i c) × (stands' : Represents s'.machine i c)
+      × (AreServed (reports.run i c stands) (reports'.run i c stands') → RunAlike (reports.run i c stands) (reports'.run i c stands'))
