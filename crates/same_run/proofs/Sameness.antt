@@ -33,11 +33,11 @@ use Rattle.sandbox_core.specs.Runs.{StopsAs, RunsWithin}
 use Rattle.sandbox_core.specs.Report.{Reports}
 use Rattle.same_run.specs.Failures.{has_failed}
 use Rattle.same_run.specs.OneRun.{IsServed, EndAlike}
-use Rattle.same_run.specs.SameRun.{host_failed, GaveOf, ShowAlike, AreTheSame, RunAlike, AreServed, SameRun, AreAlike, SameReport}
+use Rattle.same_run.specs.SameRun.{host_failed, GaveOf, ReadAndWrote, ShowAlike, AreTheSame, RunAlike, AreServed, SameRun, AreAlike, SameReport}
 use Rattle.same_run.proofs.Answering.{answers_once, failures_stay}
 use Rattle.same_run.proofs.Running.{one_end}
 use Rattle.same_run.proofs.OneStart.{started_alike}
-use Rattle.same_run.proofs.Worlds.{Moves, ReachMoves, reach_moves}
+use Rattle.same_run.proofs.Worlds.{reach_moves}
 
 -- ---- one run over worlds
 
@@ -53,14 +53,18 @@ module _ {D R W1 W2 : Type 0} (on : Devices D R W1 W2) where
     stops_over OutOfFuel w d not_memory is = is
     stops_over OutOfMemory w d not_memory is = absurd (not_memory refl)
 
-    pub ran_over : (moves : ReachMoves on i h c run.answers last run.last run.reach) → IsServed (Calls on) host_failed run → (others : StreamBytes) → MayFollow last others
-        → RanOver (before_moving moves.0 others) (after_moving moves.0 others)
-    ran_over (moved, moves, over) served others end = let (reach, same) = over others end in (
+    pub ran_over : (moved : StreamBytes) → ReadAndWrote on run moved → IsServed (Calls on) host_failed run → (others : StreamBytes) → MayFollow last others
+        → RanOver (before_moving moved others) (after_moving moved others)
+    ran_over moved did served others end = let (reach, same) = did.over_paths others end in (
       record { last = run.last; answers = run.answers; reach = reach; units = run.units; stops = stops_over outcome (world_of last (after_moving moved others)) run.last served.stacks run.stops },
       record { growths = λ refused. served.growths (same refused); stacks = served.stacks; nothing_failed = served.nothing_failed },
       refl,
       refl,
     )
+
+    pub some_bytes : IsHonest on h → (moved : StreamBytes) × ReadAndWrote on run moved
+    some_bytes is_honest = let (moved, moves, over) = reach_moves on i h last c run.last run.answers run.reach is_honest in
+        (moved, record { moves = moves; over_paths = over })
 
 -- ---- two of them
 
@@ -92,28 +96,23 @@ ends_alike i c fuel w w' v v' outcome outcome' used used' last last' answers ans
 module _ {D R W1 W2 D' R' W1' W2' : Type 0} (on : Devices D R W1 W2) (on' : Devices D' R' W1' W2') where
   pub same_run : SameRun on on'
   same_run i c fuel h last h' last' outcome outcome' used used' is_honest is_honest' alike run run' within within' (served, served') =
-      (moves.0, moves'.0, moves.1, moves'.1, the_same)
+      record { some = some_bytes on run is_honest; some' = some_bytes on' run' is_honest'; same = the_same }
     where
-      moves : ReachMoves on i h c run.answers last run.last run.reach
-      moves = reach_moves on i h last c run.last run.answers run.reach is_honest
-
-      moves' : ReachMoves on' i h' c run'.answers last' run'.last run'.reach
-      moves' = reach_moves on' i h' last' c run'.last run'.answers run'.reach is_honest'
-
-      the_same : (input : List ℕ) → GaveOf input last moves.0 → GaveOf input last' moves'.0 → AreTheSame on on' run run' moves.0 moves'.0
-      the_same input (left, all, over) (left', all', over') =
+      the_same : (input : List ℕ) (moved moved' : StreamBytes) → ReadAndWrote on run moved → ReadAndWrote on' run' moved' → GaveOf input last moved → GaveOf input last' moved'
+          → AreTheSame on on' run run' moved moved'
+      the_same input moved moved' did did' (left, all, over) (left', all', over') =
           let others : StreamBytes = record { input = left; output = []; errors = [] } in
           let others' : StreamBytes = record { input = left'; output = []; errors = [] } in
-          let before : before_moving moves'.0 others' ≡ before_moving moves.0 others = λ k. record { input = (sym all' ∙ all) k; output = []; errors = [] } in
-          let first : world_of h (before_moving moves.0 others) ≡ world_of h' (before_moving moves'.0 others') = alike (before_moving moves.0 others) ∙ ap (world_of h') (sym before) in
-          let same = ends_alike i c fuel (world_of h (before_moving moves.0 others)) (world_of h' (before_moving moves'.0 others'))
-          (world_of last (after_moving moves.0 others)) (world_of last' (after_moving moves'.0 others')) outcome outcome' used used' run.last run'.last run.answers run'.answers
-          first within within' (ran_over on run moves served others over) (ran_over on' run' moves' served' others' over') in
+          let before : before_moving moved' others' ≡ before_moving moved others = λ k. record { input = (sym all' ∙ all) k; output = []; errors = [] } in
+          let first : world_of h (before_moving moved others) ≡ world_of h' (before_moving moved' others') = alike (before_moving moved others) ∙ ap (world_of h') (sym before) in
+          let same = ends_alike i c fuel (world_of h (before_moving moved others)) (world_of h' (before_moving moved' others'))
+          (world_of last (after_moving moved others)) (world_of last' (after_moving moved' others')) outcome outcome' used used' run.last run'.last run.answers run'.answers
+          first within within' (ran_over on run moved did served others over) (ran_over on' run' moved' did' served' others' over') in
           let lefts : left ≡ left' = ap (λ (w : World). w.input) same.world_is in
-          let inputs : moves.0.input ≡ moves'.0.input = append_cancel_right moves.0.input moves'.0.input left
-          (sym all ∙ (all' ∙ ap (λ (xs : List ℕ). moves'.0.input ++ xs) (sym lefts))) in
-          let outputs : moves.0.output ≡ moves'.0.output = ap (λ (w : World). w.output) same.world_is in
-          let errors : moves.0.errors ≡ moves'.0.errors = ap (λ (w : World). w.errors) same.world_is in
+          let inputs : moved.input ≡ moved'.input = append_cancel_right moved.input moved'.input left
+          (sym all ∙ (all' ∙ ap (λ (xs : List ℕ). moved'.input ++ xs) (sym lefts))) in
+          let outputs : moved.output ≡ moved'.output = ap (λ (w : World). w.output) same.world_is in
+          let errors : moved.errors ≡ moved'.errors = ap (λ (w : World). w.errors) same.world_is in
           record {
             ends = same.outcome_is;
             units = same.used_is;

@@ -8,27 +8,36 @@ use Rattle.wasm_module.specs.declared.module.Module.{Module}
 use Rattle.wasm_valid.specs.Validity.{IsValid}
 use Rattle.wasm_steps.specs.declared.pause.Outcome.{Outcome}
 use Rattle.wasm_steps.specs.Configuration.{Instance, Configuration}
+use Rattle.wasm_steps.specs.Steps.{Reach}
 use Rattle.wasm_interp.specs.Machine.{Represents}
 use Rattle.wasi_calls.specs.declared.host.wasi_host.HostParts.{HostParts}
-use Rattle.wasi_calls.specs.host.Worlds.{HostState, StreamBytes, StreamsMove, stream_failed, world_of}
+use Rattle.wasi_calls.specs.World.{World}
+use Rattle.wasi_calls.specs.Calls as world
+use Rattle.wasi_calls.specs.host.Worlds.{HostState, StreamBytes, StreamsMove, MayFollow, before_moving, after_moving, stream_failed, world_of}
 use Rattle.sandbox_core.specs.declared.report.Report.{Report}
 use Rattle.sandbox_core.specs.Devices.{Devices, Calls, IsHonest, tree_of}
 use Rattle.sandbox_core.specs.Session.{SessionState, OpensWith, Shares}
 use Rattle.sandbox_core.specs.Runs.{RunsWithin}
 use Rattle.sandbox_core.specs.Report.{Reports}
+use Rattle.same_run.specs.Growth.{WasRefusedMemory}
 use Rattle.same_run.specs.OneRun.{IsServed}
 
 -- the volume has failed, or a read or a write of a stream
 abbrev pub host_failed : {D R W1 W2 : Type 0} → HostState D R W1 W2 → Bool
 host_failed h = h.volume.failed || stream_failed h
 
--- what the streams moved by in a run over these devices and streams
-abbrev pub MovedBy : {D R W1 W2 : Type 0} → Devices D R W1 W2 → HostState D R W1 W2 → HostState D R W1 W2 → StreamBytes → Type 0
-MovedBy on = StreamsMove on.input.remaining on.out.contents on.err.contents
-
 -- The reader gave a beginning of these bytes, and all of them where the input has ended.
 abbrev pub GaveOf : {D R W1 W2 : Type 0} → List ℕ → HostState D R W1 W2 → StreamBytes → Type 0
 GaveOf input last moved = (left : List ℕ) × (input ≡ moved.input ++ left) × (last.input.ended ≡ true → left ≡ [])
+
+module _ {D R W1 W2 : Type 0} (on : Devices D R W1 W2) {i : Instance} {c : Configuration} {fuel : ℕ} {h last : HostState D R W1 W2} {outcome : Outcome} {used : ℕ} where
+  -- The guest read and wrote these bytes in the run: each stream that tells its bytes moved by them, and whatever others the
+  -- streams have, it is a run over a tree of paths, which is refused memory only where this one is.
+  pub record ReadAndWrote (run : RunsWithin (Calls on) i h c fuel last outcome used) (moved : StreamBytes) : Type 0 where
+    pub moves : StreamsMove on.input.remaining on.out.contents on.err.contents h last moved
+    pub over_paths : (others : StreamBytes) → MayFollow last others
+        → (over : Reach World world.Calls i (world_of h (before_moving moved others)) c run.answers (world_of last (after_moving moved others)) run.last)
+        × (WasRefusedMemory over → WasRefusedMemory run.reach)
 
 module _ {D R W1 W2 D' R' W1' W2' : Type 0} (on : Devices D R W1 W2) (on' : Devices D' R' W1' W2') where
   -- The hosts have the same tree, room, descriptors, texts, moment and random bytes: they show the same world, for each bytes of
@@ -47,10 +56,13 @@ module _ {D R W1 W2 D' R' W1' W2' : Type 0} (on : Devices D R W1 W2) (on' : Devi
       pub tree : tree_of last ≡ tree_of last'
       pub bytes : moved ≡ moved'
 
-    -- The streams of each moved by some bytes, and if both readers gave of the same input, both runs are the same.
-    abbrev pub RunAlike : RunsWithin (Calls on) i h c fuel last outcome used → RunsWithin (Calls on') i h' c fuel last' outcome' used' → Type 0
-    RunAlike run run' = (moved : StreamBytes) × (moved' : StreamBytes) × MovedBy on h last moved × MovedBy on' h' last' moved'
-        × ((input : List ℕ) → GaveOf input last moved → GaveOf input last' moved' → AreTheSame run run' moved moved')
+    -- The guest read and wrote some bytes in each; and whichever they are, if both readers gave of the same input, both runs are
+    -- the same.
+    pub record RunAlike (run : RunsWithin (Calls on) i h c fuel last outcome used) (run' : RunsWithin (Calls on') i h' c fuel last' outcome' used') : Type 0 where
+      pub some : (moved : StreamBytes) × ReadAndWrote on run moved
+      pub some' : (moved : StreamBytes) × ReadAndWrote on' run' moved
+      pub same : (input : List ℕ) (moved moved' : StreamBytes) → ReadAndWrote on run moved → ReadAndWrote on' run' moved'
+          → GaveOf input last moved → GaveOf input last' moved' → AreTheSame run run' moved moved'
 
     -- The host failed in neither: no growth within the limit and no room for the stacks was refused, no stream failed, and no
     -- device.
