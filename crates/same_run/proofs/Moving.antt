@@ -360,26 +360,39 @@ module _ (H : Type 0) (Calls : CallsOf H) (i : Instance) where
 
   -- ---- two steps
 
-  pub made_once : (failed : H → Bool) → AnswersOnce H Calls failed → (move : Move) (h h1 h2 : H) (memory : List ℕ) (used : ℕ) (ev1 ev2 : Event) (c1 c2 : Configuration)
-      → failed h1 ≡ false → failed h2 ≡ false → IsMade move h memory used ev1 h1 c1 → IsMade move h memory used ev2 h2 c2 → (ev1 ≡ ev2) × (h1 ≡ h2) × (c1 ≡ c2)
-  made_once failed once (goes c) h h1 h2 memory used ev1 ev2 c1 c2 sound1 sound2 (quiet1, same1, is1) (quiet2, same2, is2) =
-      (quiet1 ∙ sym quiet2, same1 ∙ sym same2, is1 ∙ sym is2)
-  made_once failed once (asks call args reply) h h1 h2 memory used ev1 ev2 c1 c2 sound1 sound2 (memory1, answer1, answered1, told1, is1) (memory2, answer2, answered2, told2, is2) =
-      let same = once h h1 h2 memory memory1 memory2 used call args answer1 answer2 answered1 answered2 sound1 sound2 in (
-        told1 ∙ (ap (event_of call) same.2 ∙ sym told2),
-        same.0,
-        is1 ∙ ((λ j. reply (same.1 j) (same.2 j)) ∙ sym is2),
-      )
+  module _ (Same : H → H → Type 0) (failed : H → Bool) where
+    -- Hosts that are the same in this sense answer the same to the same question, where nothing has failed afterwards.
+    abbrev pub AnswersAlike : Type 0
+    AnswersAlike = (h g h1 g1 : H) (memory memory1 memory2 : List ℕ) (used : ℕ) (call : HostCall) (args : List ℕ) (answer1 answer2 : Answer) → Same h g
+        → Calls h memory used call args h1 memory1 answer1 → Calls g memory used call args g1 memory2 answer2 → failed h1 ≡ false → failed g1 ≡ false
+        → Same h1 g1 × (memory1 ≡ memory2) × (answer1 ≡ answer2)
 
-  -- also where one begins at what is the same as where the other begins
-  pub one_next : (failed : H → Bool) (n : ℕ) (h g h1 h2 : H) (c d c1 c2 : Configuration) (ev1 ev2 : Event) → AnswersOnce H Calls failed → h ≡ g → c ≡ d
-      → (one : Step H Calls i n h c ev1 h1 c1) → (other : Step H Calls i n g d ev2 h2 c2) → (RefusesMemory one → ⊥) → (RefusesMemory other → ⊥)
-      → failed h1 ≡ false → failed h2 ≡ false → (ev1 ≡ ev2) × (h1 ≡ h2) × (c1 ≡ c2)
-  one_next failed n h g h1 h2 c d c1 c2 ev1 ev2 once same_host same one other given1 given2 sound1 sound2 =
-      let a = is_next one given1 in
-      let b = is_next other given2 in
-      let move_is : a.move ≡ b.move = same_Some a.move b.move (sym a.is ∙ (ap (next_of i n) same ∙ b.is)) in
-      let made : IsMade b.move h (memory_of c) (used_by c) ev1 h1 c1 = subst (λ (move : Move). IsMade move h (memory_of c) (used_by c) ev1 h1 c1) move_is a.made in
-      let from : IsMade b.move g (memory_of c) (used_by c) ev1 h1 c1 = subst (λ (x : H). IsMade b.move x (memory_of c) (used_by c) ev1 h1 c1) same_host made in
-      made_once failed once b.move g h1 h2 (memory_of d) (used_by d) ev1 ev2 c1 c2 sound1 sound2
-      (subst (λ (x : Configuration). IsMade b.move g (memory_of x) (used_by x) ev1 h1 c1) same from) b.made
+    made_alike : AnswersAlike → (move : Move) (h g h1 g1 : H) (memory : List ℕ) (used : ℕ) (ev1 ev2 : Event) (c1 c2 : Configuration) → Same h g
+        → failed h1 ≡ false → failed g1 ≡ false → IsMade move h memory used ev1 h1 c1 → IsMade move g memory used ev2 g1 c2 → (ev1 ≡ ev2) × Same h1 g1 × (c1 ≡ c2)
+    made_alike alike (goes c) h g h1 g1 memory used ev1 ev2 c1 c2 same sound1 sound2 (quiet1, still1, is1) (quiet2, still2, is2) = (
+      quiet1 ∙ sym quiet2,
+      subst (λ (x : H). Same x g1) (sym still1) (subst (λ (x : H). Same h x) (sym still2) same),
+      is1 ∙ sym is2,
+    )
+    made_alike alike (asks call args reply) h g h1 g1 memory used ev1 ev2 c1 c2 same sound1 sound2 (memory1, answer1, answered1, told1, is1) (memory2, answer2, answered2, told2, is2) =
+        let both = alike h g h1 g1 memory memory1 memory2 used call args answer1 answer2 same answered1 answered2 sound1 sound2 in (
+          told1 ∙ (ap (event_of call) both.2 ∙ sym told2),
+          both.0,
+          is1 ∙ ((λ j. reply (both.1 j) (both.2 j)) ∙ sym is2),
+        )
+
+    pub next_alike : AnswersAlike → (n : ℕ) (h g h1 g1 : H) (c d c1 c2 : Configuration) (ev1 ev2 : Event) → Same h g → c ≡ d
+        → (one : Step H Calls i n h c ev1 h1 c1) → (other : Step H Calls i n g d ev2 g1 c2) → (RefusesMemory one → ⊥) → (RefusesMemory other → ⊥)
+        → failed h1 ≡ false → failed g1 ≡ false → (ev1 ≡ ev2) × Same h1 g1 × (c1 ≡ c2)
+    next_alike alike n h g h1 g1 c d c1 c2 ev1 ev2 same_host same one other given1 given2 sound1 sound2 =
+        let a = is_next one given1 in
+        let b = is_next other given2 in
+        let move_is : a.move ≡ b.move = same_Some a.move b.move (sym a.is ∙ (ap (next_of i n) same ∙ b.is)) in
+        let made : IsMade b.move h (memory_of c) (used_by c) ev1 h1 c1 = subst (λ (move : Move). IsMade move h (memory_of c) (used_by c) ev1 h1 c1) move_is a.made in
+        made_alike alike b.move h g h1 g1 (memory_of d) (used_by d) ev1 ev2 c1 c2 same_host sound1 sound2
+        (subst (λ (x : Configuration). IsMade b.move h (memory_of x) (used_by x) ev1 h1 c1) same made) b.made
+
+-- a host that answers once answers alike where it is the same
+pub once_alike : (H : Type 0) (Calls : CallsOf H) (i : Instance) (failed : H → Bool) → AnswersOnce H Calls failed → AnswersAlike H Calls i (λ (h g : H). h ≡ g) failed
+once_alike H Calls i failed once h g h1 g1 memory memory1 memory2 used call args answer1 answer2 same answered1 answered2 sound1 sound2 =
+    once g h1 g1 memory memory1 memory2 used call args answer1 answer2 (subst (λ (x : H). Calls x memory used call args h1 memory1 answer1) same answered1) answered2 sound1 sound2

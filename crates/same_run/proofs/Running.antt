@@ -14,7 +14,7 @@ use Rattle.same_run.specs.Growth.{RefusesMemory, WasRefusedMemory}
 use Rattle.same_run.specs.NextStep.{AnswersOnce}
 use Rattle.same_run.specs.Failures.{FailuresStay}
 use Rattle.same_run.specs.OneRun.{GoesOnFrom, IsServed, EndAlike}
-use Rattle.same_run.proofs.Moving.{one_next}
+use Rattle.same_run.proofs.Moving.{AnswersAlike, next_alike, once_alike}
 
 -- what is seen, before what was seen later
 seen_append : (ev : Event) (es fs : List (HostCall × Errno)) → seen ev (es ++ fs) ≡ seen ev es ++ fs
@@ -28,7 +28,8 @@ module _ (H : Type 0) (Calls : CallsOf H) (i : Instance) where
   abbrev GoesOn : H → Configuration → List (HostCall × Errno) → H → Configuration → List (HostCall × Errno) → Type 0
   GoesOn = GoesOnFrom H Calls i
 
-  module _ (failed : H → Bool) (once : AnswersOnce H Calls failed) (stay : FailuresStay H Calls failed) where
+  -- a failure that stays was none before
+  module _ (failed : H → Bool) (stay : FailuresStay H Calls failed) where
     step_sound : {n : ℕ} {h h' : H} {c c' : Configuration} {ev : Event} → Step H Calls i n h c ev h' c' → failed h' ≡ false → failed h ≡ false
     step_sound (plain_step rule) sound = sound
     step_sound (free_step rule) sound = sound
@@ -41,28 +42,33 @@ module _ (H : Type 0) (Calls : CallsOf H) (i : Instance) where
     reach_sound stays sound = sound
     reach_sound (goes ev es step rest) sound = step_sound step (reach_sound rest sound)
 
-    moved : (h g : H) (c d : Configuration) → h ≡ g → c ≡ d → (es : List (HostCall × Errno)) (h' : H) (c' : Configuration) → Run g d es h' c' → Run h c es h' c'
-    moved h g c d same_host same es h' c' run =
-        subst (λ (x : H). Run x c es h' c') (sym same_host) (subst (λ (x : Configuration). Run g x es h' c') (sym same) run)
+  moved : (h : H) (c d : Configuration) → c ≡ d → (es : List (HostCall × Errno)) (h' : H) (c' : Configuration) → Run h d es h' c' → Run h c es h' c'
+  moved h c d same es h' c' run = subst (λ (x : Configuration). Run h x es h' c') (sym same) run
 
-    -- one step more at the front of both
-    both_more : (ev1 ev2 : Event) (es1 es2 : List (HostCall × Errno)) (h1 h2 : H) (c1 c2 : Configuration) → ev1 ≡ ev2 → GoesOn h1 c1 es1 h2 c2 es2
-        → GoesOn h1 c1 (seen ev1 es1) h2 c2 (seen ev2 es2)
-    both_more ev1 ev2 es1 es2 h1 h2 c1 c2 same (more, is, run) =
-        (more, ap (λ (ev : Event). seen ev es2) (sym same) ∙ (ap (seen ev1) is ∙ seen_append ev1 es1 more), run)
+  module _ (Same : H → H → Type 0) (failed : H → Bool) (alike : AnswersAlike H Calls i Same failed) (stay : FailuresStay H Calls failed) where
+    -- From a host that is the same as that of the end of one the other goes on.
+    abbrev pub GoesOnAs : H → Configuration → List (HostCall × Errno) → H → Configuration → List (HostCall × Errno) → Type 0
+    GoesOnAs h1 c1 es1 h2 c2 es2 = (more : List (HostCall × Errno)) × (g : H) × Same h1 g × (es2 ≡ es1 ++ more) × Run g c1 more h2 c2
 
-    pub one_run : (h g h1 h2 : H) (c d c1 c2 : Configuration) (es1 es2 : List (HostCall × Errno)) → h ≡ g → c ≡ d
+    abbrev pub GoneOnAs : H → Configuration → List (HostCall × Errno) → H → Configuration → List (HostCall × Errno) → Type 0
+    GoneOnAs h1 c1 es1 h2 c2 es2 = (more : List (HostCall × Errno)) × (g : H) × Same g h2 × (es1 ≡ es2 ++ more) × Run g c2 more h1 c1
+
+    one_more : (ev1 ev2 : Event) (es1 es2 more : List (HostCall × Errno)) → ev1 ≡ ev2 → es2 ≡ es1 ++ more → seen ev2 es2 ≡ seen ev1 es1 ++ more
+    one_more ev1 ev2 es1 es2 more same is = ap (λ (ev : Event). seen ev es2) (sym same) ∙ (ap (seen ev1) is ∙ seen_append ev1 es1 more)
+
+    pub runs_alike : (h g h1 h2 : H) (c d c1 c2 : Configuration) (es1 es2 : List (HostCall × Errno)) → Same h g → c ≡ d
         → (one : Run h c es1 h1 c1) → (other : Run g d es2 h2 c2) → (WasRefusedMemory one → ⊥) → (WasRefusedMemory other → ⊥)
-        → failed h1 ≡ false → failed h2 ≡ false → GoesOn h1 c1 es1 h2 c2 es2 ⊎ GoesOn h2 c2 es2 h1 c1 es1
-    one_run h g h1 h2 c d c1 c2 es1 es2 same_host same stays other given1 given2 sound1 sound2 =
-        inl (es2, refl, moved h g c d same_host same es2 h2 c2 other)
-    one_run h g h1 h2 c d c1 c2 es1 es2 same_host same (goes ev es step rest) stays given1 given2 sound1 sound2 =
-        inr (es1, refl, moved g h d c (sym same_host) (sym same) es1 h1 c1 (goes ev es step rest))
-    one_run h g h1 h2 c d c1 c2 es1 es2 same_host same (goes {h' = x} {c' = y} ev es step rest) (goes {h' = x'} {c' = y'} ev' es' step' rest') given1 given2 sound1 sound2 =
-        let first = one_next H Calls i failed 0 h g x x' c d y y' ev ev' once same_host same step step' (λ r. given1 (inl r)) (λ r. given2 (inl r)) (reach_sound rest sound1) (reach_sound rest' sound2) in
-        elim (one_run x x' h1 h2 y y' c1 c2 es es' first.1 first.2 rest rest' (λ r. given1 (inr r)) (λ r. given2 (inr r)) sound1 sound2) [
-          | inl more ↦ inl (both_more ev ev' es es' h1 h2 c1 c2 first.0 more)
-          | inr more ↦ inr (both_more ev' ev es' es h2 h1 c2 c1 (sym first.0) more)
+        → failed h1 ≡ false → failed h2 ≡ false → GoesOnAs h1 c1 es1 h2 c2 es2 ⊎ GoneOnAs h1 c1 es1 h2 c2 es2
+    runs_alike h g h1 h2 c d c1 c2 es1 es2 same_host same stays other given1 given2 sound1 sound2 =
+        inl (es2, g, same_host, refl, moved g c d same es2 h2 c2 other)
+    runs_alike h g h1 h2 c d c1 c2 es1 es2 same_host same (goes ev es step rest) stays given1 given2 sound1 sound2 =
+        inr (es1, h, same_host, refl, moved h d c (sym same) es1 h1 c1 (goes ev es step rest))
+    runs_alike h g h1 h2 c d c1 c2 es1 es2 same_host same (goes {h' = x} {c' = y} ev es step rest) (goes {h' = x'} {c' = y'} ev' es' step' rest') given1 given2 sound1 sound2 =
+        let first = next_alike H Calls i Same failed alike 0 h g x x' c d y y' ev ev' same_host same step step' (λ r. given1 (inl r)) (λ r. given2 (inl r))
+        (reach_sound failed stay rest sound1) (reach_sound failed stay rest' sound2) in
+        elim (runs_alike x x' h1 h2 y y' c1 c2 es es' first.1 first.2 rest rest' (λ r. given1 (inr r)) (λ r. given2 (inr r)) sound1 sound2) [
+          | inl (more, k, there, is, run) ↦ inl (more, k, there, one_more ev ev' es es' more first.0 is, run)
+          | inr (more, k, there, is, run) ↦ inr (more, k, there, one_more ev' ev es' es more (sym first.0) is, run)
         ]
 
   -- ---- units
@@ -159,25 +165,54 @@ module _ (H : Type 0) (Calls : CallsOf H) (i : Instance) where
   no_more fuel h h' c c' es (inr (next, spent)) within (goes {c' = d} ev fs step rest) =
       let more = rises_by_one c d (takes_its_unit step) next in let later = run_rises rest in absurd (omega (arith, within, more, later, spent))
 
+  -- both end at the same
+  pub record EndSame (Same : H → H → Type 0) (h1 h2 : H) (last1 last2 : Configuration) (answers1 answers2 : List (HostCall × Errno)) (outcome1 outcome2 : Outcome) (used1 used2 : ℕ) : Type 0 where
+    pub hosts : Same h1 h2
+    pub lasts : last1 ≡ last2
+    pub told_same : answers1 ≡ answers2
+    pub outcomes : outcome1 ≡ outcome2
+    pub units : used1 ≡ used2
+
+  pub ends_alike : (Same : H → H → Type 0) (failed : H → Bool) → AnswersAlike H Calls i Same failed → FailuresStay H Calls failed
+      → (h g h1 h2 : H) (c : Configuration) (fuel : ℕ) (o1 o2 : Outcome) (u1 u2 : ℕ) → Same h g
+      → (one : RunsWithin Calls i h c fuel h1 o1 u1) → (other : RunsWithin Calls i g c fuel h2 o2 u2) → u1 ≤ fuel → u2 ≤ fuel
+      → IsServed Calls failed one → IsServed Calls failed other → EndSame Same h1 h2 one.last other.last one.answers other.answers o1 o2 u1 u2
+  ends_alike Same failed alike stay h g h1 h2 c fuel o1 o2 u1 u2 same one other within1 within2 served1 served2 =
+      elim (runs_alike Same failed alike stay h g h1 h2 c c one.last other.last one.answers other.answers same refl one.reach other.reach
+      served1.growths served2.growths served1.nothing_failed served2.nothing_failed) [
+        | inl (more, k, there, is, run) ↦
+            let none = no_more fuel k h2 one.last other.last more (stops_last fuel u1 h1 o1 one.last served1.stacks one.units one.stops) (omega (arith, other.units, within2)) run in
+            end_same (subst (λ (x : H). Same h1 x) none.0 there) none.1
+            (sym (append-nil one.answers) ∙ (ap (λ (es : List (HostCall × Errno)). one.answers ++ es) (sym none.2) ∙ sym is))
+        | inr (more, k, there, is, run) ↦
+            let none = no_more fuel k h1 other.last one.last more (stops_last fuel u2 h2 o2 other.last served2.stacks other.units other.stops) (omega (arith, one.units, within1)) run in
+            end_same (subst (λ (x : H). Same x h2) none.0 there) (sym none.1)
+            (is ∙ (ap (λ (es : List (HostCall × Errno)). other.answers ++ es) none.2 ∙ append-nil other.answers))
+      ]
+    where
+      end_same : Same h1 h2 → one.last ≡ other.last → one.answers ≡ other.answers → EndSame Same h1 h2 one.last other.last one.answers other.answers o1 o2 u1 u2
+      end_same hosts lasts told_alike = record {
+        hosts = hosts;
+        lasts = lasts;
+        told_same = told_alike;
+        outcomes = sym (told fuel u1 h1 o1 one.last served1.stacks one.stops) ∙ (ap (λ (c : Configuration). outcome_told (code_of c)) lasts ∙ told fuel u2 h2 o2 other.last served2.stacks other.stops);
+        units = sym one.units ∙ (ap used_by lasts ∙ other.units);
+      }
+
+  -- ---- where the hosts are equal
+
+  pub one_run : (failed : H → Bool) → AnswersOnce H Calls failed → FailuresStay H Calls failed → (h h1 h2 : H) (c c1 c2 : Configuration) (es1 es2 : List (HostCall × Errno))
+      → (one : Run h c es1 h1 c1) → (other : Run h c es2 h2 c2) → (WasRefusedMemory one → ⊥) → (WasRefusedMemory other → ⊥)
+      → failed h1 ≡ false → failed h2 ≡ false → GoesOn h1 c1 es1 h2 c2 es2 ⊎ GoesOn h2 c2 es2 h1 c1 es1
+  one_run failed once stay h h1 h2 c c1 c2 es1 es2 one other given1 given2 sound1 sound2 =
+      elim (runs_alike (λ (a b : H). a ≡ b) failed (once_alike H Calls i failed once) stay h h h1 h2 c c c1 c2 es1 es2 refl refl one other given1 given2 sound1 sound2) [
+        | inl (more, k, there, is, run) ↦ inl (more, is, subst (λ (x : H). Run x c1 more h2 c2) (sym there) run)
+        | inr (more, k, there, is, run) ↦ inr (more, is, subst (λ (x : H). Run x c2 more h1 c1) there run)
+      ]
+
   pub one_end : (failed : H → Bool) (h h1 h2 : H) (c : Configuration) (fuel : ℕ) (o1 o2 : Outcome) (u1 u2 : ℕ) → AnswersOnce H Calls failed → FailuresStay H Calls failed
       → (one : RunsWithin Calls i h c fuel h1 o1 u1) → (other : RunsWithin Calls i h c fuel h2 o2 u2) → u1 ≤ fuel → u2 ≤ fuel
       → IsServed Calls failed one → IsServed Calls failed other → EndAlike Calls failed one other
   one_end failed h h1 h2 c fuel o1 o2 u1 u2 once stay one other within1 within2 served1 served2 =
-      elim (one_run failed once stay h h h1 h2 c c one.last other.last one.answers other.answers refl refl one.reach other.reach
-      served1.growths served2.growths served1.nothing_failed served2.nothing_failed) [
-        | inl (more, is, run) ↦
-            let same = no_more fuel h1 h2 one.last other.last more (stops_last fuel u1 h1 o1 one.last served1.stacks one.units one.stops) (omega (arith, other.units, within2)) run in
-            alike same.0 same.1 (sym (append-nil one.answers) ∙ (ap (λ (es : List (HostCall × Errno)). one.answers ++ es) (sym same.2) ∙ sym is))
-        | inr (more, is, run) ↦
-            let same = no_more fuel h2 h1 other.last one.last more (stops_last fuel u2 h2 o2 other.last served2.stacks other.units other.stops) (omega (arith, one.units, within1)) run in
-            alike (sym same.0) (sym same.1) (is ∙ (ap (λ (es : List (HostCall × Errno)). other.answers ++ es) same.2 ∙ append-nil other.answers))
-      ]
-    where
-      alike : h1 ≡ h2 → one.last ≡ other.last → one.answers ≡ other.answers → EndAlike Calls failed one other
-      alike hosts lasts told_alike = record {
-        host = hosts;
-        last = lasts;
-        answers = told_alike;
-        outcome = sym (told fuel u1 h1 o1 one.last served1.stacks one.stops) ∙ (ap (λ (c : Configuration). outcome_told (code_of c)) lasts ∙ told fuel u2 h2 o2 other.last served2.stacks other.stops);
-        used = sym one.units ∙ (ap used_by lasts ∙ other.units);
-      }
+      let same = ends_alike (λ (a b : H). a ≡ b) failed (once_alike H Calls i failed once) stay h h h1 h2 c fuel o1 o2 u1 u2 refl one other within1 within2 served1 served2 in
+      record { host = same.hosts; last = same.lasts; answers = same.told_same; outcome = same.outcomes; used = same.units }
