@@ -12,7 +12,9 @@ use Rattle.wasi_calls.specs.Errnos.{SUCCESS}
 use Rattle.wasi_calls.specs.Calls.{row, word, Answers, Answered, by_row, volume_fails, input_fails, output_fails, errors_fail, Calls}
 use Rattle.same_run.specs.Failures.{has_failed, FailuresStay}
 use Rattle.same_run.specs.NextStep.{AnswersOnce}
+use Rattle.same_run.specs.SameWorld.{unplaced_world, IsSameWorld}
 use Rattle.same_run.proofs.Marks.{Yields, row_keeps}
+use Rattle.same_run.proofs.Unplaced.{Both, IsUnplaced, row_unplaced}
 
 -- ---- a call in which something failed leaves its mark
 
@@ -105,3 +107,48 @@ sound_before c w w' memory memory' used args errno answered sound =
 pub failures_stay : FailuresStay World Calls has_failed
 failures_stay w w' memory memory' used call.ProcExit args answer (is, same, bytes) sound = sym (ap has_failed same) ∙ sound
 failures_stay w w' memory memory' used other args answer (e, is, answered) sound = sound_before other w w' memory memory' used args e.0 answered sound
+
+-- ---- worlds that are the same for a guest
+
+unplaced_row : (result result' : Checked Done) (w w' : World) (memory memory' : List ℕ) (errno : ℕ) → Both IsUnplaced result result' → IsRowOf result w memory w' memory' errno
+    → IsRowOf result' (unplaced_world w) memory (unplaced_world w') memory' errno
+unfolding Both
+unplaced_row (Ok d) (Ok e) w w' memory memory' errno is row = record {
+  world_is = ap unplaced_world row.world_is ∙ sym (ap (λ (d : Done). d.world) is);
+  memory_is = row.memory_is ∙ sym (ap (λ (d : Done). put (put memory d.fills) d.results) is);
+  number_is = row.number_is;
+}
+unplaced_row (Err x) (Err y) w w' memory memory' errno is row = record {
+  world_is = ap unplaced_world row.world_is;
+  memory_is = row.memory_is;
+  number_is = row.number_is ∙ is;
+}
+unplaced_row (Ok d) (Err y) w w' memory memory' errno is row = absurd is
+unplaced_row (Err x) (Ok e) w w' memory memory' errno is row = absurd is
+
+unplaced_answer : (c : HostCall) (w w' : World) (memory memory' : List ℕ) (used : ℕ) (args : List ℕ) (errno : ℕ)
+    → Answered (λ v. row c v memory used args) w memory w' memory' errno → has_failed w' ≡ false
+    → IsRowOf (row c (unplaced_world w) memory used args) (unplaced_world w) memory (unplaced_world w') memory' errno
+unplaced_answer c w w' memory memory' used args errno answered sound =
+    unplaced_row (row c w memory used args) (row c (unplaced_world w) memory used args) w w' memory memory' errno (row_unplaced c w memory used args)
+    (is_row (λ v. row c v memory used args) w w' memory memory' errno answered sound)
+
+answered_alike : (c : HostCall) (w v w1 v1 : World) (memory memory1 memory2 : List ℕ) (used : ℕ) (args : List ℕ) (answer1 answer2 : Answer) → IsSameWorld w v
+    → ((e : Errno) × (answer1 ≡ value e) × Answered (λ x. row c x memory used args) w memory w1 memory1 e.0)
+    → ((e : Errno) × (answer2 ≡ value e) × Answered (λ x. row c x memory used args) v memory v1 memory2 e.0)
+    → has_failed w1 ≡ false → has_failed v1 ≡ false → IsSameWorld w1 v1 × (memory1 ≡ memory2) × (answer1 ≡ answer2)
+answered_alike c w v w1 v1 memory memory1 memory2 used args answer1 answer2 same (e1, is1, answered1) (e2, is2, answered2) sound1 sound2 =
+    let a = unplaced_answer c w w1 memory memory1 used args e1.0 answered1 sound1 in
+    let b = unplaced_answer c v v1 memory memory2 used args e2.0 answered2 sound2 in (
+      a.world_is ∙ (ap (λ (x : World). world_after (row c x memory used args) x) same ∙ sym b.world_is),
+      a.memory_is ∙ (ap (λ (x : World). memory_after (row c x memory used args) memory) same ∙ sym b.memory_is),
+      is1 ∙ (ap (λ (e : Errno). value e) (same_errno e1 e2 (a.number_is ∙ (ap (λ (x : World). number_after (row c x memory used args)) same ∙ sym b.number_is))) ∙ sym is2),
+    )
+
+pub answers_alike : (w v w1 v1 : World) (memory memory1 memory2 : List ℕ) (used : ℕ) (c : HostCall) (args : List ℕ) (answer1 answer2 : Answer) → IsSameWorld w v
+    → Calls w memory used c args w1 memory1 answer1 → Calls v memory used c args v1 memory2 answer2 → has_failed w1 ≡ false → has_failed v1 ≡ false
+    → IsSameWorld w1 v1 × (memory1 ≡ memory2) × (answer1 ≡ answer2)
+answers_alike w v w1 v1 memory memory1 memory2 used call.ProcExit args answer1 answer2 same (is1, still1, bytes1) (is2, still2, bytes2) sound1 sound2 =
+    (ap unplaced_world still1 ∙ (same ∙ sym (ap unplaced_world still2)), bytes1 ∙ sym bytes2, is1 ∙ sym is2)
+answers_alike w v w1 v1 memory memory1 memory2 used other args answer1 answer2 same one two sound1 sound2 =
+    answered_alike other w v w1 v1 memory memory1 memory2 used args answer1 answer2 same one two sound1 sound2

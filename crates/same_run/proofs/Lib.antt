@@ -2,6 +2,7 @@ pub mod Branching
 pub mod Rewriting
 pub mod Moving
 pub mod Marks
+pub mod Unplaced
 pub mod Answering
 pub mod Running
 pub mod OneStart

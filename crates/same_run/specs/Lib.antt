@@ -6,4 +6,5 @@ pub mod NextStep
 pub mod Failures
 pub mod OneRun
 pub mod OneStart
+pub mod SameWorld
 pub mod SameRun
