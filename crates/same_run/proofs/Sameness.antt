@@ -1,13 +1,17 @@
 -- Two runs over hosts that show the same world are the same.
-use Rattle.std.proofs.Common.{◌≡◌, ◌≢◌, ℕ, ◌≤◌, ◌||◌, Bool, true, false, List, [], ◌∷◌, ◌++◌, Option, Some, None, refl, sym, ◌∙◌, ap, subst}
-use Rattle.std.specs.Option.{option_map}
-use Rattle.std.proofs.lemmas.Option.{same_Some}
+use Rattle.std.proofs.Common.{◌≡◌, ◌≢◌, ℕ, zero, suc, ◌-◌, ◌≤◌, ◌||◌, Bool, true, false, cond, List, [], ◌∷◌, ◌++◌, map, Option, Some, None, slice_get, refl, sym, ◌∙◌, ap, subst, arith}
+use Rattle.std.specs.Prelude.{nat_lt}
+use Rattle.std.specs.Option.{option_map, option_map_or}
+use Rattle.std.proofs.lemmas.Option.{same_Some, slice_get_past}
 use Rattle.std.proofs.lemmas.List.{append_cancel_right}
 use Rattle.vol_tree.specs.Tree.{Tree}
 use Rattle.vol_tree.specs.Opened.{geometry}
 use Rattle.vol_tree.specs.declared.superblock.Superblock.{Superblock}
 use Rattle.wasi_fd.specs.declared.descriptor.Descriptor.{Descriptor}
-use Rattle.wasi_fd.specs.Table.{Table, table_of}
+use Rattle.wasi_fd.specs.declared.descriptor.Descriptor.TheVariants.{Entry}
+use Rattle.wasi_fd.specs.declared.descriptor.EntryKind.TheVariants as kinds
+use Rattle.wasi_fd.specs.Rights.{directory_rights, all_rights}
+use Rattle.wasi_fd.specs.Table.{Table, table_of, streams}
 use Rattle.wasm_module.specs.declared.module.Module.{Module}
 use Rattle.wasm_valid.specs.Validity.{IsValid}
 use Rattle.wasm_store.specs.declared.call.HostCall.{HostCall}
@@ -18,9 +22,10 @@ use Rattle.wasm_steps.specs.declared.pause.Outcome.TheVariants.{Exited, Trapped,
 use Rattle.wasm_steps.specs.Configuration.{Instance, Store, Configuration, at, first_configuration}
 use Rattle.wasm_interp.specs.Machine.{Snapshot, Represents}
 use Rattle.wasm_interp.specs.Promise.{Starts}
+use Rattle.wasi_calls.specs.declared.host.settings.Preopen.{Preopen}
 use Rattle.wasi_calls.specs.declared.host.settings.Settings.{Settings}
 use Rattle.wasi_calls.specs.declared.host.wasi_host.HostParts.{HostParts}
-use Rattle.wasi_calls.specs.host.Making.{HasPreopens, preopens_of, table_with}
+use Rattle.wasi_calls.specs.host.Making.{HasPreopens, directory_named, preopened, preopens_of, table_with}
 use Rattle.wasi_calls.specs.host.Links.{link}
 use Rattle.wasi_calls.specs.host.Worlds.{HostState, StreamBytes, MayFollow, before_moving, after_moving, given_of, world_of}
 use Rattle.wasi_calls.specs.supplies.Random.{seeded, supply}
@@ -32,12 +37,69 @@ use Rattle.sandbox_core.specs.Session.{SessionState, OpensWith, Shares}
 use Rattle.sandbox_core.specs.Runs.{StopsAs, RunsWithin}
 use Rattle.sandbox_core.specs.Report.{Reports}
 use Rattle.same_run.specs.Failures.{has_failed}
-use Rattle.same_run.specs.OneRun.{IsServed, EndAlike}
-use Rattle.same_run.specs.SameRun.{host_failed, GaveOf, ReadAndWrote, ShowAlike, AreTheSame, RunAlike, AreServed, SameRun, AreAlike, SameReport}
-use Rattle.same_run.proofs.Answering.{answers_once, failures_stay}
-use Rattle.same_run.proofs.Running.{one_end}
+use Rattle.same_run.specs.OneRun.{IsServed}
+use Rattle.same_run.specs.SameWorld.{unplaced, unplaced_world, IsSameWorld}
+use Rattle.same_run.specs.SameRun.{host_failed, names_of, AreSameSupplies, GaveOf, ReadAndWrote, ShowAlike, AreTheSame, RunAlike, AreServed, SameRun, AreAlike, SameReport}
+use Rattle.same_run.proofs.Answering.{answers_alike, failures_stay}
+use Rattle.same_run.proofs.Running.{ends_alike}
 use Rattle.same_run.proofs.OneStart.{started_alike}
 use Rattle.same_run.proofs.Worlds.{reach_moves}
+
+-- ---- the directories that a guest finds open
+
+-- the descriptor of a directory with this name, which stands nowhere
+abbrev named : List ℕ → ℕ → Descriptor
+named name serial = Entry (record {
+  serial = serial;
+  kind = kinds.Directory;
+  position = 0;
+  append = false;
+  base = record { 0 = directory_rights };
+  inheriting = record { 0 = all_rights };
+  guest_name = Some (record { ref_ptr = (0, 0); now = name });
+})
+
+abbrev opened_at : List ℕ → Option (List Descriptor) → Option ℕ → Option (List Descriptor)
+opened_at name rest None = None
+opened_at name rest (Some serial) = option_map (λ (ds : List Descriptor). named name serial ∷ ds) rest
+
+-- what the names and paths of directories give
+abbrev opened_by : Tree → List (List ℕ × List ℕ) → Option (List Descriptor)
+opened_by T [] = Some []
+opened_by T (n ∷ ns) = opened_at n.0 (opened_by T ns) (directory_named T n.1)
+
+opened_first : (p : Preopen) (rest : Option (List Descriptor)) (serial : Option ℕ)
+    → option_map (map unplaced) (option_map_or (λ serial. option_map (λ (ds : List Descriptor). preopened p serial ∷ ds) rest) serial None)
+    ≡ opened_at p.guest_name.now (option_map (map unplaced) rest) serial
+opened_first p rest None = refl
+opened_first p None (Some serial) = refl
+opened_first p (Some ds) (Some serial) = refl
+
+opened_so : (T : Tree) (ps : List Preopen) → option_map (map unplaced) (preopens_of T ps) ≡ opened_by T (map names_of ps)
+opened_so T [] = refl
+opened_so T (p ∷ ps) = opened_first p (preopens_of T ps) (directory_named T p.path.now)
+    ∙ ap (λ (rest : Option (List Descriptor)). opened_at p.guest_name.now rest (directory_named T p.path.now)) (opened_so T ps)
+
+place_of : (f : Descriptor → Descriptor) (ds : List Descriptor) (k : ℕ) → option_map f (slice_get ds k) ≡ slice_get (map f ds) k
+place_of f [] k = ap (option_map f) (slice_get_past [] k (omega arith)) ∙ sym (slice_get_past [] k (omega arith))
+place_of f (d ∷ ds) zero = refl
+place_of f (d ∷ ds) (suc k) = place_of f ds k
+
+in_table : (ds : List Descriptor) (n : ℕ) → option_map unplaced (table_with ds n) ≡ cond (nat_lt n 3) (option_map unplaced (streams n)) (slice_get (map unplaced ds) (n - 3))
+in_table ds n = by_test (nat_lt n 3)
+  where
+    by_test : (b : Bool) → option_map unplaced (cond b (streams n) (slice_get ds (n - 3))) ≡ cond b (option_map unplaced (streams n)) (slice_get (map unplaced ds) (n - 3))
+    by_test true = refl
+    by_test false = place_of unplaced ds (n - 3)
+
+same_tables : (T T' : Tree) (ps ps' : List Preopen) (table table' : Table) → T ≡ T' → map names_of ps ≡ map names_of ps' → HasPreopens T ps table → HasPreopens T' ps' table'
+    → (n : ℕ) → option_map unplaced (table n) ≡ option_map unplaced (table' n)
+same_tables T T' ps ps' table table' tree names has has' n =
+    let directories : map unplaced has.directories ≡ map unplaced has'.directories = same_Some (map unplaced has.directories) (map unplaced has'.directories)
+    (sym (ap (option_map (map unplaced)) has.named) ∙ (opened_so T ps ∙ ((λ k. opened_by (tree k) (names k)) ∙ (sym (opened_so T' ps') ∙ ap (option_map (map unplaced)) has'.named)))) in
+    ap (option_map unplaced) (has.opened n) ∙ (in_table has.directories n
+    ∙ (ap (λ (ds : List Descriptor). cond (nat_lt n 3) (option_map unplaced (streams n)) (slice_get ds (n - 3))) directories
+    ∙ (sym (in_table has'.directories n) ∙ sym (ap (option_map unplaced) (has'.opened n)))))
 
 -- ---- one run over worlds
 
@@ -68,31 +130,6 @@ module _ {D R W1 W2 : Type 0} (on : Devices D R W1 W2) where
 
 -- ---- two of them
 
--- a run over worlds that is served, to this configuration and with these answers
-abbrev Served : Instance → World → Configuration → ℕ → World → Outcome → ℕ → Configuration → List (HostCall × Errno) → Type 0
-Served i w c fuel v outcome used last answers = (over : RunsWithin world.Calls i w c fuel v outcome used) × IsServed world.Calls has_failed over × (over.last ≡ last) × (over.answers ≡ answers)
-
-record Alike (v v' : World) (last last' : Configuration) (answers answers' : List (HostCall × Errno)) (outcome outcome' : Outcome) (used used' : ℕ) : Type 0 where
-  pub world_is : v ≡ v'
-  pub last_is : last ≡ last'
-  pub answers_are : answers ≡ answers'
-  pub outcome_is : outcome ≡ outcome'
-  pub used_is : used ≡ used'
-
-ends_alike : (i : Instance) (c : Configuration) (fuel : ℕ) (w w' v v' : World) (outcome outcome' : Outcome) (used used' : ℕ) (last last' : Configuration) (answers answers' : List (HostCall × Errno))
-    → w ≡ w' → used ≤ fuel → used' ≤ fuel → Served i w c fuel v outcome used last answers → Served i w' c fuel v' outcome' used' last' answers'
-    → Alike v v' last last' answers answers' outcome outcome' used used'
-ends_alike i c fuel w w' v v' outcome outcome' used used' last last' answers answers' is within within' (one, served, last_is, answers_are) other =
-    let (more, served', last_is', answers_are') = subst (λ (x : World). Served i x c fuel v' outcome' used' last' answers') (sym is) other in
-    let same = one_end World world.Calls i has_failed w v v' c fuel outcome outcome' used used' answers_once failures_stay one more within within' served served' in
-    record {
-      world_is = same.host;
-      last_is = sym last_is ∙ (same.last ∙ last_is');
-      answers_are = sym answers_are ∙ (same.answers ∙ answers_are');
-      outcome_is = same.outcome;
-      used_is = same.used;
-    }
-
 module _ {D R W1 W2 D' R' W1' W2' : Type 0} (on : Devices D R W1 W2) (on' : Devices D' R' W1' W2') where
   pub same_run : SameRun on on'
   same_run i c fuel h last h' last' outcome outcome' used used' is_honest is_honest' alike run run' within within' (served, served') =
@@ -104,32 +141,27 @@ module _ {D R W1 W2 D' R' W1' W2' : Type 0} (on : Devices D R W1 W2) (on' : Devi
           let others : StreamBytes = record { input = left; output = []; errors = [] } in
           let others' : StreamBytes = record { input = left'; output = []; errors = [] } in
           let before : before_moving moved' others' ≡ before_moving moved others = λ k. record { input = (sym all' ∙ all) k; output = []; errors = [] } in
-          let first : world_of h (before_moving moved others) ≡ world_of h' (before_moving moved' others') = alike (before_moving moved others) ∙ ap (world_of h') (sym before) in
-          let same = ends_alike i c fuel (world_of h (before_moving moved others)) (world_of h' (before_moving moved' others'))
-          (world_of last (after_moving moved others)) (world_of last' (after_moving moved' others')) outcome outcome' used used' run.last run'.last run.answers run'.answers
-          first within within' (ran_over on run moved did served others over) (ran_over on' run' moved' did' served' others' over') in
-          let lefts : left ≡ left' = ap (λ (w : World). w.input) same.world_is in
+          let first : IsSameWorld (world_of h (before_moving moved others)) (world_of h' (before_moving moved' others')) =
+          alike (before_moving moved others) ∙ ap (λ (b : StreamBytes). unplaced_world (world_of h' b)) (sym before) in
+          let (one, one_served, one_last, one_answers) = ran_over on run moved did served others over in
+          let (other, other_served, other_last, other_answers) = ran_over on' run' moved' did' served' others' over' in
+          let same = ends_alike World world.Calls i IsSameWorld has_failed answers_alike failures_stay (world_of h (before_moving moved others)) (world_of h' (before_moving moved' others'))
+          (world_of last (after_moving moved others)) (world_of last' (after_moving moved' others')) c fuel outcome outcome' used used' first one other within within' one_served other_served in
+          let lefts : left ≡ left' = ap (λ (w : World). w.input) same.hosts in
           let inputs : moved.input ≡ moved'.input = append_cancel_right moved.input moved'.input left
           (sym all ∙ (all' ∙ ap (λ (xs : List ℕ). moved'.input ++ xs) (sym lefts))) in
-          let outputs : moved.output ≡ moved'.output = ap (λ (w : World). w.output) same.world_is in
-          let errors : moved.errors ≡ moved'.errors = ap (λ (w : World). w.errors) same.world_is in
+          let outputs : moved.output ≡ moved'.output = ap (λ (w : World). w.output) same.hosts in
+          let errors : moved.errors ≡ moved'.errors = ap (λ (w : World). w.errors) same.hosts in
           record {
-            ends = same.outcome_is;
-            units = same.used_is;
-            configuration = same.last_is;
-            calls = same.answers_are;
-            tree = ap (λ (w : World). w.tree) same.world_is;
+            ends = same.outcomes;
+            units = same.units;
+            configuration = sym one_last ∙ (same.lasts ∙ other_last);
+            calls = sym one_answers ∙ (same.told_same ∙ other_answers);
+            tree = ap (λ (w : World). w.tree) same.hosts;
             bytes = λ k. record { input = inputs k; output = outputs k; errors = errors k };
           }
 
   -- ---- sessions
-
-  same_table : (T T' : Tree) (settings settings' : Settings) (table table' : Table) → T ≡ T' → settings ≡ settings' → HasPreopens T settings.preopens.now table → HasPreopens T' settings'.preopens.now table'
-      → table ≡ table'
-  same_table T T' settings settings' table table' tree same has has' =
-      let directories : has.directories ≡ has'.directories = same_Some has.directories has'.directories
-      (sym has.named ∙ ((λ k. preopens_of (tree k) (same k).preopens.now) ∙ has'.named)) in
-      λ k n. (has.opened n ∙ (ap (λ (ds : List Descriptor). table_with ds n) directories ∙ sym (has'.opened n))) k
 
   show_alike : (m : Module) (seed : Option ℕ) (parts : HostParts D R W1 W2) (parts' : HostParts D' R' W1' W2') (s : SessionState D R W1 W2) (s' : SessionState D' R' W1' W2')
       → AreAlike on on' parts parts' → OpensWith seed m parts s → OpensWith seed m parts' s' → Shares on.device parts s → Shares on'.device parts' s'
@@ -137,13 +169,13 @@ module _ {D R W1 W2 D' R' W1' W2' : Type 0} (on : Devices D R W1 W2) (on' : Devi
   show_alike m seed parts parts' s s' alike opens opens' shares shares' is_honest is_honest' b = λ k. record {
     volume = room k;
     tree = tree k;
-    table = table k;
+    table = λ n. table n k;
     input = b.input;
     input_ended = ended k;
     output = b.output;
     errors = b.errors;
     random = random k;
-    given = given_of (settings k);
+    given = given k;
     volume_failed = failed k;
     input_failed = input_failed k;
     output_failed = output_failed k;
@@ -154,15 +186,17 @@ module _ {D R W1 W2 D' R' W1' W2' : Type 0} (on : Devices D R W1 W2) (on' : Devi
       room = ap geometry shares.reads.kept.numbers ∙ (alike.room ∙ sym (ap geometry shares'.reads.kept.numbers))
       tree : s.host.volume.tree ≡ s'.host.volume.tree
       tree = shares.reads.tree is_honest ∙ (alike.tree ∙ sym (shares'.reads.tree is_honest'))
-      settings : s.host.settings ≡ s'.host.settings
-      settings = opens.settings ∙ (alike.settings ∙ sym opens'.settings)
-      table : table_of s.host.descriptors ≡ table_of s'.host.descriptors
-      table = same_table parts.volume.tree parts'.volume.tree parts.settings parts'.settings (table_of s.host.descriptors) (table_of s'.host.descriptors) alike.tree alike.settings
-          (shares.preopens is_honest) (shares'.preopens is_honest')
+      given : given_of s.host.settings ≡ given_of s'.host.settings
+      given = ap given_of opens.settings ∙ (alike.supplies.given ∙ sym (ap given_of opens'.settings))
+      table : (n : ℕ) → option_map unplaced (table_of s.host.descriptors n) ≡ option_map unplaced (table_of s'.host.descriptors n)
+      table n = same_tables parts.volume.tree parts'.volume.tree parts.settings.preopens.now parts'.settings.preopens.now (table_of s.host.descriptors) (table_of s'.host.descriptors)
+          alike.tree alike.supplies.directories (shares.preopens is_honest) (shares'.preopens is_honest') n
       ended : s.host.input.ended ≡ s'.host.input.ended
       ended = ap (λ x. x.ended) opens.input ∙ sym (ap (λ x. x.ended) opens'.input)
+      bytes : s.host.settings.random.now ≡ s'.host.settings.random.now
+      bytes = ap (λ (x : Settings). x.random.now) opens.settings ∙ (alike.supplies.random ∙ sym (ap (λ (x : Settings). x.random.now) opens'.settings))
       random : supply s.host.generator s.host.settings.random.now ≡ supply s'.host.generator s'.host.settings.random.now
-      random = λ k. supply ((opens.supply ∙ sym opens'.supply) k) (settings k).random.now
+      random = λ k. supply ((opens.supply ∙ sym opens'.supply) k) (bytes k)
       failed : s.host.volume.failed ≡ s'.host.volume.failed
       failed = shares.reads.kept.failed ∙ sym shares'.reads.kept.failed
       input_failed : s.host.input.failed ≡ s'.host.input.failed
@@ -190,7 +224,7 @@ module _ {D R W1 W2 D' R' W1' W2' : Type 0} (on : Devices D R W1 W2) (on' : Devi
       second : Starts link parts'.settings.pages m s'.machine
       second = opens'.starts
       pages : parts'.settings.pages ≡ parts.settings.pages
-      pages = ap (λ (x : Settings). x.pages) (sym alike.settings)
+      pages = sym alike.supplies.pages
       same : (second.instance ≡ first.instance) × (second.store ≡ first.store) × (second.entered ≡ first.entered)
       same = started_alike link parts.settings.pages m second.instance first.instance second.store first.store second.entered first.entered valid
           (subst (λ (n : ℕ). Instantiates link n m second.instance second.store second.entered) pages second.instantiates) first.instantiates

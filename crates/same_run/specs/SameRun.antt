@@ -1,7 +1,7 @@
 -- The same module, supplies and volume give the same run, unless the host failed: memory, a stream or the device. `SameRun`
 -- says so of two runs from one configuration, each over devices and streams of its own, and `SameReport` of the reports of
 -- two sessions.
-use Rattle.std.specs.Prelude.{◌≡◌, ℕ, ◌≤◌, ◌||◌, Bool, true, List, [], ◌++◌, Option}
+use Rattle.std.specs.Prelude.{◌≡◌, ℕ, ◌≤◌, ◌||◌, Bool, true, List, [], ◌++◌, map, Option}
 use Rattle.vol_tree.specs.Tree.{Tree}
 use Rattle.vol_tree.specs.Opened.{geometry}
 use Rattle.wasm_module.specs.declared.module.Module.{Module}
@@ -10,10 +10,12 @@ use Rattle.wasm_steps.specs.declared.pause.Outcome.{Outcome}
 use Rattle.wasm_steps.specs.Configuration.{Instance, Configuration}
 use Rattle.wasm_steps.specs.Steps.{Reach}
 use Rattle.wasm_interp.specs.Machine.{Represents}
+use Rattle.wasi_calls.specs.declared.host.settings.Preopen.{Preopen}
+use Rattle.wasi_calls.specs.declared.host.settings.Settings.{Settings}
 use Rattle.wasi_calls.specs.declared.host.wasi_host.HostParts.{HostParts}
 use Rattle.wasi_calls.specs.World.{World}
 use Rattle.wasi_calls.specs.Calls as world
-use Rattle.wasi_calls.specs.host.Worlds.{HostState, StreamBytes, StreamsMove, MayFollow, before_moving, after_moving, stream_failed, world_of}
+use Rattle.wasi_calls.specs.host.Worlds.{HostState, StreamBytes, StreamsMove, MayFollow, before_moving, after_moving, stream_failed, given_of, world_of}
 use Rattle.sandbox_core.specs.declared.report.Report.{Report}
 use Rattle.sandbox_core.specs.Devices.{Devices, Calls, IsHonest, tree_of}
 use Rattle.sandbox_core.specs.Session.{SessionState, OpensWith, Shares}
@@ -21,10 +23,22 @@ use Rattle.sandbox_core.specs.Runs.{RunsWithin}
 use Rattle.sandbox_core.specs.Report.{Reports}
 use Rattle.same_run.specs.Growth.{WasRefusedMemory}
 use Rattle.same_run.specs.OneRun.{IsServed}
+use Rattle.same_run.specs.SameWorld.{IsSameWorld}
 
 -- the volume has failed, or a read or a write of a stream
 abbrev pub host_failed : {D R W1 W2 : Type 0} → HostState D R W1 W2 → Bool
 host_failed h = h.volume.failed || stream_failed h
+
+-- the name that a guest knows a directory by, and its path
+abbrev pub names_of : Preopen → List ℕ × List ℕ
+names_of p = (p.guest_name.now, p.path.now)
+
+-- the same texts, moment, directories, random bytes and pages
+pub record AreSameSupplies (s s' : Settings) : Type 0 where
+  pub given : given_of s ≡ given_of s'
+  pub directories : map names_of s.preopens.now ≡ map names_of s'.preopens.now
+  pub random : s.random.now ≡ s'.random.now
+  pub pages : s.pages ≡ s'.pages
 
 -- The reader gave a beginning of these bytes, and all of them where the input has ended.
 abbrev pub GaveOf : {D R W1 W2 : Type 0} → List ℕ → HostState D R W1 W2 → StreamBytes → Type 0
@@ -43,7 +57,7 @@ module _ {D R W1 W2 D' R' W1' W2' : Type 0} (on : Devices D R W1 W2) (on' : Devi
   -- The hosts have the same tree, room, descriptors, texts, moment and random bytes: they show the same world, for each bytes of
   -- the streams.
   abbrev pub ShowAlike : HostState D R W1 W2 → HostState D' R' W1' W2' → Type 0
-  ShowAlike h h' = (b : StreamBytes) → world_of h b ≡ world_of h' b
+  ShowAlike h h' = (b : StreamBytes) → IsSameWorld (world_of h b) (world_of h' b)
 
   module _ {i : Instance} {c : Configuration} {fuel : ℕ} {h last : HostState D R W1 W2} {h' last' : HostState D' R' W1' W2'} {outcome outcome' : Outcome} {used used' : ℕ} where
     -- both ended so, with the same units, memory, table and globals, answers of calls, tree, and bytes read and written
@@ -76,9 +90,9 @@ module _ {D R W1 W2 D' R' W1' W2' : Type 0} (on : Devices D R W1 W2) (on' : Devi
       → (run : RunsWithin (Calls on) i h c fuel last outcome used) → (run' : RunsWithin (Calls on') i h' c fuel last' outcome' used')
       → used ≤ fuel → used' ≤ fuel → AreServed run run' → RunAlike run run'
 
-  -- the same settings, and volumes with the same tree and the same room
+  -- the same supplies, and volumes with the same tree and the same room
   pub record AreAlike (parts : HostParts D R W1 W2) (parts' : HostParts D' R' W1' W2') : Type 0 where
-    pub settings : parts.settings ≡ parts'.settings
+    pub supplies : AreSameSupplies parts.settings parts'.settings
     pub tree : parts.volume.tree ≡ parts'.volume.tree
     pub room : geometry parts.volume.numbers ≡ geometry parts'.volume.numbers
 
