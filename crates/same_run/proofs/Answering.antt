@@ -1,15 +1,15 @@
 -- A world answers the same to the same question, and what has failed in it stays failed.
-use Rattle.std.proofs.Common.{◌≡◌, ℕ, Bool, true, false, ◌||◌, List, Result, Ok, Err, refl, sym, ◌∙◌, ap}
+use Rattle.std.proofs.Common.{◌≡◌, ℕ, Bool, true, false, ◌||◌, List, Ok, Err, refl, sym, ◌∙◌, ap}
 use Rattle.std.proofs.lemmas.Bool.{false≢true}
 use Rattle.wasm_store.specs.declared.call.HostCall.{HostCall}
 use Rattle.wasm_store.specs.declared.call.HostCall.TheVariants as call
 use Rattle.wasm_store.specs.declared.call.Errno.{Errno}
 use Rattle.wasm_store.specs.declared.call.Answer.{Answer}
-use Rattle.wasm_store.specs.declared.call.Answer.TheVariants.{Value as value, Exit as exit}
-use Rattle.wasi_calls.specs.World.{World, with_volume_failed, with_stream_failed}
+use Rattle.wasm_store.specs.declared.call.Answer.TheVariants.{Value as value}
+use Rattle.wasi_calls.specs.World.{World}
 use Rattle.wasi_calls.specs.Checks.{Checked, Done, put}
 use Rattle.wasi_calls.specs.Errnos.{SUCCESS}
-use Rattle.wasi_calls.specs.Calls.{row, word, Answers, Answered, by_row, volume_fails, input_fails, output_fails, errors_fail, Calls}
+use Rattle.wasi_calls.specs.Calls.{row, Answers, Answered, by_row, volume_fails, input_fails, output_fails, errors_fail, Calls}
 use Rattle.same_run.specs.Failures.{has_failed, FailuresStay}
 use Rattle.same_run.specs.NextStep.{AnswersOnce}
 use Rattle.same_run.specs.SameWorld.{unplaced_world, IsSameWorld}

@@ -1,14 +1,13 @@
 -- The rules of branches and returns once more, as functions: where a branch or a return comes next, and what it keeps.
-use Rattle.std.proofs.Common.{◌≡◌, ◌≢◌, ℕ, suc, ◌≤◌, cond, List, [], ◌∷◌, ◌++◌, length, take, Option, Some, None, slice_get, refl, sym, ◌∙◌, ap, arith}
+use Rattle.std.proofs.Common.{◌≡◌, ◌≢◌, ℕ, suc, cond, List, [], ◌∷◌, ◌++◌, length, take, Option, Some, None, slice_get, refl, sym, ◌∙◌, ap, arith}
 use Rattle.std.specs.Prelude.{nat_eq}
 use Rattle.std.proofs.Math.Seq.{take-append_seam}
 use Rattle.std.proofs.lemmas.Bool.{eq-eqb, ne_eqb}
 use Rattle.std.proofs.lemmas.Option.{slice_get_past}
-use Rattle.wasm_module.specs.declared.instruction.ValueType.TheVariants.{I32}
 use Rattle.wasm_module.specs.declared.instruction.Instruction.{Instruction}
 use Rattle.wasm_module.specs.declared.instruction.Instruction.TheVariants as op
-use Rattle.wasm_module.specs.Instructions.{Instructions, done, plain, block, loop, if_then, if_else, invoke}
-use Rattle.wasm_steps.specs.Configuration.{Val, val, number_of, Code, code, label, frame, stopped}
+use Rattle.wasm_module.specs.Instructions.{Instructions, plain}
+use Rattle.wasm_steps.specs.Configuration.{Val, number_of, Code, code, label, frame, stopped}
 use Rattle.wasm_steps.specs.Steps.{AsksFor, always, if_set, listed, past, Jumps, Returns, here, out}
 
 -- the number of the top value, and the values below it

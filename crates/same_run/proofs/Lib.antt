@@ -8,3 +8,4 @@ pub mod Running
 pub mod OneStart
 pub mod Worlds
 pub mod Sameness
+pub mod Program

@@ -1,5 +1,5 @@
 -- The steps once more, as a function: what a configuration does next, and that each step is that.
-use Rattle.std.proofs.Common.{◌≡◌, ◌≢◌, ℕ, zero, suc, ◌+◌, ◌-◌, ◌/◌, ◌^◌, ◌<◌, ◌≤◌, ◌⊎◌, Bool, true, false, cond, List, [], ◌∷◌, ◌++◌, length, take, drop, reverse, Option, Some, None, Result, Ok, Err, slice_get, refl, sym, ◌∙◌, ap, subst, inl, inr, arith}
+use Rattle.std.proofs.Common.{◌≡◌, ◌≢◌, ℕ, zero, suc, ◌+◌, ◌/◌, ◌<◌, ◌≤◌, Bool, true, false, cond, List, [], ◌∷◌, ◌++◌, length, take, drop, reverse, Option, Some, None, slice_get, refl, sym, ◌∙◌, ap, subst, inl, inr, arith}
 use Rattle.std.specs.Prelude.{nat_eq, nat_le}
 use Rattle.std.proofs.Math.Seq.{drop-append_seam}
 use Rattle.std.proofs.lemmas.Option.{none-some, same_Some, slice_get_past}
@@ -14,13 +14,12 @@ use Rattle.wasm_num.specs.declared.trap.Trap.TheVariants as traps
 use Rattle.wasm_store.specs.declared.call.HostCall.{HostCall}
 use Rattle.wasm_store.specs.declared.call.Answer.{Answer}
 use Rattle.wasm_store.specs.declared.call.Answer.TheVariants.{Value as value, Exit as exit}
-use Rattle.wasm_steps.specs.Operators.{width, binary_number}
-use Rattle.wasm_steps.specs.Configuration.{Val, val, numbers, zeros, Function, Callee, imported, own, signature_of, Instance, Store, Stop, trapped, exited, Code, code, label, frame, stopped, Configuration, at, code_of, used_by}
+use Rattle.wasm_steps.specs.Configuration.{Val, val, numbers, zeros, Function, Callee, imported, own, signature_of, Instance, Store, trapped, exited, Code, code, label, frame, stopped, Configuration, at, code_of, used_by}
 use Rattle.wasm_steps.specs.Steps.{LoadOp, StoreOp, load_of, store_of, loaded, bytes_at, unreachable_traps, nop_step, block_step, loop_step, if_then_set, if_then_zero, if_else_set, if_else_zero, br_if_stays, branches, returns, call_step, call_indirect_step, call_undefined, call_uninitialized, call_mistyped, drop_step, select_first, select_second, local_get_step, local_set_step, local_tee_step, global_get_step, global_set_step, load_step, load_traps, store_step, store_traps, size_step, grows, grows_not, copy_step, copy_traps, fill_step, fill_traps, i32_const_step, i64_const_step, eqz_step, compare_step, unary_step, binary_step, binary_traps, wrap_step, extend_signed, extend_unsigned, Reduces, AdminStep, invokes, exhausted, leaves_label, leaves_frame, stops_label, stops_frame, tick, CallsOf, given, Event, silent, answers, Step, plain_step, free_step, host_answers, host_exits, in_label, in_frame}
 use Rattle.same_run.specs.Growth.{RefusesGrowth, RefusesMemory}
 use Rattle.same_run.specs.NextStep.{AnswersOnce}
 use Rattle.same_run.proofs.Branching.{kept_of, kept_to, asked, jump_of, jumps, jumps_so_far, return_of, returns_so, jumps_not_returns}
-use Rattle.same_run.proofs.Rewriting.{typed, mistyped, rewritten, accessed, performed, load_to, stored, store_to, copied, filled, grown, of_callee, of_element, pushed, selected, computed, store_is_no_load}
+use Rattle.same_run.proofs.Rewriting.{typed, mistyped, rewritten, accessed, performed, load_to, stored, store_to, copied, filled, grown, of_callee, of_element, pushed, computed, store_is_no_load}
 
 -- a next configuration, or a question to the host with what each answer leads to
 pub data Move : Type 0 where
@@ -163,11 +162,11 @@ module _ (i : Instance) where
   reduces (load_step {s = s} {f = f} {vs = vs} {o = o} {l = l} {a = a} {rest = rest} is inside) given n =
       loads n s f (val I32 a ∷ vs) rest o l is
       ∙ ap (λ b. Some (goes (at (tick s) f (cond b (code (val l.value_type (loaded l (bytes_at s.memory (a + l.memarg.offset) l.bytes)) ∷ vs) rest) (stopped (trapped traps.OutOfBoundsMemory))))))
-          (le-leb (a + l.memarg.offset + l.bytes) (length s.memory) inside)
+      (le-leb (a + l.memarg.offset + l.bytes) (length s.memory) inside)
   reduces (load_traps {s = s} {f = f} {vs = vs} {o = o} {l = l} {a = a} {rest = rest} is past) given n =
       loads n s f (val I32 a ∷ vs) rest o l is
       ∙ ap (λ b. Some (goes (at (tick s) f (cond b (code (val l.value_type (loaded l (bytes_at s.memory (a + l.memarg.offset) l.bytes)) ∷ vs) rest) (stopped (trapped traps.OutOfBoundsMemory))))))
-          (lt-leb (a + l.memarg.offset + l.bytes) (length s.memory) past)
+      (lt-leb (a + l.memarg.offset + l.bytes) (length s.memory) past)
   reduces (store_step {s = s} {f = f} {vs = vs} {o = o} {l = l} {a = a} {x = x} {rest = rest} is inside) given n =
       stores n s f (val l.value_type x ∷ val I32 a ∷ vs) rest o l is
       ∙ ap (λ b. Some (goes (ticked (stored b s f vs rest l a x)))) (le-leb (a + l.memarg.offset + l.bytes) (length s.memory) inside)

@@ -1,28 +1,25 @@
 -- A valid module has one first configuration.
-use Rattle.std.proofs.Common.{◌≡◌, ◌≢◌, ℕ, zero, suc, ◌+◌, ◌*◌, ◌<◌, ◌≤◌, List, [], ◌∷◌, ◌++◌, length, replicate, map, Option, Some, None, slice_get, codes, refl, sym, ◌∙◌, ap, subst, arith, append_assoc, append-nil}
-use Rattle.std.specs.Prelude.{Contains, get_or}
+use Rattle.std.proofs.Common.{◌≡◌, ◌≢◌, ℕ, zero, suc, ◌*◌, ◌<◌, List, [], ◌∷◌, ◌++◌, length, replicate, map, None, slice_get, codes, refl, sym, ◌∙◌, ap, arith, append_assoc, append-nil}
+use Rattle.std.specs.Prelude.{get_or}
 use Rattle.std.specs.List.{AllByRecursion}
 use Rattle.std.specs.Option.{option_to_list}
-use Rattle.std.proofs.lemmas.Option.{none-some, same_Some}
+use Rattle.std.proofs.lemmas.Option.{same_Some}
 use Rattle.wasm_module.specs.declared.instruction.Instruction.{Instruction}
 use Rattle.wasm_module.specs.declared.instruction.Instruction.TheVariants as op
 use Rattle.wasm_module.specs.declared.instruction.BlockType.{BlockType}
 use Rattle.wasm_module.specs.declared.module.FuncType.{FuncType}
 use Rattle.wasm_module.specs.declared.module.Import.{Import}
-use Rattle.wasm_module.specs.declared.module.ImportKind.{ImportKind}
 use Rattle.wasm_module.specs.declared.module.ImportKind.TheVariants as imports
 use Rattle.wasm_module.specs.declared.module.Export.{Export}
-use Rattle.wasm_module.specs.declared.module.ExportKind.{ExportKind}
 use Rattle.wasm_module.specs.declared.module.ExportKind.TheVariants as exports
 use Rattle.wasm_module.specs.declared.module.Body.{Body}
 use Rattle.wasm_module.specs.declared.module.GlobalEntry.{GlobalEntry}
 use Rattle.wasm_module.specs.declared.module.Module.{Module}
 use Rattle.wasm_module.specs.Instructions.{Instructions, done, plain, block, loop, if_then, if_else, invoke, IsPlain, flatten, IsWritten, Nests}
 use Rattle.wasm_valid.specs.Validity.{AreApart, IsValid, local_types}
-use Rattle.wasm_store.specs.declared.call.HostCall.{HostCall}
 use Rattle.wasm_store.specs.Values.{Val}
-use Rattle.wasm_store.specs.Instances.{Function, Callee, imported, own, Instance, Store}
-use Rattle.wasm_store.specs.Instantiation.{LinksOf, IsLinked, AreLinked, IsOwn, AreOwn, IsStart, constant_value, AreFirst, minimum, page_limit, with_elements, with_data, Instantiates}
+use Rattle.wasm_store.specs.Instances.{Callee, imported, own, Instance, Store}
+use Rattle.wasm_store.specs.Instantiation.{LinksOf, AreLinked, AreOwn, IsStart, AreFirst, minimum, with_elements, with_data, Instantiates}
 
 -- ---- instructions nest in one way
 
@@ -168,12 +165,16 @@ linked_once links types (i ∷ is) (c ∷ cs) (d ∷ ds) (l, ls) (m, ms) = λ k.
   where
     function_is : (x y : ℕ) → imports.Function x ≡ imports.Function y → x ≡ y
     function_is x y is = cc
+
     index : l.index ≡ m.index
     index = function_is l.index m.index (sym l.kind ∙ m.kind)
+
     type : l.func_type ≡ m.func_type
     type = same_Some l.func_type m.func_type (sym l.type_is ∙ (ap (slice_get types) index ∙ m.type_is))
+
     call : l.call ≡ m.call
     call = same_Some l.call m.call (sym l.links_to ∙ (ap (links i.module_name i.name) type ∙ m.links_to))
+
     callee : c ≡ d
     callee = l.callee ∙ ((λ k. imported (type k) (call k)) ∙ sym m.callee)
 
@@ -183,8 +184,10 @@ own_once types (x ∷ xs) (b ∷ bs) (c ∷ cs) (d ∷ ds) (o, os) (p, ps) = λ 
   where
     type : o.func_type ≡ p.func_type
     type = same_Some o.func_type p.func_type (sym o.type_is ∙ p.type_is)
+
     code : o.code ≡ p.code
     code = nested_once b.code o.code p.code o.nests p.nests
+
     callee : c ≡ d
     callee = o.callee ∙ ((λ k. own (type k) (record { locals = local_types b.locals; code = code k })) ∙ sym p.callee)
 own_once types [] [] [] (d ∷ ds) o p = absurd p

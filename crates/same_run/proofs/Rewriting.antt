@@ -1,5 +1,5 @@
 -- The rules of plain instructions once more, as a function: what the next one makes of values, locals and the store.
-use Rattle.std.proofs.Common.{◌≡◌, ◌≢◌, ℕ, ◌+◌, ◌-◌, ◌*◌, ◌/◌, ◌%◌, ◌^◌, ◌≤◌, Bool, true, false, ◌&&◌, cond, List, [], ◌∷◌, ◌++◌, length, replicate, Option, Some, None, Result, Ok, Err, slice_get, refl, sym, ◌∙◌, ap, arith}
+use Rattle.std.proofs.Common.{◌≡◌, ◌≢◌, ℕ, ◌+◌, ◌-◌, ◌*◌, ◌/◌, ◌%◌, ◌^◌, Bool, true, false, ◌&&◌, cond, List, [], ◌∷◌, ◌++◌, length, replicate, Option, Some, None, Result, Ok, Err, slice_get, refl, ◌∙◌, ap}
 use Rattle.std.specs.Prelude.{nat_eq, nat_le, slice_set}
 use Rattle.std.proofs.lemmas.Option.{none-some}
 use Rattle.std.proofs.lemmas.Bool.{and_parts}
@@ -14,9 +14,9 @@ use Rattle.wasm_num.specs.declared.trap.Trap.{Trap}
 use Rattle.wasm_num.specs.declared.trap.Trap.TheVariants as traps
 use Rattle.wasm_num.specs.Numbers.{signed, wrapped, bool_number}
 use Rattle.wasm_steps.specs.Operators.{width, compare_test, unary_number, binary_number}
-use Rattle.wasm_steps.specs.Configuration.{Val, val, number_of, Callee, signature_of, Instance, Store, trapped, Code, code, label, stopped, Configuration, at}
+use Rattle.wasm_steps.specs.Configuration.{Val, val, Callee, signature_of, Instance, Store, trapped, Code, code, label, stopped, Configuration, at}
 use Rattle.wasm_steps.specs.Steps.{LoadOp, StoreOp, load_of, store_of, loaded, bytes_at, written, to_bytes}
-use Rattle.same_run.proofs.Branching.{top, below, or_else}
+use Rattle.same_run.proofs.Branching.{top, below}
 
 -- ---- types of functions, compared
 

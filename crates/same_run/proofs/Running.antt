@@ -1,16 +1,16 @@
 -- Two runs from the same beginning.
-use Rattle.std.proofs.Common.{◌≡◌, ◌≢◌, ◌⊎◌, ℕ, suc, ◌+◌, ◌≤◌, Bool, false, List, [], ◌∷◌, ◌++◌, append-nil, refl, sym, ◌∙◌, ap, subst, inl, inr, arith}
-use Rattle.wasm_module.specs.Instructions.{Instructions, done, plain, block, loop, if_then, if_else, invoke}
+use Rattle.std.proofs.Common.{◌≡◌, ◌≢◌, ◌⊎◌, ℕ, suc, ◌≤◌, Bool, false, List, [], ◌++◌, append-nil, refl, sym, ◌∙◌, ap, subst, inl, inr, arith}
+use Rattle.wasm_module.specs.Instructions.{done}
 use Rattle.wasm_store.specs.declared.call.HostCall.{HostCall}
 use Rattle.wasm_store.specs.declared.call.Errno.{Errno}
 use Rattle.wasm_steps.specs.declared.pause.Outcome.{Outcome}
 use Rattle.wasm_steps.specs.declared.pause.Outcome.TheVariants.{Exited, Trapped, OutOfFuel, OutOfMemory}
-use Rattle.wasm_steps.specs.Configuration.{Val, Instance, Store, Stop, trapped, exited, Code, code, label, frame, stopped, Configuration, at, code_of, used_by, NextIsPlain}
-use Rattle.wasm_steps.specs.Steps.{Jumps, Returns, branches, returns, Reduces, AdminStep, invokes, exhausted, leaves_label, leaves_frame, stops_label, stops_frame, CallsOf, Event, silent, answers, Step, plain_step, free_step, host_answers, host_exits, in_label, in_frame, seen, Reach, stays, goes}
+use Rattle.wasm_steps.specs.Configuration.{Val, Instance, Store, trapped, exited, Code, code, stopped, Configuration, at, code_of, used_by, NextIsPlain}
+use Rattle.wasm_steps.specs.Steps.{Reduces, AdminStep, invokes, exhausted, leaves_label, leaves_frame, stops_label, stops_frame, CallsOf, Event, silent, answers, Step, plain_step, free_step, host_answers, host_exits, in_label, in_frame, seen, Reach, stays, goes}
 use Rattle.wasm_steps.specs.Units.{TakesItsUnit}
 use Rattle.wasm_steps.proofs.Units.{rewrites, is_free}
 use Rattle.sandbox_core.specs.Runs.{StopsAs, RunsWithin}
-use Rattle.same_run.specs.Growth.{RefusesMemory, WasRefusedMemory}
+use Rattle.same_run.specs.Growth.{WasRefusedMemory}
 use Rattle.same_run.specs.NextStep.{AnswersOnce}
 use Rattle.same_run.specs.Failures.{FailuresStay}
 use Rattle.same_run.specs.OneRun.{GoesOnFrom, IsServed, EndAlike}
@@ -174,18 +174,18 @@ module _ (H : Type 0) (Calls : CallsOf H) (i : Instance) where
     pub units : used1 ≡ used2
 
   pub ends_alike : (Same : H → H → Type 0) (failed : H → Bool) → AnswersAlike H Calls i Same failed → FailuresStay H Calls failed
-      → (h g h1 h2 : H) (c : Configuration) (fuel : ℕ) (o1 o2 : Outcome) (u1 u2 : ℕ) → Same h g
-      → (one : RunsWithin Calls i h c fuel h1 o1 u1) → (other : RunsWithin Calls i g c fuel h2 o2 u2) → u1 ≤ fuel → u2 ≤ fuel
+      → (h g h1 h2 : H) (c : Configuration) (fuel fuel2 : ℕ) (o1 o2 : Outcome) (u1 u2 : ℕ) → Same h g → fuel ≡ fuel2
+      → (one : RunsWithin Calls i h c fuel h1 o1 u1) → (other : RunsWithin Calls i g c fuel2 h2 o2 u2) → u1 ≤ fuel → u2 ≤ fuel2
       → IsServed Calls failed one → IsServed Calls failed other → EndSame Same h1 h2 one.last other.last one.answers other.answers o1 o2 u1 u2
-  ends_alike Same failed alike stay h g h1 h2 c fuel o1 o2 u1 u2 same one other within1 within2 served1 served2 =
+  ends_alike Same failed alike stay h g h1 h2 c fuel fuel2 o1 o2 u1 u2 same same_fuel one other within1 within2 served1 served2 =
       elim (runs_alike Same failed alike stay h g h1 h2 c c one.last other.last one.answers other.answers same refl one.reach other.reach
       served1.growths served2.growths served1.nothing_failed served2.nothing_failed) [
         | inl (more, k, there, is, run) ↦
-            let none = no_more fuel k h2 one.last other.last more (stops_last fuel u1 h1 o1 one.last served1.stacks one.units one.stops) (omega (arith, other.units, within2)) run in
+            let none = no_more fuel k h2 one.last other.last more (stops_last fuel u1 h1 o1 one.last served1.stacks one.units one.stops) (omega (arith, other.units, within2, same_fuel)) run in
             end_same (subst (λ (x : H). Same h1 x) none.0 there) none.1
             (sym (append-nil one.answers) ∙ (ap (λ (es : List (HostCall × Errno)). one.answers ++ es) (sym none.2) ∙ sym is))
         | inr (more, k, there, is, run) ↦
-            let none = no_more fuel k h1 other.last one.last more (stops_last fuel u2 h2 o2 other.last served2.stacks other.units other.stops) (omega (arith, one.units, within1)) run in
+            let none = no_more fuel2 k h1 other.last one.last more (stops_last fuel2 u2 h2 o2 other.last served2.stacks other.units other.stops) (omega (arith, one.units, within1, same_fuel)) run in
             end_same (subst (λ (x : H). Same x h2) none.0 there) (sym none.1)
             (is ∙ (ap (λ (es : List (HostCall × Errno)). other.answers ++ es) none.2 ∙ append-nil other.answers))
       ]
@@ -195,7 +195,7 @@ module _ (H : Type 0) (Calls : CallsOf H) (i : Instance) where
         hosts = hosts;
         lasts = lasts;
         told_same = told_alike;
-        outcomes = sym (told fuel u1 h1 o1 one.last served1.stacks one.stops) ∙ (ap (λ (c : Configuration). outcome_told (code_of c)) lasts ∙ told fuel u2 h2 o2 other.last served2.stacks other.stops);
+        outcomes = sym (told fuel u1 h1 o1 one.last served1.stacks one.stops) ∙ (ap (λ (c : Configuration). outcome_told (code_of c)) lasts ∙ told fuel2 u2 h2 o2 other.last served2.stacks other.stops);
         units = sym one.units ∙ (ap used_by lasts ∙ other.units);
       }
 
@@ -214,5 +214,5 @@ module _ (H : Type 0) (Calls : CallsOf H) (i : Instance) where
       → (one : RunsWithin Calls i h c fuel h1 o1 u1) → (other : RunsWithin Calls i h c fuel h2 o2 u2) → u1 ≤ fuel → u2 ≤ fuel
       → IsServed Calls failed one → IsServed Calls failed other → EndAlike Calls failed one other
   one_end failed h h1 h2 c fuel o1 o2 u1 u2 once stay one other within1 within2 served1 served2 =
-      let same = ends_alike (λ (a b : H). a ≡ b) failed (once_alike H Calls i failed once) stay h h h1 h2 c fuel o1 o2 u1 u2 refl one other within1 within2 served1 served2 in
+      let same = ends_alike (λ (a b : H). a ≡ b) failed (once_alike H Calls i failed once) stay h h h1 h2 c fuel fuel o1 o2 u1 u2 refl refl one other within1 within2 served1 served2 in
       record { host = same.hosts; last = same.lasts; answers = same.told_same; outcome = same.outcomes; used = same.units }

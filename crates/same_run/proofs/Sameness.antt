@@ -1,26 +1,22 @@
 -- Two runs over hosts that show the same world are the same.
-use Rattle.std.proofs.Common.{◌≡◌, ◌≢◌, ℕ, zero, suc, ◌-◌, ◌≤◌, ◌||◌, Bool, true, false, cond, List, [], ◌∷◌, ◌++◌, map, Option, Some, None, slice_get, refl, sym, ◌∙◌, ap, subst, arith}
+use Rattle.std.proofs.Common.{◌≡◌, ◌≢◌, ℕ, ◌-◌, ◌≤◌, Bool, true, false, cond, List, [], ◌∷◌, ◌++◌, map, Option, Some, None, slice_get, refl, sym, ◌∙◌, ap, subst}
 use Rattle.std.specs.Prelude.{nat_lt}
 use Rattle.std.specs.Option.{option_map, option_map_or}
-use Rattle.std.proofs.lemmas.Option.{same_Some, slice_get_past}
+use Rattle.std.proofs.lemmas.Option.{same_Some, slice_get-map}
 use Rattle.std.proofs.lemmas.List.{append_cancel_right}
 use Rattle.vol_tree.specs.Tree.{Tree}
 use Rattle.vol_tree.specs.Opened.{geometry}
-use Rattle.vol_tree.specs.declared.superblock.Superblock.{Superblock}
 use Rattle.wasi_fd.specs.declared.descriptor.Descriptor.{Descriptor}
 use Rattle.wasi_fd.specs.declared.descriptor.Descriptor.TheVariants.{Entry}
 use Rattle.wasi_fd.specs.declared.descriptor.EntryKind.TheVariants as kinds
 use Rattle.wasi_fd.specs.Rights.{directory_rights, all_rights}
 use Rattle.wasi_fd.specs.Table.{Table, table_of, streams}
 use Rattle.wasm_module.specs.declared.module.Module.{Module}
-use Rattle.wasm_valid.specs.Validity.{IsValid}
-use Rattle.wasm_store.specs.declared.call.HostCall.{HostCall}
-use Rattle.wasm_store.specs.declared.call.Errno.{Errno}
 use Rattle.wasm_store.specs.Instantiation.{Instantiates}
 use Rattle.wasm_steps.specs.declared.pause.Outcome.{Outcome}
 use Rattle.wasm_steps.specs.declared.pause.Outcome.TheVariants.{Exited, Trapped, OutOfFuel, OutOfMemory}
-use Rattle.wasm_steps.specs.Configuration.{Instance, Store, Configuration, at, first_configuration}
-use Rattle.wasm_interp.specs.Machine.{Snapshot, Represents}
+use Rattle.wasm_steps.specs.Configuration.{Instance, Configuration, at, first_configuration}
+use Rattle.wasm_interp.specs.Machine.{Represents}
 use Rattle.wasm_interp.specs.Promise.{Starts}
 use Rattle.wasi_calls.specs.declared.host.settings.Preopen.{Preopen}
 use Rattle.wasi_calls.specs.declared.host.settings.Settings.{Settings}
@@ -31,15 +27,13 @@ use Rattle.wasi_calls.specs.host.Worlds.{HostState, StreamBytes, MayFollow, befo
 use Rattle.wasi_calls.specs.supplies.Random.{seeded, supply}
 use Rattle.wasi_calls.specs.World.{World}
 use Rattle.wasi_calls.specs.Calls as world
-use Rattle.sandbox_core.specs.declared.report.Report.{Report}
-use Rattle.sandbox_core.specs.Devices.{Devices, Calls, IsHonest, tree_of}
+use Rattle.sandbox_core.specs.Devices.{Devices, Calls, IsHonest}
 use Rattle.sandbox_core.specs.Session.{SessionState, OpensWith, Shares}
 use Rattle.sandbox_core.specs.Runs.{StopsAs, RunsWithin}
-use Rattle.sandbox_core.specs.Report.{Reports}
 use Rattle.same_run.specs.Failures.{has_failed}
 use Rattle.same_run.specs.OneRun.{IsServed}
 use Rattle.same_run.specs.SameWorld.{unplaced, unplaced_world, IsSameWorld}
-use Rattle.same_run.specs.SameRun.{host_failed, names_of, AreSameSupplies, GaveOf, ReadAndWrote, ShowAlike, AreTheSame, RunAlike, AreServed, SameRun, AreAlike, SameReport}
+use Rattle.same_run.specs.SameRun.{host_failed, names_of, GaveOf, ReadAndWrote, ShowAlike, AreTheSame, SameRun, AreAlike, SameReport}
 use Rattle.same_run.proofs.Answering.{answers_alike, failures_stay}
 use Rattle.same_run.proofs.Running.{ends_alike}
 use Rattle.same_run.proofs.OneStart.{started_alike}
@@ -80,17 +74,12 @@ opened_so T [] = refl
 opened_so T (p ∷ ps) = opened_first p (preopens_of T ps) (directory_named T p.path.now)
     ∙ ap (λ (rest : Option (List Descriptor)). opened_at p.guest_name.now rest (directory_named T p.path.now)) (opened_so T ps)
 
-place_of : (f : Descriptor → Descriptor) (ds : List Descriptor) (k : ℕ) → option_map f (slice_get ds k) ≡ slice_get (map f ds) k
-place_of f [] k = ap (option_map f) (slice_get_past [] k (omega arith)) ∙ sym (slice_get_past [] k (omega arith))
-place_of f (d ∷ ds) zero = refl
-place_of f (d ∷ ds) (suc k) = place_of f ds k
-
 in_table : (ds : List Descriptor) (n : ℕ) → option_map unplaced (table_with ds n) ≡ cond (nat_lt n 3) (option_map unplaced (streams n)) (slice_get (map unplaced ds) (n - 3))
 in_table ds n = by_test (nat_lt n 3)
   where
     by_test : (b : Bool) → option_map unplaced (cond b (streams n) (slice_get ds (n - 3))) ≡ cond b (option_map unplaced (streams n)) (slice_get (map unplaced ds) (n - 3))
     by_test true = refl
-    by_test false = place_of unplaced ds (n - 3)
+    by_test false = sym (slice_get-map unplaced ds (n - 3))
 
 same_tables : (T T' : Tree) (ps ps' : List Preopen) (table table' : Table) → T ≡ T' → map names_of ps ≡ map names_of ps' → HasPreopens T ps table → HasPreopens T' ps' table'
     → (n : ℕ) → option_map unplaced (table n) ≡ option_map unplaced (table' n)
@@ -132,7 +121,7 @@ module _ {D R W1 W2 : Type 0} (on : Devices D R W1 W2) where
 
 module _ {D R W1 W2 D' R' W1' W2' : Type 0} (on : Devices D R W1 W2) (on' : Devices D' R' W1' W2') where
   pub same_run : SameRun on on'
-  same_run i c fuel h last h' last' outcome outcome' used used' is_honest is_honest' alike run run' within within' (served, served') =
+  same_run i c fuel fuel' h last h' last' outcome outcome' used used' is_honest is_honest' alike same_fuel run run' within within' (served, served') =
       record { some = some_bytes on run is_honest; some' = some_bytes on' run' is_honest'; same = the_same }
     where
       the_same : (input : List ℕ) (moved moved' : StreamBytes) → ReadAndWrote on run moved → ReadAndWrote on' run' moved' → GaveOf input last moved → GaveOf input last' moved'
@@ -146,7 +135,7 @@ module _ {D R W1 W2 D' R' W1' W2' : Type 0} (on : Devices D R W1 W2) (on' : Devi
           let (one, one_served, one_last, one_answers) = ran_over on run moved did served others over in
           let (other, other_served, other_last, other_answers) = ran_over on' run' moved' did' served' others' over' in
           let same = ends_alike World world.Calls i IsSameWorld has_failed answers_alike failures_stay (world_of h (before_moving moved others)) (world_of h' (before_moving moved' others'))
-          (world_of last (after_moving moved others)) (world_of last' (after_moving moved' others')) c fuel outcome outcome' used used' first one other within within' one_served other_served in
+          (world_of last (after_moving moved others)) (world_of last' (after_moving moved' others')) c fuel fuel' outcome outcome' used used' first same_fuel one other within within' one_served other_served in
           let lefts : left ≡ left' = ap (λ (w : World). w.input) same.hosts in
           let inputs : moved.input ≡ moved'.input = append_cancel_right moved.input moved'.input left
           (sym all ∙ (all' ∙ ap (λ (xs : List ℕ). moved'.input ++ xs) (sym lefts))) in
@@ -163,10 +152,10 @@ module _ {D R W1 W2 D' R' W1' W2' : Type 0} (on : Devices D R W1 W2) (on' : Devi
 
   -- ---- sessions
 
-  show_alike : (m : Module) (seed : Option ℕ) (parts : HostParts D R W1 W2) (parts' : HostParts D' R' W1' W2') (s : SessionState D R W1 W2) (s' : SessionState D' R' W1' W2')
-      → AreAlike on on' parts parts' → OpensWith seed m parts s → OpensWith seed m parts' s' → Shares on.device parts s → Shares on'.device parts' s'
+  show_alike : (m : Module) (seed seed' : Option ℕ) (parts : HostParts D R W1 W2) (parts' : HostParts D' R' W1' W2') (s : SessionState D R W1 W2) (s' : SessionState D' R' W1' W2')
+      → AreAlike on on' parts parts' → seed ≡ seed' → OpensWith seed m parts s → OpensWith seed' m parts' s' → Shares on.device parts s → Shares on'.device parts' s'
       → on.device.honest parts.volume.device → on'.device.honest parts'.volume.device → ShowAlike on on' s.host s'.host
-  show_alike m seed parts parts' s s' alike opens opens' shares shares' is_honest is_honest' b = λ k. record {
+  show_alike m seed seed' parts parts' s s' alike same_seed opens opens' shares shares' is_honest is_honest' b = λ k. record {
     volume = room k;
     tree = tree k;
     table = λ n. table n k;
@@ -184,50 +173,60 @@ module _ {D R W1 W2 D' R' W1' W2' : Type 0} (on : Devices D R W1 W2) (on' : Devi
     where
       room : geometry s.host.volume.numbers ≡ geometry s'.host.volume.numbers
       room = ap geometry shares.reads.kept.numbers ∙ (alike.room ∙ sym (ap geometry shares'.reads.kept.numbers))
+
       tree : s.host.volume.tree ≡ s'.host.volume.tree
       tree = shares.reads.tree is_honest ∙ (alike.tree ∙ sym (shares'.reads.tree is_honest'))
+
       given : given_of s.host.settings ≡ given_of s'.host.settings
       given = ap given_of opens.settings ∙ (alike.supplies.given ∙ sym (ap given_of opens'.settings))
+
       table : (n : ℕ) → option_map unplaced (table_of s.host.descriptors n) ≡ option_map unplaced (table_of s'.host.descriptors n)
       table n = same_tables parts.volume.tree parts'.volume.tree parts.settings.preopens.now parts'.settings.preopens.now (table_of s.host.descriptors) (table_of s'.host.descriptors)
           alike.tree alike.supplies.directories (shares.preopens is_honest) (shares'.preopens is_honest') n
+
       ended : s.host.input.ended ≡ s'.host.input.ended
       ended = ap (λ x. x.ended) opens.input ∙ sym (ap (λ x. x.ended) opens'.input)
+
       bytes : s.host.settings.random.now ≡ s'.host.settings.random.now
       bytes = ap (λ (x : Settings). x.random.now) opens.settings ∙ (alike.supplies.random ∙ sym (ap (λ (x : Settings). x.random.now) opens'.settings))
+
       random : supply s.host.generator s.host.settings.random.now ≡ supply s'.host.generator s'.host.settings.random.now
-      random = λ k. supply ((opens.supply ∙ sym opens'.supply) k) (bytes k)
+      random = λ k. supply ((opens.supply ∙ (ap (option_map seeded) same_seed ∙ sym opens'.supply)) k) (bytes k)
+
       failed : s.host.volume.failed ≡ s'.host.volume.failed
       failed = shares.reads.kept.failed ∙ sym shares'.reads.kept.failed
+
       input_failed : s.host.input.failed ≡ s'.host.input.failed
       input_failed = ap (λ x. x.failed) opens.input ∙ sym (ap (λ x. x.failed) opens'.input)
+
       output_failed : s.host.out.failed ≡ s'.host.out.failed
       output_failed = ap (λ x. x.failed) opens.out ∙ sym (ap (λ x. x.failed) opens'.out)
+
       errors_failed : s.host.err.failed ≡ s'.host.err.failed
       errors_failed = ap (λ x. x.failed) opens.err ∙ sym (ap (λ x. x.failed) opens'.err)
 
   pub same_report : SameReport on on'
-  same_report m seed parts parts' s s' fuel report report' valid alike opens opens' shares shares' is_honest is_honest' reports reports' = (
-    first.instance,
-    first_configuration first.entered first.store,
-    first.stands,
-    stands',
-    λ served. same_run first.instance (first_configuration first.entered first.store) fuel s.host reports.last.host s'.host reports'.last.host report.outcome report'.outcome _ _
-        (shares.reads.kept.honest.0 is_honest) (shares'.reads.kept.honest.0 is_honest') (show_alike m seed parts parts' s s' alike opens opens' shares shares' is_honest is_honest')
-        (reports.run first.instance (first_configuration first.entered first.store) first.stands)
-        (reports'.run first.instance (first_configuration first.entered first.store) stands')
-        (subst (λ (n : ℕ). n ≤ fuel) reports.used reports.within) (subst (λ (n : ℕ). n ≤ fuel) reports'.used reports'.within) served,
-  )
+  same_report m seed seed' parts parts' s s' fuel fuel' report report' valid alike same_seed same_fuel opens opens' shares shares' is_honest is_honest' reports reports' = record {
+    first = (first.instance, first_configuration first.entered first.store, first.stands, stands');
+    alike = λ i c stands stands' served. same_run i c fuel fuel' s.host reports.last.host s'.host reports'.last.host report.outcome report'.outcome _ _
+        (shares.reads.kept.honest.0 is_honest) (shares'.reads.kept.honest.0 is_honest') (show_alike m seed seed' parts parts' s s' alike same_seed opens opens' shares shares' is_honest is_honest')
+        same_fuel (reports.run i c stands) (reports'.run i c stands')
+        (subst (λ (n : ℕ). n ≤ fuel) reports.used reports.within) (subst (λ (n : ℕ). n ≤ fuel') reports'.used reports'.within) served;
+  }
     where
       first : Starts link parts.settings.pages m s.machine
       first = opens.starts
+
       second : Starts link parts'.settings.pages m s'.machine
       second = opens'.starts
+
       pages : parts'.settings.pages ≡ parts.settings.pages
       pages = sym alike.supplies.pages
+
       same : (second.instance ≡ first.instance) × (second.store ≡ first.store) × (second.entered ≡ first.entered)
       same = started_alike link parts.settings.pages m second.instance first.instance second.store first.store second.entered first.entered valid
           (subst (λ (n : ℕ). Instantiates link n m second.instance second.store second.entered) pages second.instantiates) first.instantiates
+
       stands' : Represents s'.machine first.instance (first_configuration first.entered first.store)
       stands' = subst (λ (c : Configuration). Represents s'.machine first.instance c) (λ k. first_configuration (same.2 k) (same.1 k))
           (subst (λ (i : Instance). Represents s'.machine i (first_configuration second.entered second.store)) same.0 second.stands)

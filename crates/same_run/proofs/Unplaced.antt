@@ -1,5 +1,5 @@
 -- Each row answers alike wherever the names of directories stand.
-use Rattle.std.proofs.Common.{◌≡◌, ℕ, zero, suc, ◌+◌, length, Bool, true, false, cond, not, ◌&&◌, ◌||◌, ◌==◌, List, Option, Some, None, Result, Ok, Err, refl, sym, ◌∙◌, ap, subst}
+use Rattle.std.proofs.Common.{◌≡◌, ℕ, zero, suc, ◌+◌, length, Bool, true, false, cond, not, ◌&&◌, ◌||◌, ◌==◌, List, Option, Some, None, Ok, Err, refl, sym, ap, subst}
 use Rattle.std.specs.Option.{option_map, ok_or, option_map_or, is_none}
 use Rattle.std.specs.Borrow.{Bor}
 use Rattle.byteorder.specs.Endian.{little_bytes}
@@ -20,7 +20,7 @@ use Rattle.wasi_calls.specs.World.{World, with_descriptor, moved_to, is_of, hold
 use Rattle.wasi_calls.specs.Checks.{Checked, ◌>>=◌, and_then, guard, Done, only_world, with_result, Refusals, of_kind, has, get, descriptor, opened_entry, entry_at}
 use Rattle.wasi_calls.specs.supplies.Rows.{sizes_get, texts_get, clock_res_get, clock_time_get, random_get}
 use Rattle.wasi_calls.specs.descriptors.Rows.{fd_close, fd_fdstat_get, fd_filestat_get, fd_prestat_get, fd_prestat_dir_name, fd_seek, fd_tell, fdstat, stat_of, guest_name}
-use Rattle.wasi_calls.specs.files.Rows.{fd_read, fd_pread, fd_write, fd_pwrite, fd_filestat_set_size, fd_sync, fd_readdir, read_from, write_to, stream_write, file_write}
+use Rattle.wasi_calls.specs.files.Rows.{fd_read, fd_pread, fd_write, fd_pwrite, fd_filestat_set_size, fd_sync, fd_readdir, read_from, write_to, file_write}
 use Rattle.wasi_calls.specs.paths.Rows.{path_create_directory, path_filestat_get, path_open, path_remove_directory, path_rename, path_unlink_file, open_checks, open_entry, new_number, new_descriptor, rename_to}
 use Rattle.wasi_calls.specs.Calls.{row, word, long}
 use Rattle.same_run.specs.SameWorld.{unplaced_name, unplaced_entry, unplaced, unplaced_world}
@@ -291,7 +291,8 @@ open_path : (w : World) (m : List ℕ) (fd p q r x y z result : ℕ) → Both Is
 open_path w m fd p q r x y z result = after _ unplaced_entry _ _ _ _ (entered w fd _ _) (λ o. guarded _ _ _ _ _ _ refl (guarded _ _ _ _ _ _ refl (guarded _ _ _ _ _ _ refl (guarded _ _ _ _ _ _ refl (guarded _ _ _ _ _ _ refl
     (same _ _ _ _ _ refl (λ reached. same _ _ _ _ _ (checks_kept w r _ reached) (λ _. same _ _ _ _ _ (number_kept w) (λ number. same _ _ _ _ _ (opening_kept w r reached) (λ made.
     ends _ _ _ (ap (λ (v : World). with_result v result (little_bytes 4 number)) (placed number (Some (new_descriptor made.0 o made.1 x y z)) (record w { tree = made.0 }))))))))))))
-)
+    )
+
 renames : (w : World) (source : ℕ) (slash : Bool) (r : Reached) → Both (λ (T V : Tree). V ≡ T) (rename_to w source slash r) (rename_to (U w) source slash r)
 renames w source slash (Found target) = branch _ _ _ _ _ _ (ends _ _ _ refl)
     (guarded _ _ _ _ _ _ refl (guarded _ _ _ _ _ _ refl (guarded _ _ _ _ _ _ refl (guarded _ _ _ _ _ _ (ap not (held_kept w target)) (guarded _ _ _ _ _ _ refl (itself _))))))

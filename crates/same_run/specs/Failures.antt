@@ -11,5 +11,6 @@ has_failed w = w.volume_failed || ((w.input_failed || w.output_failed) || w.erro
 
 -- What has failed before a call has failed after it.
 abbrev pub FailuresStay : (H : Type 0) → CallsOf H → (H → Bool) → Type 0
-FailuresStay H Calls failed = (h h' : H) (memory memory' : List ℕ) (used : ℕ) (call : HostCall) (args : List ℕ) (answer : Answer)
+FailuresStay H Calls failed = (h h' : H) (memory memory' : List ℕ) (used : ℕ) (call : HostCall) (args : List ℕ)
+    (answer : Answer)
     → Calls h memory used call args h' memory' answer → failed h' ≡ false → failed h ≡ false

@@ -8,3 +8,4 @@ pub mod OneRun
 pub mod OneStart
 pub mod SameWorld
 pub mod SameRun
+pub mod SameProgram

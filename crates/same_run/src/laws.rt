@@ -7,6 +7,7 @@ ghost use Rattle.same_run.specs.Failures.{FailuresStay, has_failed};
 ghost use Rattle.same_run.specs.NextStep.{AnswersOnce, OneNextStep};
 ghost use Rattle.same_run.specs.OneRun.{OneEnd, OneRun};
 ghost use Rattle.same_run.specs.OneStart.{OneStart};
+ghost use Rattle.same_run.specs.SameProgram.{SameProgramRun};
 ghost use Rattle.same_run.specs.SameRun.{SameReport, SameRun};
 
 use std::io::{Read, Write};
@@ -46,12 +47,37 @@ pub fn one_start<H: Host>()
 
 /// Two runs with the same fuel from one configuration, over hosts of the same tree, room, descriptors and supplies, whatever
 /// their devices and streams are: where the host failed in neither and both read of the same input, they are the same.
-pub fn same_run<D: Device, R: Read, W1: Write, W2: Write, E: Device, S: Read, X1: Write, X2: Write>()
+pub fn same_run<
+    D: Device,
+    R: Read,
+    W1: Write,
+    W2: Write,
+    E: Device,
+    S: Read,
+    X1: Write,
+    X2: Write,
+>()
     ensures { SameRun (devices D.Device R.Read W1.Write W2.Write) (devices E.Device S.Read X1.Write X2.Write) }
 {}
 
 /// The same module, supplies and volume give the same run, unless the host failed: memory, a stream or the device. So the
 /// reports of two such sessions tell of the same outcome, units, answers, bytes and tree.
-pub fn same_report<D: Device, R: Read, W1: Write, W2: Write, E: Device, S: Read, X1: Write, X2: Write>()
+pub fn same_report<
+    D: Device,
+    R: Read,
+    W1: Write,
+    W2: Write,
+    E: Device,
+    S: Read,
+    X1: Write,
+    X2: Write,
+>()
     ensures { SameReport (devices D.Device R.Read W1.Write W2.Write) (devices E.Device S.Read X1.Write X2.Write) }
+{}
+
+/// The same for runs of the program: the same module, words, random bytes, input and volume give the same run, unless the
+/// host failed. A failure is also what `--output` cuts.
+pub fn same_program_run<D: Device, R: Read, W1: Write, W2: Write, E: Device, S: Read, X1: Write, X2: Write>()
+    ensures { SameProgramRun D.honest D.disk D.size D.failures D.goes_on R.remaining W1.contents W2.contents
+        E.honest E.disk E.size E.failures E.goes_on S.remaining X1.contents X2.contents }
 {}
