@@ -2,7 +2,6 @@
 use Rattle.std.proofs.Common.{◌≡◌, ℕ, List, [], ◌∷◌, map, Option, Some, refl, sym, ◌∙◌, ap}
 use Rattle.std.proofs.lemmas.Option.{same_Some}
 use Rattle.vol_sector.specs.Disk.{Disk}
-use Rattle.wasi_calls.specs.declared.host.settings.Preopen.{Preopen}
 use Rattle.wasi_calls.specs.declared.host.settings.Settings.{Settings}
 use Rattle.wasi_calls.specs.host.Worlds.{given_of}
 use Rattle.sandbox_core.specs.Session.{given}
@@ -10,7 +9,7 @@ use Rattle.sandbox_words.specs.declared.request.Run.{Run}
 use Rattle.sandbox_words.specs.Request.{Text}
 use Rattle.sandbox_command.specs.Reporting.{counting}
 use Rattle.sandbox_command.specs.Running.{counted_devices}
-use Rattle.sandbox_command.specs.Supplies.{AreSettings, names_of as named, directories_of, split_at_equals}
+use Rattle.sandbox_command.specs.Supplies.{AreSettings, names_of as named, split_at_equals}
 use Rattle.same_run.specs.SameRun.{AreSameSupplies}
 use Rattle.same_run.specs.SameProgram.{HandOutTheSame, SameProgramRun}
 use Rattle.same_run.proofs.Sameness.{same_report}
@@ -30,6 +29,7 @@ all_some f (x ∷ xs) (y ∷ ys) same = λ k. first k ∷ all_some f xs ys rest 
   where
     first : f x ≡ f y
     first = same_Some (f x) (f y) (heads (Some (f x)) (Some (f y)) _ _ same)
+
     rest : map (λ x. Some (f x)) xs ≡ map (λ x. Some (f x)) ys
     rest = tails (Some (f x)) (Some (f y)) _ _ same
 
@@ -44,8 +44,10 @@ same_supplies run run' random settings settings' same has has' = record {
   where
     args : (given_of settings).args ≡ (given_of settings').args
     args = has.args ∙ (same.arguments ∙ sym has'.args)
+
     env : (given_of settings).env ≡ (given_of settings').env
     env = has.env ∙ (same.environment ∙ sym has'.env)
+
     moment : settings.moment ≡ settings'.moment
     moment = has.moment ∙ (same.moment ∙ sym has'.moment)
 

@@ -77,7 +77,16 @@ pub fn same_report<
 
 /// The same for runs of the program: the same module, words, random bytes, input and volume give the same run, unless the
 /// host failed. A failure is also what `--output` cuts.
-pub fn same_program_run<D: Device, R: Read, W1: Write, W2: Write, E: Device, S: Read, X1: Write, X2: Write>()
+pub fn same_program_run<
+    D: Device,
+    R: Read,
+    W1: Write,
+    W2: Write,
+    E: Device,
+    S: Read,
+    X1: Write,
+    X2: Write,
+>()
     ensures { SameProgramRun D.honest D.disk D.size D.failures D.goes_on R.remaining W1.contents W2.contents
         E.honest E.disk E.size E.failures E.goes_on S.remaining X1.contents X2.contents }
 {}
