@@ -16,13 +16,15 @@ use wasm_store::Host;
 
 /// A step is the only one: from the same configuration and host two steps give the same, over any host that answers the
 /// same to the same question, unless one of them refuses a growth of memory that the limit would take. So no rule but that
-/// of growth leaves a choice.
+/// of growth leaves a choice: one by which new memory held what stood there before, or by which a trap could be passed over,
+/// would make this false.
 pub fn one_next_step<H: Host>()
     ensures { OneNextStep H H.calls }
 {}
 
 /// A world answers the same to the same question, unless the volume or a stream failed in the call; and what has failed
-/// stays failed.
+/// stays failed. A read that gave fewer bytes than are there, a clock that told the time of day, or a list of a directory in
+/// the order of some table would make this false.
 pub fn worlds_answer_once()
     ensures once { AnswersOnce World world.Calls has_failed }
     ensures stays { FailuresStay World world.Calls has_failed }
