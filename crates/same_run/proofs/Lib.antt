@@ -1,0 +1,11 @@
+pub mod Branching
+pub mod Rewriting
+pub mod Moving
+pub mod Marks
+pub mod Unplaced
+pub mod Answering
+pub mod Running
+pub mod OneStart
+pub mod Worlds
+pub mod Sameness
+pub mod Program

@@ -1,0 +1,232 @@
+-- Two runs over hosts that show the same world are the same.
+use Rattle.std.proofs.Common.{◌≡◌, ◌≢◌, ℕ, ◌-◌, ◌≤◌, Bool, true, false, cond, List, [], ◌∷◌, ◌++◌, map, Option, Some, None, slice_get, refl, sym, ◌∙◌, ap, subst}
+use Rattle.std.specs.Prelude.{nat_lt}
+use Rattle.std.specs.Option.{option_map, option_map_or}
+use Rattle.std.proofs.lemmas.Option.{same_Some, slice_get-map}
+use Rattle.std.proofs.lemmas.List.{append_cancel_right}
+use Rattle.vol_tree.specs.Tree.{Tree}
+use Rattle.vol_tree.specs.Opened.{geometry}
+use Rattle.wasi_fd.specs.declared.descriptor.Descriptor.{Descriptor}
+use Rattle.wasi_fd.specs.declared.descriptor.Descriptor.TheVariants.{Entry}
+use Rattle.wasi_fd.specs.declared.descriptor.EntryKind.TheVariants as kinds
+use Rattle.wasi_fd.specs.Rights.{directory_rights, all_rights}
+use Rattle.wasi_fd.specs.Table.{Table, table_of, streams}
+use Rattle.wasm_module.specs.declared.module.Module.{Module}
+use Rattle.wasm_store.specs.Instantiation.{Instantiates}
+use Rattle.wasm_steps.specs.declared.pause.Outcome.{Outcome}
+use Rattle.wasm_steps.specs.declared.pause.Outcome.TheVariants.{Exited, Trapped, OutOfFuel, OutOfMemory}
+use Rattle.wasm_steps.specs.Configuration.{Instance, Configuration, at, first_configuration}
+use Rattle.wasm_interp.specs.Machine.{Represents}
+use Rattle.wasm_interp.specs.Promise.{Starts}
+use Rattle.wasi_calls.specs.declared.host.settings.Preopen.{Preopen}
+use Rattle.wasi_calls.specs.declared.host.settings.Settings.{Settings}
+use Rattle.wasi_calls.specs.declared.host.wasi_host.HostParts.{HostParts}
+use Rattle.wasi_calls.specs.host.Making.{HasPreopens, directory_named, preopened, preopens_of, table_with}
+use Rattle.wasi_calls.specs.host.Links.{link}
+use Rattle.wasi_calls.specs.host.Worlds.{HostState, StreamBytes, MayFollow, before_moving, after_moving, given_of, world_of}
+use Rattle.wasi_calls.specs.supplies.Random.{seeded, supply}
+use Rattle.wasi_calls.specs.World.{World}
+use Rattle.wasi_calls.specs.Calls as world
+use Rattle.sandbox_core.specs.Devices.{Devices, Calls, IsHonest}
+use Rattle.sandbox_core.specs.Session.{SessionState, OpensWith, Shares}
+use Rattle.sandbox_core.specs.Runs.{StopsAs, RunsWithin}
+use Rattle.same_run.specs.Failures.{has_failed}
+use Rattle.same_run.specs.OneRun.{IsServed}
+use Rattle.same_run.specs.SameWorld.{unplaced, unplaced_world, IsSameWorld}
+use Rattle.same_run.specs.SameRun.{host_failed, names_of, GaveOf, ReadAndWrote, ShowAlike, AreTheSame, SameRun, AreAlike, SameReport}
+use Rattle.same_run.proofs.Answering.{answers_alike, failures_stay}
+use Rattle.same_run.proofs.Running.{ends_alike}
+use Rattle.same_run.proofs.OneStart.{started_alike}
+use Rattle.same_run.proofs.Worlds.{reach_moves}
+
+-- ---- the directories that a guest finds open
+
+-- the descriptor of a directory with this name, which stands nowhere
+abbrev named : List ℕ → ℕ → Descriptor
+named name serial = Entry (record {
+  serial = serial;
+  kind = kinds.Directory;
+  position = 0;
+  append = false;
+  base = record { 0 = directory_rights };
+  inheriting = record { 0 = all_rights };
+  guest_name = Some (record { ref_ptr = (0, 0); now = name });
+})
+
+abbrev opened_at : List ℕ → Option (List Descriptor) → Option ℕ → Option (List Descriptor)
+opened_at name rest None = None
+opened_at name rest (Some serial) = option_map (λ (ds : List Descriptor). named name serial ∷ ds) rest
+
+-- what the names and paths of directories give
+abbrev opened_by : Tree → List (List ℕ × List ℕ) → Option (List Descriptor)
+opened_by T [] = Some []
+opened_by T (n ∷ ns) = opened_at n.0 (opened_by T ns) (directory_named T n.1)
+
+opened_first : (p : Preopen) (rest : Option (List Descriptor)) (serial : Option ℕ)
+    → option_map (map unplaced) (option_map_or (λ serial. option_map (λ (ds : List Descriptor). preopened p serial ∷ ds) rest) serial None)
+    ≡ opened_at p.guest_name.now (option_map (map unplaced) rest) serial
+opened_first p rest None = refl
+opened_first p None (Some serial) = refl
+opened_first p (Some ds) (Some serial) = refl
+
+opened_so : (T : Tree) (ps : List Preopen) → option_map (map unplaced) (preopens_of T ps) ≡ opened_by T (map names_of ps)
+opened_so T [] = refl
+opened_so T (p ∷ ps) = opened_first p (preopens_of T ps) (directory_named T p.path.now)
+    ∙ ap (λ (rest : Option (List Descriptor)). opened_at p.guest_name.now rest (directory_named T p.path.now)) (opened_so T ps)
+
+in_table : (ds : List Descriptor) (n : ℕ) → option_map unplaced (table_with ds n) ≡ cond (nat_lt n 3) (option_map unplaced (streams n)) (slice_get (map unplaced ds) (n - 3))
+in_table ds n = by_test (nat_lt n 3)
+  where
+    by_test : (b : Bool) → option_map unplaced (cond b (streams n) (slice_get ds (n - 3))) ≡ cond b (option_map unplaced (streams n)) (slice_get (map unplaced ds) (n - 3))
+    by_test true = refl
+    by_test false = sym (slice_get-map unplaced ds (n - 3))
+
+same_tables : (T T' : Tree) (ps ps' : List Preopen) (table table' : Table) → T ≡ T' → map names_of ps ≡ map names_of ps' → HasPreopens T ps table → HasPreopens T' ps' table'
+    → (n : ℕ) → option_map unplaced (table n) ≡ option_map unplaced (table' n)
+same_tables T T' ps ps' table table' tree names has has' n =
+    let directories : map unplaced has.directories ≡ map unplaced has'.directories = same_Some (map unplaced has.directories) (map unplaced has'.directories)
+    (sym (ap (option_map (map unplaced)) has.named) ∙ (opened_so T ps ∙ ((λ k. opened_by (tree k) (names k)) ∙ (sym (opened_so T' ps') ∙ ap (option_map (map unplaced)) has'.named)))) in
+    ap (option_map unplaced) (has.opened n) ∙ (in_table has.directories n
+    ∙ (ap (λ (ds : List Descriptor). cond (nat_lt n 3) (option_map unplaced (streams n)) (slice_get ds (n - 3))) directories
+    ∙ (sym (in_table has'.directories n) ∙ sym (ap (option_map unplaced) (has'.opened n)))))
+
+-- ---- one run over worlds
+
+module _ {D R W1 W2 : Type 0} (on : Devices D R W1 W2) where
+  module _ {i : Instance} {c : Configuration} {fuel : ℕ} {h last : HostState D R W1 W2} {outcome : Outcome} {used : ℕ} (run : RunsWithin (Calls on) i h c fuel last outcome used) where
+    abbrev pub RanOver : StreamBytes → StreamBytes → Type 0
+    RanOver before after = (over : RunsWithin world.Calls i (world_of h before) c fuel (world_of last after) outcome used)
+        × IsServed world.Calls has_failed over × (over.last ≡ run.last) × (over.answers ≡ run.answers)
+
+    stops_over : (o : Outcome) (w : World) (d : Configuration) → o ≢ OutOfMemory → StopsAs (Calls on) i o fuel used last d → StopsAs world.Calls i o fuel used w d
+    stops_over (Exited n) w (at s f d) not_memory is = is
+    stops_over (Trapped t) w (at s f d) not_memory is = is
+    stops_over OutOfFuel w d not_memory is = is
+    stops_over OutOfMemory w d not_memory is = absurd (not_memory refl)
+
+    pub ran_over : (moved : StreamBytes) → ReadAndWrote on run moved → IsServed (Calls on) host_failed run → (others : StreamBytes) → MayFollow last others
+        → RanOver (before_moving moved others) (after_moving moved others)
+    ran_over moved did served others end = let (reach, same) = did.over_paths others end in (
+      record { last = run.last; answers = run.answers; reach = reach; units = run.units; stops = stops_over outcome (world_of last (after_moving moved others)) run.last served.stacks run.stops },
+      record { growths = λ refused. served.growths (same refused); stacks = served.stacks; nothing_failed = served.nothing_failed },
+      refl,
+      refl,
+    )
+
+    pub some_bytes : IsHonest on h → (moved : StreamBytes) × ReadAndWrote on run moved
+    some_bytes is_honest = let (moved, moves, over) = reach_moves on i h last c run.last run.answers run.reach is_honest in
+        (moved, record { moves = moves; over_paths = over })
+
+-- ---- two of them
+
+module _ {D R W1 W2 D' R' W1' W2' : Type 0} (on : Devices D R W1 W2) (on' : Devices D' R' W1' W2') where
+  pub same_run : SameRun on on'
+  same_run i c fuel fuel' h last h' last' outcome outcome' used used' is_honest is_honest' alike same_fuel run run' within within' (served, served') =
+      record { some = some_bytes on run is_honest; some' = some_bytes on' run' is_honest'; same = the_same }
+    where
+      the_same : (input : List ℕ) (moved moved' : StreamBytes) → ReadAndWrote on run moved → ReadAndWrote on' run' moved' → GaveOf input last moved → GaveOf input last' moved'
+          → AreTheSame on on' run run' moved moved'
+      the_same input moved moved' did did' (left, all, over) (left', all', over') =
+          let others : StreamBytes = record { input = left; output = []; errors = [] } in
+          let others' : StreamBytes = record { input = left'; output = []; errors = [] } in
+          let before : before_moving moved' others' ≡ before_moving moved others = λ k. record { input = (sym all' ∙ all) k; output = []; errors = [] } in
+          let first : IsSameWorld (world_of h (before_moving moved others)) (world_of h' (before_moving moved' others')) =
+          alike (before_moving moved others) ∙ ap (λ (b : StreamBytes). unplaced_world (world_of h' b)) (sym before) in
+          let (one, one_served, one_last, one_answers) = ran_over on run moved did served others over in
+          let (other, other_served, other_last, other_answers) = ran_over on' run' moved' did' served' others' over' in
+          let same = ends_alike World world.Calls i IsSameWorld has_failed answers_alike failures_stay (world_of h (before_moving moved others)) (world_of h' (before_moving moved' others'))
+          (world_of last (after_moving moved others)) (world_of last' (after_moving moved' others')) c fuel fuel' outcome outcome' used used' first same_fuel one other within within' one_served other_served in
+          let lefts : left ≡ left' = ap (λ (w : World). w.input) same.hosts in
+          let inputs : moved.input ≡ moved'.input = append_cancel_right moved.input moved'.input left
+          (sym all ∙ (all' ∙ ap (λ (xs : List ℕ). moved'.input ++ xs) (sym lefts))) in
+          let outputs : moved.output ≡ moved'.output = ap (λ (w : World). w.output) same.hosts in
+          let errors : moved.errors ≡ moved'.errors = ap (λ (w : World). w.errors) same.hosts in
+          record {
+            ends = same.outcomes;
+            units = same.units;
+            configuration = sym one_last ∙ (same.lasts ∙ other_last);
+            calls = sym one_answers ∙ (same.told_same ∙ other_answers);
+            tree = ap (λ (w : World). w.tree) same.hosts;
+            bytes = λ k. record { input = inputs k; output = outputs k; errors = errors k };
+          }
+
+  -- ---- sessions
+
+  show_alike : (m : Module) (seed seed' : Option ℕ) (parts : HostParts D R W1 W2) (parts' : HostParts D' R' W1' W2') (s : SessionState D R W1 W2) (s' : SessionState D' R' W1' W2')
+      → AreAlike on on' parts parts' → seed ≡ seed' → OpensWith seed m parts s → OpensWith seed' m parts' s' → Shares on.device parts s → Shares on'.device parts' s'
+      → on.device.honest parts.volume.device → on'.device.honest parts'.volume.device → ShowAlike on on' s.host s'.host
+  show_alike m seed seed' parts parts' s s' alike same_seed opens opens' shares shares' is_honest is_honest' b = λ k. record {
+    volume = room k;
+    tree = tree k;
+    table = λ n. table n k;
+    input = b.input;
+    input_ended = ended k;
+    output = b.output;
+    errors = b.errors;
+    random = random k;
+    given = given k;
+    volume_failed = failed k;
+    input_failed = input_failed k;
+    output_failed = output_failed k;
+    errors_failed = errors_failed k;
+  }
+    where
+      room : geometry s.host.volume.numbers ≡ geometry s'.host.volume.numbers
+      room = ap geometry shares.reads.kept.numbers ∙ (alike.room ∙ sym (ap geometry shares'.reads.kept.numbers))
+
+      tree : s.host.volume.tree ≡ s'.host.volume.tree
+      tree = shares.reads.tree is_honest ∙ (alike.tree ∙ sym (shares'.reads.tree is_honest'))
+
+      given : given_of s.host.settings ≡ given_of s'.host.settings
+      given = ap given_of opens.settings ∙ (alike.supplies.given ∙ sym (ap given_of opens'.settings))
+
+      table : (n : ℕ) → option_map unplaced (table_of s.host.descriptors n) ≡ option_map unplaced (table_of s'.host.descriptors n)
+      table n = same_tables parts.volume.tree parts'.volume.tree parts.settings.preopens.now parts'.settings.preopens.now (table_of s.host.descriptors) (table_of s'.host.descriptors)
+          alike.tree alike.supplies.directories (shares.preopens is_honest) (shares'.preopens is_honest') n
+
+      ended : s.host.input.ended ≡ s'.host.input.ended
+      ended = ap (λ x. x.ended) opens.input ∙ sym (ap (λ x. x.ended) opens'.input)
+
+      bytes : s.host.settings.random.now ≡ s'.host.settings.random.now
+      bytes = ap (λ (x : Settings). x.random.now) opens.settings ∙ (alike.supplies.random ∙ sym (ap (λ (x : Settings). x.random.now) opens'.settings))
+
+      random : supply s.host.generator s.host.settings.random.now ≡ supply s'.host.generator s'.host.settings.random.now
+      random = λ k. supply ((opens.supply ∙ (ap (option_map seeded) same_seed ∙ sym opens'.supply)) k) (bytes k)
+
+      failed : s.host.volume.failed ≡ s'.host.volume.failed
+      failed = shares.reads.kept.failed ∙ sym shares'.reads.kept.failed
+
+      input_failed : s.host.input.failed ≡ s'.host.input.failed
+      input_failed = ap (λ x. x.failed) opens.input ∙ sym (ap (λ x. x.failed) opens'.input)
+
+      output_failed : s.host.out.failed ≡ s'.host.out.failed
+      output_failed = ap (λ x. x.failed) opens.out ∙ sym (ap (λ x. x.failed) opens'.out)
+
+      errors_failed : s.host.err.failed ≡ s'.host.err.failed
+      errors_failed = ap (λ x. x.failed) opens.err ∙ sym (ap (λ x. x.failed) opens'.err)
+
+  pub same_report : SameReport on on'
+  same_report m seed seed' parts parts' s s' fuel fuel' report report' valid alike same_seed same_fuel opens opens' shares shares' is_honest is_honest' reports reports' = record {
+    first = (first.instance, first_configuration first.entered first.store, first.stands, stands');
+    alike = λ i c stands stands' served. same_run i c fuel fuel' s.host reports.last.host s'.host reports'.last.host report.outcome report'.outcome _ _
+        (shares.reads.kept.honest.0 is_honest) (shares'.reads.kept.honest.0 is_honest') (show_alike m seed seed' parts parts' s s' alike same_seed opens opens' shares shares' is_honest is_honest')
+        same_fuel (reports.run i c stands) (reports'.run i c stands')
+        (subst (λ (n : ℕ). n ≤ fuel) reports.used reports.within) (subst (λ (n : ℕ). n ≤ fuel') reports'.used reports'.within) served;
+  }
+    where
+      first : Starts link parts.settings.pages m s.machine
+      first = opens.starts
+
+      second : Starts link parts'.settings.pages m s'.machine
+      second = opens'.starts
+
+      pages : parts'.settings.pages ≡ parts.settings.pages
+      pages = sym alike.supplies.pages
+
+      same : (second.instance ≡ first.instance) × (second.store ≡ first.store) × (second.entered ≡ first.entered)
+      same = started_alike link parts.settings.pages m second.instance first.instance second.store first.store second.entered first.entered valid
+          (subst (λ (n : ℕ). Instantiates link n m second.instance second.store second.entered) pages second.instantiates) first.instantiates
+
+      stands' : Represents s'.machine first.instance (first_configuration first.entered first.store)
+      stands' = subst (λ (c : Configuration). Represents s'.machine first.instance c) (λ k. first_configuration (same.2 k) (same.1 k))
+          (subst (λ (i : Instance). Represents s'.machine i (first_configuration second.entered second.store)) same.0 second.stands)
