@@ -2,6 +2,7 @@
 #   @name TEXT                    the page's name, with what it is
 #   @help LINE                    a line of the program's help of a command
 #   @section FILE HEADING         what stands below the heading, with its subsections, or without any where the heading ends in #
+#   @subsections FILE HEADING     the heading's subsections, each as a section of the page
 #   @paragraph FILE TEXT          the paragraph that begins with the text
 #   @row FILE HEADING # TEXT      of the table below the heading, the row whose first cell has the text
 #   @head FILE                    the paragraph below a document's title
@@ -286,6 +287,20 @@ function section_of(file, words,    n, i, level, deeper, is_alone) {
   }
 }
 
+# Where a subsection is added to the document, it comes into the page by itself.
+function subsections_of(file, words,    n, i, level, deeper) {
+  i = place_of(file, words)
+  n = read_file(file)
+  level = level_of(lines[file, i])
+  for (i++; i <= n && !level_of(lines[file, i]); i++) ;
+  for (; i <= n; i++) {
+    deeper = level_of(lines[file, i])
+    if (deeper && deeper <= level)
+      return
+    line_of(deeper ? "## " substr(lines[file, i], deeper + 2) : lines[file, i])
+  }
+}
+
 function paragraph_of(file, words,    n, i) {
   n = read_file(file)
   for (i = 1; i <= n; i++)
@@ -471,6 +486,7 @@ function name_of(s) {
 /^@name / { name_of(substr($0, 7)); next }
 /^@help/ { help_line(substr($0, 7)); next }
 /^@section / { words = $0; sub(/^@section [^ ]+ /, "", words); section_of($2, words); next }
+/^@subsections / { words = $0; sub(/^@subsections [^ ]+ /, "", words); subsections_of($2, words); next }
 /^@paragraph / { words = $0; sub(/^@paragraph [^ ]+ /, "", words); paragraph_of($2, words); next }
 /^@row / { words = $0; sub(/^@row [^ ]+ [^ ]+ /, "", words); row_of($2, $3, words); line_of(""); flush(); next }
 /^@head / { head_of($2); next }

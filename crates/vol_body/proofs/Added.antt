@@ -1,5 +1,5 @@
 -- What taking a sector and naming it changes of a file.
-use Rattle.std.proofs.Common.{◌≡◌, ◌≢◌, ◌⊎◌, inl, inr, ◌≤◌, ◌<◌, ◌+◌, ◌-◌, ◌/◌, ◌==◌, if◌then◌else◌, ℕ, Bool, true, false, List, refl, sym, ◌∙◌, ap, subst, arith}
+use Rattle.std.proofs.Common.{◌≡◌, ◌≢◌, ◌⊎◌, inl, inr, ◌≤◌, ◌<◌, ◌+◌, ◌-◌, ◌/◌, ◌==◌, if◌then◌else◌, ℕ, Bool, true, false, List, get_or, refl, sym, ◌∙◌, ap, subst, arith}
 use Rattle.std.proofs.lemmas.Bool.{both_ways}
 use Rattle.vol_sector.specs.Disk.{Image}
 use Rattle.vol_alloc.specs.Alloc.{first_of, end_of, taken_of, free_of}
@@ -38,9 +38,9 @@ place_of (inner_block i) size small serves = omega arith
 
 -- a change by which the file names one more sector
 changes_one : (a b : Alloc) (content after : Image) (e changed : Entry) (p : BlockPosition) (n : ℕ) (Touched : BlockPosition → Type 0) → NamesOneMore content after e changed p n → TakesSector a b n → IsReady a content e → e.size ≤ LARGEST_SIZE
-    → named content e p ≡ 0 → first_served p < blocks_for_size e.size → ((place : ℕ) → OthersStay place (first_of a) (end_of a) (taken_of a) content after e)
+    → named content e p ≡ 0 → first_served p < blocks_for_size e.size → get_or changed.pointers 60 0 ≡ get_or e.pointers 60 0 → ((place : ℕ) → OthersStay place (first_of a) (end_of a) (taken_of a) content after e)
     → ((q : BlockPosition) → IsPosition q → (Touched q → ⊥) → SamePlace content after e changed q) → ChangesPositions a b content after e changed Touched
-changes_one a b content after e changed p n Touched more takes ready small none serves others stays =
+changes_one a b content after e changed p n Touched more takes ready small none serves last others stays =
     let fresh = free_is_others (taken_of a) content e n ready.taken takes.some takes.free in
     let there = place_of p e.size small serves in
     let used = used_more content after e changed p n more none takes.some serves small in
@@ -56,6 +56,7 @@ changes_one a b content after e changed p n Touched more takes ready small none 
       takes = takes_one content after e changed p n more (taken_of a) (taken_of b) takes.taken ready.taken takes.free none there;
       stays = stays;
       size = more.size;
+      last = last;
       count = omega (arith, used, takes.count);
     }
 
@@ -67,13 +68,20 @@ pointed_more content after e changed s n indirect_block image others stays sets 
 pointed_more content after e changed s n double_indirect_block image others stays sets is at blank none = one_lists content after e changed n others stays (subst (λ (k : ℕ). SetsPointer e changed k n) at sets) none (is ∙ blank)
 pointed_more content after e changed s n (inner_block i) image others stays sets is at blank none = absurd at
 
+-- the last pointer is for no position
+not_last : (s : ℕ) (p : BlockPosition) → PointedAt s p → 60 ≡ s → ⊥
+not_last s (data_block j) at is = omega (arith, at.0, at.1, is)
+not_last s indirect_block at is = omega (arith, at, is)
+not_last s double_indirect_block at is = omega (arith, at, is)
+not_last s (inner_block i) at is = at
+
 pub adds_pointer : (a b : Alloc) (content after : Image) (e changed : Entry) (s n : ℕ) (p : BlockPosition) (image : List ℕ) → TakesSector a b n → IsReady a content e → e.size ≤ LARGEST_SIZE
     → ((x : ℕ) → x ≢ n → after x ≡ content x) → SetsPointer e changed s n → after n ≡ image → PointedAt s p → IsBlank p image → named content e p ≡ 0 → first_served p < blocks_for_size e.size
     → ChangesPositions a b content after e changed (λ q. q ≡ p) × Mirrors after changed p n image
 adds_pointer a b content after e changed s n p image takes ready small stays sets is at blank none serves =
     let fresh = free_is_others (taken_of a) content e n ready.taken takes.some takes.free in
     let more = pointed_more content after e changed s n p image fresh stays sets is at blank none in (
-      changes_one a b content after e changed p n (λ q. q ≡ p) more takes ready small none serves
+      changes_one a b content after e changed p n (λ q. q ≡ p) more takes ready small none serves (sets.rest 60 (omega arith) (not_last s p at))
           (λ place. others_stay_one place (first_of a) (end_of a) (taken_of a) content after e n stays takes.from takes.below (λ taken others. both_ways (taken_of a n) takes.free taken))
           (λ q there not. record { name = more.rest q there not; bytes = places_stay content after e changed p n more fresh stays q there not }),
       record { names = sym more.one; bytes = sym is ∙ sym (bytes_there after n takes.some) },
@@ -98,7 +106,7 @@ adds_number a b content after e n m i q p image takes ready small some from belo
     let fresh = free_is_others (taken_of a) content e n ready.taken takes.some takes.free in
     let there = place_of p e.size small serves in
     let more = listed_more content after e n m i q p image ready.naming fresh some lists_it is lt at there (sym names) blank none in (
-      changes_one a b content after e e p n (λ x. (x ≡ p) ⊎ (x ≡ q)) more takes ready small none serves
+      changes_one a b content after e e p n (λ x. (x ≡ p) ⊎ (x ≡ q)) more takes ready small none serves refl
           (λ place. others_stay_two place (first_of a) (end_of a) (taken_of a) content after e n m lists_it.stays takes.from takes.below (λ taken others. both_ways (taken_of a n) takes.free taken) from below (λ taken others. others q q_there (sym names)))
           (λ x x_there not. record { name = more.rest x x_there (λ same. not (inl same)); bytes = places_stay_but content after e e p q n m more ready.naming fresh q_there (sym names) lists_it.stays x x_there (λ same. not (inl same)) (λ same. not (inr same)) }),
       record { names = sym more.one; bytes = sym is ∙ sym (bytes_there after n takes.some) },
@@ -120,6 +128,7 @@ writes_over a content after e j n ready small lt is some from below stays =
       takes = takes_same (taken_of a) content after e e ready.taken names;
       stays = λ q there not. record { name = names q there; bytes = places_stay_by content after e e (data_block j) n more ready.naming lt is stays q there not };
       size = refl;
+      last = refl;
       count = let kept = used_kept content after e e small refl names in omega arith;
     }
 
@@ -143,5 +152,6 @@ changes_twice a b c c0 c1 c2 e0 e1 e2 One Other Both none still first_is end_is 
       let after = other.stays p there (λ is. not (other_in p is)) in
       record { name = after.name ∙ before.name; bytes = after.bytes ∙ before.bytes };
   size = other.size ∙ one.size;
+  last = other.last ∙ one.last;
   count = omega (arith, one.count, other.count);
 }

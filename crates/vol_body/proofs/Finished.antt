@@ -123,5 +123,6 @@ module _ (place offset : ℕ) (bytes first last spelled : List ℕ) (a b : Alloc
           (zeros_beyond content after e changed offset bytes first last write body changed_size);
       others = others_leave;
       taken = taken_leaves;
+      last = changes.last;
       count = count_leaves;
     }

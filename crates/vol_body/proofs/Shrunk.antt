@@ -26,7 +26,7 @@ pub record Shrinks (size place first end : ℕ) (content : Image) (e changed : E
   pub within : AreWithin first end truncation
   pub frees : Frees was now (IsFreed content e (blocks_for_size size))
   pub new_size : changed.size ≡ size
-  pub pointers : (j : ℕ) → j < 60 → get_or changed.pointers j 0 ≡ (if nat_lt (first_block_of_pointer j) (blocks_for_size size) then get_or e.pointers j 0 else 0)
+  pub pointers : (j : ℕ) → j < 61 → get_or changed.pointers j 0 ≡ (if nat_lt (first_block_of_pointer j) (blocks_for_size size) then get_or e.pointers j 0 else 0)
   pub shorter : size < e.size
   pub small : e.size ≤ LARGEST_SIZE
   pub slot : (n : ℕ) → was n ≡ true → n ≢ place

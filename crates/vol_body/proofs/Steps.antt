@@ -139,6 +139,7 @@ changes_wider a b content after e changed One Other inside changes = record {
   takes = changes.takes;
   stays = λ p there not. changes.stays p there (λ touched. not (inside p touched));
   size = changes.size;
+  last = changes.last;
   count = changes.count;
 }
 
@@ -246,6 +247,7 @@ changes_none a content e Touched ready = record {
   takes = takes_same (taken_of a) content content e e ready.taken (λ p there. refl);
   stays = λ p there not. record { name = refl; bytes = refl };
   size = refl;
+  last = refl;
   count = omega arith;
 }
 

@@ -123,12 +123,12 @@ at_all_later : (content : Image) (e : Entry) → map (named content e) all_inner
 unfolding all_inner_positions listed
 at_all_later content e = at_flat (named content e) inner_positions (with_listed content) (number_in content (named content e double_indirect_block)) 0 128 (λ i le lt. at_later content e i)
 
-at_direct : (content : Image) (e : Entry) → length e.pointers ≡ 60 → map (named content e) (data_blocks_from 0 58) ≡ take 58 e.pointers
+at_direct : (content : Image) (e : Entry) → length e.pointers ≡ 61 → map (named content e) (data_blocks_from 0 58) ≡ take 58 e.pointers
 at_direct content e long = at_parts (named content e) 0 58 (take 58 e.pointers) (length-take-le 58 e.pointers (omega (arith, long))) (λ i lt.
     let same : i ≡ 0 + i = omega arith in
     get_or-take 58 e.pointers i 0 lt ∙ sym (part_direct content e i lt) ∙ ap (λ (j : ℕ). named content e (data_block j)) same)
 
-pub at_every : (content : Image) (e : Entry) → length e.pointers ≡ 60
+pub at_every : (content : Image) (e : Entry) → length e.pointers ≡ 61
     → (take 58 e.pointers ++ with_listed content (named content e indirect_block)) ++ (named content e double_indirect_block ∷ all_listed content (listed content (named content e double_indirect_block))) ≡ map (named content e) every_position
 at_every content e long =
     let g = named content e in
@@ -140,7 +140,7 @@ at_every content e long =
 
 -- ---- no number stands for a data block at or past the size
 
-serves_first : (k : ℕ) → k < 59 → (if nat_lt k 59 then k else 186) ≡ k
+serves_first : (k : ℕ) → k < 59 → (if nat_lt k 59 then k else (if nat_lt k 60 then 186 else 16570)) ≡ k
 serves_first k lt = grind (arith, nat_tests)
 
 pub none_past : (content : Image) (e : Entry) → UnusedPointersAreZero e → ListsNoneFrom content (named content e indirect_block) (blocks_for_size e.size - 58) → LaterNone content (named content e double_indirect_block) (blocks_for_size e.size) → NamesNonePast content e

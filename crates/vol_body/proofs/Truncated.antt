@@ -15,7 +15,7 @@ use Rattle.vol_inode.specs.declared.version.TheConstants.{LARGEST_SIZE}
 
 -- what is written where a file is made shorter
 pub record IsTruncated (size : ℕ) (content after : Image) (e changed : Entry) : Type 0 where
-  pub pointers : (j : ℕ) → j < 60 → get_or changed.pointers j 0 ≡ (if nat_lt (first_block_of_pointer j) (blocks_for_size size) then get_or e.pointers j 0 else 0)
+  pub pointers : (j : ℕ) → j < 61 → get_or changed.pointers j 0 ≡ (if nat_lt (first_block_of_pointer j) (blocks_for_size size) then get_or e.pointers j 0 else 0)
   pub whole : (p : BlockPosition) → IsPosition p → named content e p ≢ 0 → kept_bytes size p ≡ 512 → after (named content e p) ≡ content (named content e p)
   pub cut : (p : BlockPosition) → IsPosition p → named content e p ≢ 0 → 0 < kept_bytes size p → kept_bytes size p < 512
       → after (named content e p) ≡ zeroed_from (kept_bytes size p) (content (named content e p))
@@ -30,10 +30,10 @@ direct_first : (j : ℕ) → j < 58 → j ≡ first_block_of_pointer j
 direct_first j lt = grind (arith, nat_tests)
 
 module _ (size : ℕ) (content after : Image) (e changed : Entry) (s : IsTruncated size content after e changed) where
-  pointer_kept : (j first : ℕ) → j < 60 → first ≡ first_block_of_pointer j → first < blocks_for_size size → get_or changed.pointers j 0 ≡ get_or e.pointers j 0
+  pointer_kept : (j first : ℕ) → j < 61 → first ≡ first_block_of_pointer j → first < blocks_for_size size → get_or changed.pointers j 0 ≡ get_or e.pointers j 0
   pointer_kept j first lt is kept = s.pointers j lt ∙ take_first (first_block_of_pointer j) (blocks_for_size size) _ _ (omega (arith, is, kept))
 
-  pointer_lost : (j first : ℕ) → j < 60 → first ≡ first_block_of_pointer j → blocks_for_size size ≤ first → get_or changed.pointers j 0 ≡ 0
+  pointer_lost : (j first : ℕ) → j < 61 → first ≡ first_block_of_pointer j → blocks_for_size size ≤ first → get_or changed.pointers j 0 ≡ 0
   pointer_lost j first lt is past = s.pointers j lt ∙ take_second (first_block_of_pointer j) (blocks_for_size size) _ _ (omega (arith, is, past))
 
   -- the numbers that a list keeps, and those that it loses

@@ -20,12 +20,12 @@ use vol_log::Log;
 use vol_sector::{Device, DeviceFault};
 
 /// The pointers of a file that keeps this many data blocks.
-fn kept_pointers(pointers: &[u32; 60], count: u32) -> [u32; 60]
-    ensures { (j : ℕ) → j < 60 → slice_index result j
+fn kept_pointers(pointers: &[u32; 61], count: u32) -> [u32; 61]
+    ensures { (j : ℕ) → j < 61 → slice_index result j
         ≡ (if nat_lt (first_block_of_pointer j) count then slice_index pointers.now j else 0) }
 {
-    let mut kept = [0; 60];
-    for j in 0..60 {
+    let mut kept = [0; 61];
+    for j in 0..61 {
         if first_block_of_pointer(j) < count {
             kept[j] = pointers[j];
         }

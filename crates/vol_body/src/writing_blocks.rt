@@ -26,7 +26,7 @@ pub fn add_pointer<D: Device>(
     slot: u32,
     image: &[u8; 512],
 ) -> u32
-    requires pointer { slot < 60 }
+    requires pointer { slot < 61 }
     requires can { CanStage log.old sectors.old }
     requires room { 0 < room_of log.old }
     ensures added { (p : BlockPosition) → PointedAt slot p → IsBlank p image.now

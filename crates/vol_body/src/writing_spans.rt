@@ -259,7 +259,7 @@ fn open_pointer<D: Device>(
     slot: u32,
     above: &mut PointerSector,
 )
-    requires pointer { slot < 60 }
+    requires pointer { slot < 61 }
     requires can { CanStage log.old sectors.old }
     requires room { 0 < room_of log.old }
     requires known { IsKnown sectors.old above.old.number }

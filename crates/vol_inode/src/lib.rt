@@ -4,6 +4,7 @@
 mod codec;
 mod entry;
 mod image;
+pub mod laws;
 mod names;
 mod pointers;
 mod rules;
@@ -15,7 +16,7 @@ pub use codec::{read_entry, write_entry};
 pub use entry::{Entry, Kind};
 pub use image::{put_bytes, put_number};
 pub use names::is_name;
-pub use pointers::{DIRECT, DOUBLE_INDIRECT, INDIRECT, LISTED, MOST_BLOCKS, NUMBERS};
+pub use pointers::{DIRECT, DOUBLE_INDIRECT, INDIRECT, LISTED, MOST_BLOCKS, NUMBERS, TRIPLE_INDIRECT};
 pub use rules::first_block_of_pointer;
 pub use serial::Serial;
 pub use space::need;

@@ -4,7 +4,7 @@ ghost use Rattle.std.specs.Prelude.{◌≡◌, ◌<◌, ◌↔◌, All, IsTrue};
 ghost use Rattle.vol_inode.specs.Entry.{HasName, HasSize, UnusedPointersAreZero, KeepsRules, first_block_of_pointer};
 
 use crate::names::is_name;
-use crate::pointers::{DOUBLE_INDIRECT, LISTED};
+use crate::pointers::{DOUBLE_INDIRECT, LISTED, MOST_BLOCKS, TRIPLE_INDIRECT};
 use crate::{Entry, Kind, Version};
 use vol_sector::Rule;
 
@@ -18,7 +18,8 @@ pub fn keeps_rules(version: Version, entry: &Entry) -> bool
         && unused_pointers_are_zero(entry)
 }
 
-/// The first rule that an entry breaks; where it keeps those of its fields, a byte between them isn't zero.
+/// The first rule that an entry breaks; where it keeps those of its fields, a byte between them isn't zero. The last
+/// pointer counts as such bytes, since no file is long enough for it.
 pub fn broken_by(version: Version, entry: &Entry) -> Rule {
     if !has_name(entry) && entry.parent == 0 {
         return Rule::Root;
@@ -29,7 +30,9 @@ pub fn broken_by(version: Version, entry: &Entry) -> Rule {
     if !has_size(version, entry) {
         return Rule::Size;
     }
-    if !unused_pointers_are_zero(entry) {
+    let mut without_last = *entry;
+    without_last.pointers[TRIPLE_INDIRECT as usize] = 0;
+    if !unused_pointers_are_zero(&without_last) {
         return Rule::PointerPastSize;
     }
     Rule::Zeros
@@ -78,12 +81,14 @@ fn unused_pointers_are_zero(entry: &Entry) -> bool
 
 /// The first data block of a file that the pointer serves.
 pub fn first_block_of_pointer(k: usize) -> u32
-    requires { k < 60 }
+    requires { k < 61 }
     ensures { result ≡ first_block_of_pointer k }
 {
     if k < DOUBLE_INDIRECT as usize {
         k as u32
-    } else {
+    } else if k < TRIPLE_INDIRECT as usize {
         LISTED
+    } else {
+        MOST_BLOCKS
     }
 }

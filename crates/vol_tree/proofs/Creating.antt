@@ -52,9 +52,9 @@ pub name_kept : (e : Entry) (n : List ℕ) → e.name_length ≡ length n → e.
 name_kept e n long is = (λ i. take (long i) (is i)) ∙ take_at n (replicate (255 - length n) 0) (length n) refl
 
 pub new_is_entry : (version : Version) (e : Entry) (n : List ℕ) → 1 ≤ e.parent → e.parent < 2 ^ 32 → e.size ≡ 0 → e.name_length ≡ length n → e.name ≡ n ++ replicate (255 - length n) 0 → IsName n
-    → e.pointers ≡ replicate 60 0 → IsEntry version e
+    → e.pointers ≡ replicate 61 0 → IsEntry version e
 new_is_entry version e n some small empty long is name pointers =
-    let each : (k : ℕ) → get_or e.pointers k 0 ≡ 0 = λ k. ap (λ (l : List ℕ). get_or l k 0) pointers ∙ zero_at 60 k in
+    let each : (k : ℕ) → get_or e.pointers k 0 ≡ 0 = λ k. ap (λ (l : List ℕ). get_or l k 0) pointers ∙ zero_at 61 k in
     record {
       widths = record {
         parent = small;
@@ -108,7 +108,7 @@ pub record Created (a b : Image) (v : Superblock) (sectors : Alloc) (parent : �
 
 pub creates : (a b : Image) (v : Superblock) (sectors : Alloc) (parent : ℕ) (name : Name) (kind : Kind) (serial : ℕ) (e : Entry) → FIRST_AFTER_LOG + v.slots < v.sectors → IsContent a v → 1 ≤ serial → serial ≤ v.slots
     → lookup (tree_in a v) parent name ≡ None → least_from 1 is_unused (tree_in a v) ≡ Some serial → IsName name → IsDirectory (tree_in a v) parent
-    → IsEntry v.version e → e.parent ≡ parent → name_of e ≡ name → e.kind ≡ kind → e.size ≡ 0 → e.pointers ≡ replicate 60 0
+    → IsEntry v.version e → e.parent ≡ parent → name_of e ≡ name → e.kind ≡ kind → e.size ≡ 0 → e.pointers ≡ replicate 61 0
     → b ≡ put (slot_sector serial) (spelling e) a → AreTaken a v (slots_in a v.slots) sectors → Created a b v sectors parent name kind serial
 creates a b v sectors parent name kind zero e ranges is first last missing least is_name inside right p n k empty pointers is_put taken = absurd (omega arith)
 creates a b v sectors parent name kind (suc s) e ranges is first last missing least is_name inside right p n k empty pointers is_put taken =
@@ -119,7 +119,7 @@ creates a b v sectors parent name kind (suc s) e ranges is first last missing le
     let fresh = created_least T U parent (suc s) name (node_by kind []) made in
     let grown : IsTree U = created_grows T U parent (suc s) name (node_by kind []) is.volume.tree is_name inside made in
     let lt : s < v.slots = omega arith in
-    let each : (i : ℕ) → get_or e.pointers i 0 ≡ 0 = λ i. ap (λ (l : List ℕ). get_or l i 0) pointers ∙ zero_at 60 i in
+    let each : (i : ℕ) → get_or e.pointers i 0 ≡ 0 = λ i. ap (λ (l : List ℕ). get_or l i 0) pointers ∙ zero_at 61 i in
     let here : slot_sector (suc s) ≡ slot_sector (s + 1) = omega arith in
     let put_is : b ≡ put (slot_sector (s + 1)) (spelling e) a = is_put ∙ ap (λ (x : ℕ). put x (spelling e) a) here in
     let added : entry_of b e ≡ new = added_is a b v is s lt fresh.unused e right each empty put_is ranges parent name p n ∙ ap (λ (x : Kind). (let r : tree.Entry = record { parent = parent; name = name; node = node_by x [] } in r)) k in

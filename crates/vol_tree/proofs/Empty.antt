@@ -64,13 +64,13 @@ root_is_entry version = record {
     size = omega arith;
     name = refl;
     pointers = refl;
-    each = λ k. let z : get_or (replicate 60 0) k 0 ≡ 0 = zero_at 60 k in omega arith;
+    each = λ k. let z : get_or (replicate 61 0) k 0 ≡ 0 = zero_at 61 k in omega arith;
   };
   rules = record {
     name = record { root_kind = λ none. refl; root_name = λ none. refl; name = λ some. absurd (some refl) };
     padded = all_zeros 255;
     size = record { directory = λ is. refl; small = limit version };
-    pointers = λ k lt le. zero_at 60 k;
+    pointers = λ k lt le. zero_at 61 k;
   };
 }
 
@@ -80,7 +80,7 @@ pick false true x none = refl
 pick false false x none = refl
 
 pub names_none : (content : Image) (p : BlockPosition) → named content root_entry p ≡ 0
-names_none content (data_block j) = pick (nat_lt j 58) (nat_lt j 186) (get_or (replicate 60 0) j 0) (zero_at 60 j)
+names_none content (data_block j) = pick (nat_lt j 58) (nat_lt j 186) (get_or (replicate 61 0) j 0) (zero_at 61 j)
 names_none content indirect_block = refl
 names_none content double_indirect_block = refl
 names_none content (inner_block i) = refl

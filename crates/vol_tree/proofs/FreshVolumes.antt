@@ -66,7 +66,7 @@ root_is content version e right at =
     let padded : All (λ (b : ℕ). b ≡ 0) e.name = subst (λ (n : ℕ). All (λ (b : ℕ). b ≡ 0) (drop n e.name)) short right.rules.padded in
     let name : e.name ≡ replicate 255 0 = zeros_are 255 e.name right.widths.name (λ k lt. padded k 0 (omega (arith, right.widths.name))) in
     let none : blocks_for_size e.size ≡ 0 = ap blocks_for_size size in
-    let pointers : e.pointers ≡ replicate 60 0 = zeros_are 60 e.pointers right.widths.pointers (λ k lt. right.rules.pointers k lt (omega (arith, none))) in
+    let pointers : e.pointers ≡ replicate 61 0 = zeros_are 61 e.pointers right.widths.pointers (λ k lt. right.rules.pointers k lt (omega (arith, none))) in
     λ i. record { kind = kind i; name_length = short i; parent = parent i; size = size i; name = name i; pointers = pointers i }
 
 module _ (content : Image) (v : Superblock) (is : IsContent content v) (empty : tree_in content v ≡ empty_tree v.slots) where

@@ -28,7 +28,7 @@ entry_in bytes = record {
   parent = little_number 4 (drop 4 bytes);
   size = little_number 4 (drop 8 bytes);
   name = take 255 (drop 12 bytes);
-  pointers = map (λ k. little_number 4 (drop (268 + 4 * k) bytes)) (range_with_len 0 60);
+  pointers = map (λ k. little_number 4 (drop (268 + 4 * k) bytes)) (range_with_len 0 61);
 }
 
 abbrev pub slot_in : List ℕ → Option Entry

@@ -193,6 +193,6 @@ pub(crate) fn root() -> Entry
         parent: 0,
         size: 0,
         name: [0; 255],
-        pointers: [0; 60],
+        pointers: [0; 61],
     }
 }

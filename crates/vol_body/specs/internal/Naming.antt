@@ -25,7 +25,7 @@ pub record NamesOneMore (content after : Image) (e changed : Entry) (p : BlockPo
 -- one pointer of the entry is set
 pub record SetsPointer (e changed : Entry) (s n : ℕ) : Type 0 where
   pub one : slice_index changed.pointers s ≡ n
-  pub rest : (k : ℕ) → k < 60 → k ≢ s → slice_index changed.pointers k ≡ slice_index e.pointers k
+  pub rest : (k : ℕ) → k < 61 → k ≢ s → slice_index changed.pointers k ≡ slice_index e.pointers k
   pub size : changed.size ≡ e.size
 
 -- The i-th number of the pointer sector m becomes n. Other sectors stay but for the sector n.

@@ -1,7 +1,7 @@
 -- Steps of a write: what changes of a file, and how its pointer sectors stand in memory. A write first reads all that
 -- it needs, its pointer sectors by `MirrorsAll`; then it stages data blocks and pointer sectors, each step by a
 -- `ChangesPositions`, and the entry last.
-use Rattle.std.specs.Prelude.{◌≡◌, ◌≢◌, ◌≤◌, ◌<◌, ◌+◌, ◌-◌, ◌*◌, ◌/◌, ◌==◌, ◌++◌, ℕ, zero, suc, true, false, List, length, take, drop, replicate, nat_lt, min, max, if◌then◌else◌}
+use Rattle.std.specs.Prelude.{◌≡◌, ◌≢◌, ◌≤◌, ◌<◌, ◌+◌, ◌-◌, ◌*◌, ◌/◌, ◌==◌, ◌++◌, ℕ, zero, suc, true, false, List, length, take, drop, replicate, slice_index, nat_lt, min, max, if◌then◌else◌}
 use Rattle.vol_sector.specs.Disk.{Image}
 use Rattle.vol_sector.specs.declared.device.Device.{Ghosts}
 use Rattle.vol_log.specs.Log.{device_of, log_sectors, has_failed, is_staged}
@@ -15,7 +15,7 @@ use Rattle.vol_body.specs.Body.{BlockPosition, data_block, indirect_block, doubl
 use Rattle.vol_body.specs.Bytes.{written_bytes}
 use Rattle.vol_body.specs.Change.{used_of, OthersStay, TakesAndGives}
 use Rattle.vol_body.specs.internal.Naming.{IsNaming}
-use Rattle.vol_inode.specs.declared.pointers.TheConstants.{DIRECT, INDIRECT, DOUBLE_INDIRECT, LISTED, MOST_BLOCKS, NUMBERS}
+use Rattle.vol_inode.specs.declared.pointers.TheConstants.{DIRECT, INDIRECT, DOUBLE_INDIRECT, LISTED, MOST_BLOCKS, NUMBERS, TRIPLE_INDIRECT}
 use Rattle.vol_log.specs.declared.layout.TheConstants.{FIRST_AFTER_LOG}
 use Rattle.vol_inode.specs.declared.version.TheConstants.{LARGEST_SIZE}
 
@@ -69,6 +69,7 @@ pub record ChangesPositions (a b : Alloc) (content after : Image) (e changed : E
   pub takes : TakesAndGives (taken_of a) (taken_of b) content after e changed
   pub stays : (p : BlockPosition) → IsPosition p → (Touched p → ⊥) → SamePlace content after e changed p
   pub size : changed.size ≡ e.size
+  pub last : slice_index changed.pointers TRIPLE_INDIRECT ≡ slice_index e.pointers TRIPLE_INDIRECT
   pub count : free_of a + used_of content e ≤ free_of b + used_of after changed
 
 -- The file names no sector at this position, and has the space for one.
@@ -168,4 +169,5 @@ pub record WriteLeaves (inode_sector : ℕ) (a b : Alloc) (content after : Image
   pub rules : IsBody after changed
   pub others : OthersStay inode_sector (first_of a) (end_of a) (taken_of a) content after e
   pub taken : TakesAndGives (taken_of a) (taken_of b) content after e changed
+  pub last : slice_index changed.pointers TRIPLE_INDIRECT ≡ slice_index e.pointers TRIPLE_INDIRECT
   pub count : free_of a + used_of content e ≤ free_of b + used_of after changed

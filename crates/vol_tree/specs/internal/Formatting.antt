@@ -11,7 +11,7 @@ use Rattle.vol_dirs.specs.Slots.{slot_sector}
 
 -- the root, as a volume keeps it
 abbrev pub root_entry : Entry
-root_entry = record { kind = Directory; name_length = 0; parent = 0; size = 0; name = replicate 255 0; pointers = replicate 60 0 }
+root_entry = record { kind = Directory; name_length = 0; parent = 0; size = 0; name = replicate 255 0; pointers = replicate 61 0 }
 
 -- the slot of a new volume, that of serial s + 1: the root in the first one
 abbrev pub fresh_slot : ℕ → List ℕ

@@ -5,10 +5,10 @@ use Rattle.vol_body.proofs.shrinking.kept_pointers.Goals as goal
 
 pub loop-j-init : goal.loop-j-init
 loop-j-init c = record {
-  long = length-replicate {A = ℕ} 60 0;
-  beyond = λ k le. elim (cases_lt k 60) [
-    | inl lt ↦ get_or-replicate 60 k 0 0 lt
-    | inr past ↦ get_or_past (replicate 60 0) k 0 (omega (arith, length-replicate {A = ℕ} 60 0))
+  long = length-replicate {A = ℕ} 61 0;
+  beyond = λ k le. elim (cases_lt k 61) [
+    | inl lt ↦ get_or-replicate 61 k 0 0 lt
+    | inr past ↦ get_or_past (replicate 61 0) k 0 (omega (arith, length-replicate {A = ℕ} 61 0))
   ];
   kept = λ k lt. absurd (omega (arith, lt));
 }

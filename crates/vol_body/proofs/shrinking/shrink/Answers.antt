@@ -14,7 +14,7 @@ use Rattle.vol_inode.specs.Entry.{first_block_of_pointer}
 use Rattle.vol_log.specs.Reading.{OnlyReads}
 use Rattle.vol_log.proofs.Readings.{reads_same, reads_then}
 use Rattle.vol_body.proofs.Loads.{held_in}
-use Rattle.vol_body.proofs.Rights.{right_file}
+use Rattle.vol_body.proofs.Rights.{right_file, zero_or_kept}
 use Rattle.vol_body.proofs.Stagings.{stages_then, stages_none, stages_idle, room_read}
 use Rattle.vol_body.proofs.Steps.{room_left, on_err}
 use Rattle.vol_body.proofs.CutSectors.{put_there, in_range}
@@ -246,7 +246,8 @@ returns-clause-file g c h names body =
       rules = rules;
       others = subst (λ (m : Image). OthersStay place first end taken content m e) (sym is) (shrunk_others size place first end content e changed truncation taken still shrinks spelled);
       taken = subst (λ (m : Image). TakesAndGives taken still content m e changed) (sym is) (shrunk_taken size place first end content e changed truncation taken still shrinks spelled);
-      right = λ version right none small. right_file version after e changed size right none small (λ i. changed) (search rules) rules;
+      right = λ version right none small. right_file version after e changed size right none small (λ i. changed) (search rules) rules
+          (λ zero. shrinks.pointers 60 (omega arith) ∙ zero_or_kept (nat_lt (first_block_of_pointer 60) (blocks_for_size size)) (get_or e.pointers 60 0) zero);
     }
 
 pub returns-clause-none_lost : goal.returns-clause-none_lost

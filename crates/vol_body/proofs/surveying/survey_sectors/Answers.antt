@@ -18,7 +18,7 @@ returns-in_err-push_all g c =
     let front = take 58 e.pointers in
     let next = with_listed content (named content e indirect_block) in
     let last = named content e double_indirect_block ∷ all_listed content (listed content (named content e double_indirect_block)) in
-    let long : length e.pointers ≡ 60 = omega arith in
+    let long : length e.pointers ≡ 61 = omega arith in
     surveys_handed c.args.first c.args.end c.args.log.now c.args.log.now a _ _ _ c.from_residual.result x c.from_residual.ensures.1
     (λ h is past. subst (Overflows c.args.first c.args.end a) (at_every content e long)
     (overflows_before c.args.first c.args.end a (front ++ next) last (overflows_before c.args.first c.args.end a front next (c.in_err-push_all.ensures.damaged is))))
@@ -34,7 +34,7 @@ returns-in_err-survey_indirect_block g c =
     let front = take 58 e.pointers in
     let next = with_listed content (named content e indirect_block) in
     let last = named content e double_indirect_block ∷ all_listed content (listed content (named content e double_indirect_block)) in
-    let long : length e.pointers ≡ 60 = omega arith in
+    let long : length e.pointers ≡ 61 = omega arith in
     let from : c.saturating_sub-from.result ≡ blocks_for_size e.size - 58 = omega (arith, c.saturating_sub-from.ensures, c.div_ceil-count.ensures) in
     surveys_handed c.args.first c.args.end c.args.log.now c.survey_indirect_block.new.log a _ _ _ c.from_residual-in_err-survey_indirect_block.result c.in_err-survey_indirect_block.field-0.0 c.from_residual-in_err-survey_indirect_block.ensures.1
     (λ h is past. subst (Overflows c.args.first c.args.end a) (at_every content e long)
@@ -59,7 +59,7 @@ returns g c =
     let count = c.div_ceil-count.result in
     let is_count : count ≡ blocks_for_size e.size = omega (arith, c.div_ceil-count.ensures) in
     let from : c.saturating_sub-from.result ≡ blocks_for_size e.size - 58 = omega (arith, c.saturating_sub-from.ensures, c.div_ceil-count.ensures) in
-    let long : length e.pointers ≡ 60 = omega arith in
+    let long : length e.pointers ≡ 61 = omega arith in
     let step = c.in_ok-survey_indirect_block.ensures in
     subst (λ (ns : List ℕ). Surveys first end c.args.log.now c.survey_double_indirect_block.new.log a z ns (NamesNonePast content e) c.survey_double_indirect_block.result) (at_every content e long)
     (surveys_then first end c.args.log.now c.survey_indirect_block.new.log c.survey_double_indirect_block.new.log a d z (front ++ next) (n ∷ all_listed content (listed content n)) _ _ _ c.survey_double_indirect_block.result

@@ -20,7 +20,7 @@ returns-clause-file g c h names body =
         taken = leaves.taken;
         right = λ version right none small.
             let size_is = ap (λ (x : Entry). x.size) is.entry in
-            right_file version after e changed (max e.size (c.args.offset + length c.args.bytes.now)) right (λ directory. omega (arith, size_is, none directory)) (omega (arith, small, size_is)) is.entry widths leaves.rules;
+            right_file version after e changed (max e.size (c.args.offset + length c.args.bytes.now)) right (λ directory. omega (arith, size_is, none directory)) (omega (arith, small, size_is)) is.entry widths leaves.rules (λ zero. leaves.last ∙ zero);
       },
       leaves.count,
     ))

@@ -51,7 +51,7 @@ returns g c =
             taken = c.take-n.ensures.taken;
             count = c.take-n.ensures.count;
           } in
-          let long : length e.pointers ≡ 60 = search rules in
+          let long : length e.pointers ≡ 61 = search rules in
           let done = adds_pointer a b content (view c.stage.new.self) e changed s n p image takes missing.ready missing.ready.small
           (λ x other. ap (λ (m : Image). m x) is ∙ put_other n x image content other)
           (sets_pointer e s n (omega (arith, long, c.requires.pointer)))
