@@ -121,54 +121,54 @@ module _ {P : Type 0} (asks : Access → P → P → Type 0) (refuses : Access �
       (input : Chain asks (where_named Opens run.stdin) c d) (out : Chain asks (where_named Makes run.stdout) d e) (err : Chain asks (where_named Makes run.stderr) e f)
       (profile : Chain asks (where_named Makes run.profile) f g) (received : Chain asks (where_named Receives run.volume_out) g q) where
     -- those from one on
-    abbrev of_profile : List Access
-    of_profile = where_named Makes run.profile ++ where_named Receives run.volume_out
+    abbrev since_profile : List Access
+    since_profile = where_named Makes run.profile ++ where_named Receives run.volume_out
 
-    abbrev of_err : List Access
-    of_err = where_named Makes run.stderr ++ of_profile
+    abbrev since_err : List Access
+    since_err = where_named Makes run.stderr ++ since_profile
 
-    abbrev of_out : List Access
-    of_out = where_named Makes run.stdout ++ of_err
+    abbrev since_out : List Access
+    since_out = where_named Makes run.stdout ++ since_err
 
-    abbrev of_input : List Access
-    of_input = where_named Opens run.stdin ++ of_out
+    abbrev since_input : List Access
+    since_input = where_named Opens run.stdin ++ since_out
 
-    abbrev of_medium : List Access
-    of_medium = medium_accesses run.volume run.image ++ of_input
+    abbrev since_medium : List Access
+    since_medium = medium_accesses run.volume run.image ++ since_input
 
-    from_profile : Chain asks of_profile f q
+    from_profile : Chain asks since_profile f q
     from_profile = Chain-join asks (where_named Makes run.profile) (where_named Receives run.volume_out) f g q profile received
 
-    from_err : Chain asks of_err e q
-    from_err = Chain-join asks (where_named Makes run.stderr) of_profile e f q err from_profile
+    from_err : Chain asks since_err e q
+    from_err = Chain-join asks (where_named Makes run.stderr) since_profile e f q err from_profile
 
-    from_out : Chain asks of_out d q
-    from_out = Chain-join asks (where_named Makes run.stdout) of_err d e q out from_err
+    from_out : Chain asks since_out d q
+    from_out = Chain-join asks (where_named Makes run.stdout) since_err d e q out from_err
 
-    from_input : Chain asks of_input c q
-    from_input = Chain-join asks (where_named Opens run.stdin) of_out c d q input from_out
+    from_input : Chain asks since_input c q
+    from_input = Chain-join asks (where_named Opens run.stdin) since_out c d q input from_out
 
-    from_medium : Chain asks of_medium b q
-    from_medium = Chain-join asks (medium_accesses run.volume run.image) of_input b c q medium from_input
+    from_medium : Chain asks since_medium b q
+    from_medium = Chain-join asks (medium_accesses run.volume run.image) since_input b c q medium from_input
 
-    from_random : Chain asks (reads_of run.random ++ of_medium) a q
-    from_random = Chain-join asks (reads_of run.random) of_medium a b q random from_medium
+    from_random : Chain asks (reads_of run.random ++ since_medium) a q
+    from_random = Chain-join asks (reads_of run.random) since_medium a b q random from_medium
 
     -- one behind those before it
-    after_random : (kind : ErrorKind) → IsRefusedOfAll asks refuses of_medium kind b q → IsRefusedOfAll asks refuses (run_accesses run) kind p q
-    after_random kind refused = (a, bytes, inr (refused-later (reads_of run.random) of_medium kind a b q random refused))
+    after_random : (kind : ErrorKind) → IsRefusedOfAll asks refuses since_medium kind b q → IsRefusedOfAll asks refuses (run_accesses run) kind p q
+    after_random kind refused = (a, bytes, inr (refused-later (reads_of run.random) since_medium kind a b q random refused))
 
-    after_medium : (kind : ErrorKind) → IsRefusedOfAll asks refuses of_input kind c q → IsRefusedOfAll asks refuses (run_accesses run) kind p q
-    after_medium kind refused = after_random kind (refused-later (medium_accesses run.volume run.image) of_input kind b c q medium refused)
+    after_medium : (kind : ErrorKind) → IsRefusedOfAll asks refuses since_input kind c q → IsRefusedOfAll asks refuses (run_accesses run) kind p q
+    after_medium kind refused = after_random kind (refused-later (medium_accesses run.volume run.image) since_input kind b c q medium refused)
 
-    after_input : (kind : ErrorKind) → IsRefusedOfAll asks refuses of_out kind d q → IsRefusedOfAll asks refuses (run_accesses run) kind p q
-    after_input kind refused = after_medium kind (refused-later (where_named Opens run.stdin) of_out kind c d q input refused)
+    after_input : (kind : ErrorKind) → IsRefusedOfAll asks refuses since_out kind d q → IsRefusedOfAll asks refuses (run_accesses run) kind p q
+    after_input kind refused = after_medium kind (refused-later (where_named Opens run.stdin) since_out kind c d q input refused)
 
-    after_out : (kind : ErrorKind) → IsRefusedOfAll asks refuses of_err kind e q → IsRefusedOfAll asks refuses (run_accesses run) kind p q
-    after_out kind refused = after_input kind (refused-later (where_named Makes run.stdout) of_err kind d e q out refused)
+    after_out : (kind : ErrorKind) → IsRefusedOfAll asks refuses since_err kind e q → IsRefusedOfAll asks refuses (run_accesses run) kind p q
+    after_out kind refused = after_input kind (refused-later (where_named Makes run.stdout) since_err kind d e q out refused)
 
-    after_err : (kind : ErrorKind) → IsRefusedOfAll asks refuses of_profile kind f q → IsRefusedOfAll asks refuses (run_accesses run) kind p q
-    after_err kind refused = after_out kind (refused-later (where_named Makes run.stderr) of_profile kind e f q err refused)
+    after_err : (kind : ErrorKind) → IsRefusedOfAll asks refuses since_profile kind f q → IsRefusedOfAll asks refuses (run_accesses run) kind p q
+    after_err kind refused = after_out kind (refused-later (where_named Makes run.stderr) since_profile kind e f q err refused)
 
     pub all_asked : Chain asks (run_accesses run) p q
     all_asked = (a, bytes, from_random)
@@ -177,19 +177,19 @@ module _ {P : Type 0} (asks : Access → P → P → Type 0) (refuses : Access �
     module_lacks kind refused = (a, bytes, inl (refused, from_random))
 
     pub random_lacks : (kind : ErrorKind) → IsRefusedAmong asks refuses (reads_of run.random) kind a b → IsRefusedOfAll asks refuses (run_accesses run) kind p q
-    random_lacks kind refused = (a, bytes, inr (refused-first (reads_of run.random) of_medium kind a b q (one_refused Reads run.random kind a b refused) from_medium))
+    random_lacks kind refused = (a, bytes, inr (refused-first (reads_of run.random) since_medium kind a b q (one_refused Reads run.random kind a b refused) from_medium))
 
     pub medium_lacks : (kind : ErrorKind) → IsRefusedAmong asks refuses (medium_accesses run.volume run.image) kind b c → IsRefusedOfAll asks refuses (run_accesses run) kind p q
-    medium_lacks kind refused = after_random kind (refused-first (medium_accesses run.volume run.image) of_input kind b c q (medium_refused run.volume run.image kind b c refused) from_input)
+    medium_lacks kind refused = after_random kind (refused-first (medium_accesses run.volume run.image) since_input kind b c q (medium_refused run.volume run.image kind b c refused) from_input)
 
     pub input_lacks : (kind : ErrorKind) → IsRefusedAmong asks refuses (where_named Opens run.stdin) kind c d → IsRefusedOfAll asks refuses (run_accesses run) kind p q
-    input_lacks kind refused = after_medium kind (refused-first (where_named Opens run.stdin) of_out kind c d q (one_refused Opens run.stdin kind c d refused) from_out)
+    input_lacks kind refused = after_medium kind (refused-first (where_named Opens run.stdin) since_out kind c d q (one_refused Opens run.stdin kind c d refused) from_out)
 
     pub out_lacks : (kind : ErrorKind) → IsRefusedAmong asks refuses (where_named Makes run.stdout) kind d e → IsRefusedOfAll asks refuses (run_accesses run) kind p q
-    out_lacks kind refused = after_input kind (refused-first (where_named Makes run.stdout) of_err kind d e q (one_refused Makes run.stdout kind d e refused) from_err)
+    out_lacks kind refused = after_input kind (refused-first (where_named Makes run.stdout) since_err kind d e q (one_refused Makes run.stdout kind d e refused) from_err)
 
     pub err_lacks : (kind : ErrorKind) → IsRefusedAmong asks refuses (where_named Makes run.stderr) kind e f → IsRefusedOfAll asks refuses (run_accesses run) kind p q
-    err_lacks kind refused = after_out kind (refused-first (where_named Makes run.stderr) of_profile kind e f q (one_refused Makes run.stderr kind e f refused) from_profile)
+    err_lacks kind refused = after_out kind (refused-first (where_named Makes run.stderr) since_profile kind e f q (one_refused Makes run.stderr kind e f refused) from_profile)
 
     pub profile_lacks : (kind : ErrorKind) → IsRefusedAmong asks refuses (where_named Makes run.profile) kind f g → IsRefusedOfAll asks refuses (run_accesses run) kind p q
     profile_lacks kind refused = after_err kind (refused-first (where_named Makes run.profile) (where_named Receives run.volume_out) kind f g q (one_refused Makes run.profile kind f g refused) received)

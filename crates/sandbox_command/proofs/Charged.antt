@@ -1,30 +1,44 @@
 -- Where the fuel of a run went: its stacks, and what is told of them.
-use Rattle.std.proofs.Common.{◌≡◌, ℕ, [], ◌∷◌, List, Option, Some, None, length, refl, sym, subst}
-use Rattle.std.specs.Prelude.{IsSome, IfSome}
+use Rattle.std.proofs.Common.{◌≡◌, ℕ, List, Option, Some, None, refl, sym, subst}
+use Rattle.std.specs.Prelude.{IfSome}
 use Rattle.std.specs.Borrow.{Bor}
 use Rattle.run_profile.specs.Stacks.{Stacks}
 use Rattle.wasm_module.specs.declared.module.Module.{Module}
 use Rattle.sandbox_core.specs.Session.{SessionState, History}
+use Rattle.sandbox_core.specs.Devices.{Devices}
+use Rattle.sandbox_core.specs.declared.report.Report.{Report}
+use Rattle.sandbox_core.specs.declared.tally.Tally.{Tally}
+use Rattle.wasm_interp.specs.declared.frames.Frame.{Frame}
+use Rattle.observed_run.specs.Charging.{ChargesRun, ReportsProfiled}
 use Rattle.sandbox_words.specs.Request.{Text}
 use Rattle.sandbox_command.specs.declared.opening.Ledger.{Ledger}
 use Rattle.sandbox_command.specs.declared.profiling.FuelUse.{FuelUse}
 use Rattle.sandbox_command.specs.declared.stopping.Stopped.{Stopped}
 use Rattle.sandbox_command.specs.Alone.{IsLedger, file_of, stacks_of}
 use Rattle.sandbox_command.specs.Places.{IsOfName}
-use Rattle.sandbox_command.specs.Profiling.{AreCharged, IsFuelUse, IsUseOf, TellsUse, no_stacks}
+use Rattle.sandbox_command.specs.Profiling.{AreCharged, ReportsCharged, IsThere, IsFuelUse, IsUseOf, TellsUse, no_stacks}
 
 module _ {D R W1 W2 : Type 0} (every : ℕ) (first : SessionState D R W1 W2) (resumes : History (SessionState D R W1 W2)) (used : ℕ) (m : Module) where
   -- what is told of stacks that have the units of a run
-  pub use_of : (stacks : Option Stacks) (use : Option FuelUse) → IsUseOf stacks m use → AreCharged every first resumes used stacks → IsFuelUse every first resumes used m use
-  use_of None use is charged = subst (λ (u : Option FuelUse). IsFuelUse every first resumes used m u) (sym is) tt
-  use_of (Some stacks) use is charged = subst (λ (u : Option FuelUse). IsFuelUse every first resumes used m u) (sym is) (charged, refl)
+  pub use_of : (stacks : Option Stacks) (usage : Option FuelUse) → IsUseOf stacks m usage → AreCharged every first resumes used stacks → IsFuelUse every first resumes used m usage
+  use_of None usage is charged = subst (λ (u : Option FuelUse). IsFuelUse every first resumes used m u) (sym is) tt
+  use_of (Some stacks) usage is charged = subst (λ (u : Option FuelUse). IsFuelUse every first resumes used m u) (sym is) (charged, refl)
+
+-- of stacks that had none, in slices of so many units
+pub charged_from : {D R W1 W2 : Type 0} (on : Devices D R W1 W2) (session : SessionState D R W1 W2) (fuel slice every : ℕ) (report : Report D R W1 W2) (tally : Tally) (room : List Frame) (depth : ℕ) (old new : Stacks)
+    → old ≡ no_stacks → slice ≡ every → ReportsProfiled on session fuel slice report tally room depth old new → ReportsCharged on session fuel every report tally room depth (Some new)
+charged_from on session fuel slice every report tally room depth old new none is it = record {
+  told = it.told;
+  charged = subst (λ (n : ℕ). AreCharged n session it.told.counted.reports.resumes report.used (Some new)) is
+      (subst (λ (s : Stacks). ChargesRun slice session it.told.counted.reports.resumes report.used s new) none it.profile);
+}
 
 -- and it is told where there are some
-pub told_use : (given : Option Stacks) (stacks : Option Stacks) (m : Module) (use : Option FuelUse) → (IsSome given → IsSome stacks) → IsUseOf stacks m use → IsSome given → IsSome use
-told_use given None m use kept is some = absurd (kept some)
-told_use given (Some stacks) m use kept is some = subst IsSome (sym is) tt
+pub told_use : (given : Option Stacks) (stacks : Option Stacks) (m : Module) (usage : Option FuelUse) → (IsThere given → IsThere stacks) → IsUseOf stacks m usage → IsThere given → IsThere usage
+told_use given None m usage kept is some = absurd (kept some)
+told_use given (Some stacks) m usage kept is some = subst IsThere (sym is) tt
 
-pub tells_use : (given : Option Stacks) (end : Option Stopped) (stopped : Stopped) → end ≡ Some stopped → (IsSome given → IsSome stopped.fuel_use) → TellsUse given end
+pub tells_use : (given : Option Stacks) (end : Option Stopped) (stopped : Stopped) → end ≡ Some stopped → (IsThere given → IsThere stopped.fuel_use) → TellsUse given end
 tells_use None end stopped is tells = tt
 tells_use (Some stacks) end stopped is tells = subst (λ (e : Option Stopped). TellsUse (Some stacks) e) (sym is) (tells tt)
 

@@ -115,10 +115,10 @@ module _ {P I O V : Type 0} (places : Ghosts P I O V) where
   profiled_within written bytes None (Some name) (Some file) before said p q status summary is most = within status before is.1 most
   profiled_within written bytes (Some stopped) (Some name) (Some file) before said p q status summary is most = by stopped.fuel_use is
     where
-      by : (use : Option FuelUse) → PrintsUse places written bytes use name.now file before said p q status summary → status ≤ 124
+      by : (usage : Option FuelUse) → PrintsUse places written bytes usage name.now file before said p q status summary → status ≤ 124
       by None none = absurd none
-      by (Some use) prints = elim prints.why [
-        | inl (text, printed) ↦ within status before printed.3 most
+      by (Some usage) prints = elim prints.why [
+        | inl done ↦ within status before done.4 most
         | inr (kind, refused, fault, same) ↦ omega (arith, fault)
       ]
 

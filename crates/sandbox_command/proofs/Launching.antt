@@ -1,14 +1,13 @@
 -- A run is what is said of it: one that gets no volume, or no session, or whose guest ran.
-use Rattle.std.proofs.Common.{◌≡◌, ◌-◌, ◌^◌, ℕ, true, List, take, Option, Some, Result, inl, inr, refl, sym, ◌∙◌, ap, subst}
+use Rattle.std.proofs.Common.{◌≡◌, ◌-◌, ◌^◌, ℕ, true, List, take, Option, Some, inl, inr, sym, ◌∙◌, ap, subst}
 use Rattle.std.specs.Io.KnownBytes.{Keeps}
 use Rattle.std.proofs.KnownBytes.{Keeps-refl}
-use Rattle.vol_sector.specs.Disk.{Disk, Leaves}
+use Rattle.vol_sector.specs.Disk.{Leaves}
 use Rattle.vol_sector.specs.declared.device.Device.{Ghosts}
 use Rattle.vol_sector.specs.declared.fault.Refused.{Refused}
 use Rattle.vol_tree.specs.Opened.{Opened}
 use Rattle.wasm_module.specs.declared.module.Module.{Module}
 use Rattle.wasm_steps.specs.Configuration.{first_configuration}
-use Rattle.wasi_calls.specs.declared.host.settings.Settings.{Settings}
 use Rattle.wasi_calls.specs.declared.host.wasi_host.HostParts.{HostParts}
 use Rattle.sandbox_core.specs.declared.session.RefusedSession.{RefusedSession}
 use Rattle.sandbox_core.specs.declared.report.Report.{Report}
@@ -33,9 +32,9 @@ use Rattle.sandbox_command.proofs.Frames.{first_frames}
 use Rattle.sandbox_command.proofs.Charged.{use_of}
 use Rattle.sandbox_command.specs.Profiling.{IsUseOf, ReportsCharged, slice_of}
 use Rattle.sandbox_command.specs.internal.Seeds.{with_seed}
-use Rattle.sandbox_command.specs.Execution.{NoVolume, OnVolume, RunsOn}
-use Rattle.sandbox_command.specs.Reporting.{counted_bytes, counting, from_here, kept_where_not_begun, kept_where_refused, not_run, output_of, run_summary, session_reason, volume_of}
-use Rattle.sandbox_command.specs.Running.{Launches, NotOpened, Ran, counted_devices, returned_device}
+use Rattle.sandbox_command.specs.Execution.{RunsOn}
+use Rattle.sandbox_command.specs.Reporting.{counting, from_here, kept_where_not_begun, kept_where_refused, not_run, output_of, run_summary, session_reason, volume_of}
+use Rattle.sandbox_command.specs.Running.{Launches, counted_devices, returned_device}
 use Rattle.sandbox_command.specs.Status.{EndsWith, session_status, volume_status}
 use Rattle.sandbox_command.specs.Streams.{IsSilent}
 use Rattle.sandbox_command.specs.Supplies.{AreSettings}

@@ -126,11 +126,11 @@ module _ {P I O V : Type 0} (places : Ghosts P I O V) (written : Writer O) where
   -- ---- its profile
 
   -- It was printed into its file, which is at its end then; or that was refused, and the status is 124.
-  pub record PrintsProfile (bytes : List ℕ) (use : FuelUse) (name : Text) (file : O) (before : ℕ) (said : Option Summary) (p q : P) (status : ℕ) (summary : Option Summary) : Type 0 where
+  pub record PrintsProfile (bytes : List ℕ) (usage : FuelUse) (name : Text) (file : O) (before : ℕ) (said : Option Summary) (p q : P) (status : ℕ) (summary : Option Summary) : Type 0 where
     pub printed : P
     pub asked_for : places.asked (Prints name) p printed
     pub left : O
-    pub why : ((text : Text) × IsProfileOf bytes use text × places.printed name text p printed × Appends (written.contents file) (written.contents left) text
+    pub why : ((text : Text) × IsProfileOf bytes usage text × places.printed name text p printed × Appends (written.contents file) (written.contents left) text
         × (status ≡ before) × (summary ≡ said))
         ⊎ ((kind : ErrorKind) × places.refused (Prints name) kind p printed × (status ≡ 124) × (summary ≡ option_map unprofiled said))
     pub ended : places.ended left printed q
@@ -138,7 +138,7 @@ module _ {P I O V : Type 0} (places : Ghosts P I O V) (written : Writer O) where
   -- where there is one: a guest that ran tells where its fuel went
   abbrev pub PrintsUse : (bytes : List ℕ) → Option FuelUse → (name : Text) → O → (before : ℕ) → Option Summary → P → P → (status : ℕ) → Option Summary → Type 0
   PrintsUse bytes None name file before said p q status summary = ⊥
-  PrintsUse bytes (Some use) name file before said p q status summary = PrintsProfile bytes use name file before said p q status summary
+  PrintsUse bytes (Some usage) name file before said p q status summary = PrintsProfile bytes usage name file before said p q status summary
 
   -- the same, where one is asked for; the file of a run that didn't begin is given up as it is
   abbrev pub IsProfiled : List ℕ → Option Stopped → Option (Bor Text) → Option O → (before : ℕ) → Option Summary → P → P → (status : ℕ) → Option Summary → Type 0

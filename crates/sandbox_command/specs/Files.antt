@@ -1,7 +1,7 @@
 -- What is done on the files that a command line names (`docs/USING.md`, "Commands"), over any `Places` and, in `IsAnswered`,
 -- over the files of the system. No contract says which bytes a named file has; of a volume's file it is said what a crash
 -- leaves, by the premise `KeepsItsModel`. All that is asked for is said, and that nothing follows on what a command had.
-use Rattle.std.specs.Prelude.{◌≡◌, ◌⊎◌, ◌≤◌, ℕ, List, [], Option, Some, None, IsSome, IsSomeAnd, length, min}
+use Rattle.std.specs.Prelude.{◌≡◌, ◌⊎◌, ◌≤◌, ℕ, List, Option, Some, None, IsSome, IsSomeAnd, length, min}
 use Rattle.std.specs.Borrow.{Bor}
 use Rattle.std.specs.declared.fs.File.{File}
 use Rattle.std.specs.declared.io.ErrorKind.{ErrorKind as InputKind}

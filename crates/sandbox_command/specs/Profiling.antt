@@ -1,8 +1,7 @@
 -- Where the fuel of a run went, and the text of its profile (`docs/USING.md`, "Where the fuel went"). What is charged to which stack
 -- says `ChargesRun` (`crates/observed_run/specs`), what the lines of stacks are `IsFolded` (`crates/run_profile/specs`).
-use Rattle.std.specs.Prelude.{◌≡◌, ◌+◌, ◌-◌, ◌^◌, ◌==◌, ℕ, List, [], ◌∷◌, ◌++◌, Option, Some, None, IsSome, false, codes, decimal, if◌then◌else◌, length, min, take, unwrap_or}
+use Rattle.std.specs.Prelude.{◌≡◌, ◌+◌, ◌-◌, ◌^◌, ◌==◌, ℕ, List, [], ◌∷◌, ◌++◌, Option, Some, None, false, codes, decimal, if◌then◌else◌, length, min, take, unwrap_or}
 use Rattle.std.specs.List.{flat_map}
-use Rattle.std.specs.Option.{option_and_then}
 use Rattle.wasm_module.specs.declared.module.Module.{Module}
 use Rattle.module_survey.specs.Places.{called}
 use Rattle.module_survey.specs.Words.{called_text}
@@ -39,7 +38,7 @@ module _ {D R W1 W2 : Type 0} where
   -- the same of a run of this module, whose imported functions are counted first
   abbrev pub IsFuelUse : (every : ℕ) → SessionState D R W1 W2 → History (SessionState D R W1 W2) → (used : ℕ) → Module → Option FuelUse → Type 0
   IsFuelUse every first resumes used m None = Unit {0}
-  IsFuelUse every first resumes used m (Some use) = ChargesRun every first resumes used no_stacks use.stacks × (use.imported ≡ length m.imports)
+  IsFuelUse every first resumes used m (Some usage) = ChargesRun every first resumes used no_stacks usage.stacks × (usage.imported ≡ length m.imports)
 
   -- what is told of a run, and where the units of its report went
   pub record ReportsCharged (on : Devices D R W1 W2) (session : SessionState D R W1 W2) (fuel every : ℕ) (report : Report D R W1 W2) (tally : Tally)
@@ -49,14 +48,18 @@ module _ {D R W1 W2 : Type 0} where
 
 -- where the fuel of a run of this module went, by its stacks
 abbrev pub IsUseOf : Option Stacks → Module → Option FuelUse → Type 0
-IsUseOf None m use = use ≡ None
-IsUseOf (Some stacks) m use = use ≡ Some (record { stacks = stacks; imported = length m.imports })
+IsUseOf None m usage = usage ≡ None
+IsUseOf (Some stacks) m usage = usage ≡ Some (record { stacks = stacks; imported = length m.imports })
+
+abbrev pub IsThere : {X : Type 0} → Option X → Type 0
+IsThere None = ⊥
+IsThere (Some x) = Unit {0}
 
 -- Where stacks are given, or a file for them, it is told of a run that began where its fuel went.
 abbrev pub TellsUse : {X : Type 0} → Option X → Option Stopped → Type 0
 TellsUse None stopped = Unit {0}
 TellsUse (Some given) None = Unit {0}
-TellsUse (Some given) (Some stopped) = IsSome stopped.fuel_use
+TellsUse (Some given) (Some stopped) = IsThere stopped.fuel_use
 
 -- ---- its text
 
@@ -81,4 +84,4 @@ IsProfile name stacks text = (lines : Text) × IsFolded stacks.calls name 0 stac
 
 -- the text of the profile of a module of these bytes
 abbrev pub IsProfileOf : List ℕ → FuelUse → Text → Type 0
-IsProfileOf bytes use text = IsProfile (stack_name bytes use.imported) use.stacks text
+IsProfileOf bytes usage text = IsProfile (stack_name bytes usage.imported) usage.stacks text

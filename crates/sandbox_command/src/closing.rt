@@ -17,8 +17,8 @@ ghost use Rattle.sandbox_command.specs.Streams.{AppendsSome};
 use crate::explaining::tell_of_kind;
 use crate::output::tell_of_file;
 use crate::places::Places;
-use crate::profiling::{FuelUse, StackNames};
 use crate::possession::is_silent;
+use crate::profiling::{FuelUse, StackNames};
 use crate::program;
 use crate::program::Executed;
 use crate::refusals::{tell_of_outcome, tell_of_refusal};
@@ -255,7 +255,7 @@ pub(crate) fn profiled<P: Places, W: Write>(
 ) -> Ending
     requires file { IsOfName P.is_output run.now.profile file }
     requires told { TellsUse file stopped }
-    ensures profile { IsProfiled P.Places P.Output.Write «module».now stopped.entry run.now.profile file ending.status ending.summary
+    ensures profile { IsProfiled P.Places P.Output.Write «module».now stopped run.now.profile file ending.status ending.summary
         places.old places.new result.status result.summary }
     ensures lines { AppendsSome (W.contents err.old) (W.contents err.new) }
 {

@@ -82,6 +82,7 @@ fn called_or_index(alloc: Global, bytes: &[u8], index: u64) -> io::Result<Vec<u8
 }
 
 /// How the functions of a module of these bytes are called in stacks.
+#[derive(Drop)]
 pub(crate) struct StackNames<'a> {
     pub(crate) alloc: Global,
     pub(crate) bytes: &'a [u8],

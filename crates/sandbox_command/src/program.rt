@@ -1,6 +1,6 @@
 //! What the program does once the command line is read, and with which status it ends.
 
-ghost use Rattle.std.specs.Prelude.{◌≡◌, ◌⊎◌, ◌≤◌, true, Some, None, IfSome, IsSome};
+ghost use Rattle.std.specs.Prelude.{◌≡◌, ◌⊎◌, ◌≤◌, true, Some, None, IfSome};
 ghost use Rattle.std.specs.Io.KnownBytes.{Keeps};
 ghost use Rattle.std.specs.IoError.{error_kind};
 ghost use Rattle.clap.specs.Values.{kind_of};
@@ -9,7 +9,7 @@ ghost use Rattle.sandbox_core.specs.Session.{given, limited_to, used_by};
 ghost use Rattle.run_report.specs.declared.fault.Fault.TheVariants as reason;
 ghost use Rattle.sandbox_command.specs.Status.{status_of, EndsWith, load_status, session_status};
 ghost use Rattle.sandbox_command.specs.Status.{volume_status, words_status, command_line_status};
-ghost use Rattle.sandbox_command.specs.Profiling.{IsUseOf, ReportsCharged, TellsUse, no_stacks, slice_of};
+ghost use Rattle.sandbox_command.specs.Profiling.{IsThere, IsUseOf, ReportsCharged, TellsUse, no_stacks, slice_of};
 ghost use Rattle.sandbox_command.specs.Stopping.{TellsLines};
 ghost use Rattle.sandbox_command.specs.Streams.{AppendsSome};
 ghost use Rattle.sandbox_command.specs.Reporting.{broken_in, kept_where_not_begun, kept_where_refused, not_run, output_of, run_summary, session_reason, volume_of};
@@ -383,6 +383,28 @@ fn seed<D: Device + Drop, R: Read + Drop, W1: Write + Drop, W2: Write + Drop>(
     }
 }
 
+/// Runs a session that has used nothing with the fuel of a run, of which these stacks get each unit.
+// A function of its own, so that what it needs isn't on the stack of a run without a profile.
+#[inline(never)]
+fn run_into_stacks<'a, D: Device + Drop, R: Read + Drop, W1: Write + Drop, W2: Write + Drop>(
+    alloc: Global,
+    run: &Run<'_>,
+    session: Session<'a, '_, '_, D, R, W1, W2>,
+    mut stacks: Profile,
+    room: &mut [Frame],
+) -> (Told<Valid<'a>, D, R, W1, W2>, Profile)
+    requires unused { used_by session ≡ 0 }
+    requires new { stacks ≡ no_stacks }
+    ensures module { result.0.kept ≡ session.entry.machine.valid }
+    ensures told { ReportsCharged (devices D.Device R.Read W1.Write W2.Write)
+        session.entry run.now.limits.fuel (slice_of run.now) result.0.report result.0.tally room.new result.0.depth (Some result.1) }
+{
+    let fuel = run.limits.fuel;
+    let slice = slice_of(run);
+    let told = run_profiled(alloc, session, fuel, slice, &mut stacks, room);
+    (told, stacks)
+}
+
 /// Runs a session that has used nothing with the fuel of a run. Gives its module back, and the innermost functions that were at work
 /// when it stopped into the room. Where there are stacks, they get its units.
 fn run_charged<'a, D: Device + Drop, R: Read + Drop, W1: Write + Drop, W2: Write + Drop>(
@@ -397,13 +419,11 @@ fn run_charged<'a, D: Device + Drop, R: Read + Drop, W1: Write + Drop, W2: Write
     ensures module { result.0.kept ≡ session.entry.machine.valid }
     ensures told { ReportsCharged (devices D.Device R.Read W1.Write W2.Write)
         session.entry run.now.limits.fuel (slice_of run.now) result.0.report result.0.tally room.new result.0.depth result.1 }
-    ensures stacks { IsSome stacks.entry → IsSome result.1 }
+    ensures stacks { IsThere stacks → IsThere result.1 }
 {
     match stacks {
         Some(stacks) => {
-            let mut stacks = stacks;
-            let slice = slice_of(run);
-            let told = run_profiled(alloc, session, run.limits.fuel, slice, &mut stacks, room);
+            let (told, stacks) = run_into_stacks(alloc, run, session, stacks, room);
             (told, Some(stacks))
         }
         None => (run_told(session, run.limits.fuel, room), None),
@@ -425,7 +445,7 @@ fn run_within<'a, D: Device + Drop, R: Read + Drop, W1: Write + Drop, W2: Write 
     ensures told { ReportsCharged (devices D.Device R.Read W1.Write W2.Write)
         (with_seed run.now.seed (limited_to run.now.limits.values session.entry)) run.now.limits.fuel (slice_of run.now)
         result.0.report result.0.tally room.new result.0.depth result.1 }
-    ensures stacks { IsSome stacks.entry → IsSome result.1 }
+    ensures stacks { IsThere stacks → IsThere result.1 }
 {
     session.limit_values(run.limits.values as usize);
     seed(run, &mut session);
@@ -434,7 +454,7 @@ fn run_within<'a, D: Device + Drop, R: Read + Drop, W1: Write + Drop, W2: Write 
 
 /// Where the fuel of a run of this module went.
 fn fuel_use_of(stacks: Option<Profile>, module: &Module<'_>) -> Option<FuelUse>
-    ensures use { IsUseOf stacks «module».now result }
+    ensures { IsUseOf stacks «module».now result }
 {
     match stacks {
         Some(stacks) => Some(FuelUse {
@@ -463,7 +483,7 @@ fn launch<'a, D: Device + Drop, R: Read + Drop, W1: Write + Drop, W2: Write + Dr
 ) -> (Valid<'a>, Executed<D, R, W1, W2>)
     requires { IfSome stacks (λ s. s ≡ no_stacks) }
     ensures module { result.0 ≡ valid.entry }
-    ensures fuel_use { TellsUse stacks.entry result.1.stopped }
+    ensures fuel_use { TellsUse stacks result.1.stopped }
     ensures launches { Launches D.honest D.disk D.size D.failures D.goes_on R.remaining W1.contents W2.contents
         valid.entry run.now parts.entry result.1 }
 {
@@ -561,7 +581,7 @@ pub(crate) fn run_valid<'a, D: Device + Drop, R: Read + Drop, W1: Write + Drop, 
     requires supplied { AreSupplies run.now supplies.now }
     requires new { IfSome stacks (λ s. s ≡ no_stacks) }
     ensures module { result.0 ≡ valid.entry }
-    ensures fuel_use { TellsUse stacks.entry result.1.stopped }
+    ensures fuel_use { TellsUse stacks result.1.stopped }
     ensures runs { RunsOn D.honest D.disk D.size D.failures D.goes_on R.remaining W1.contents W2.contents
         run.now valid.entry random.now device streams.input streams.out streams.err result.1 }
 {
@@ -587,7 +607,7 @@ pub(crate) fn run<D: Device + Drop, R: Read + Drop, W1: Write + Drop, W2: Write 
     stacks: Option<Profile>,
 ) -> (Executed<D, R, W1, W2>, Vec<u8>)
     requires { IfSome stacks (λ s. s ≡ no_stacks) }
-    ensures fuel_use { TellsUse stacks.entry result.0.stopped }
+    ensures fuel_use { TellsUse stacks result.0.stopped }
     ensures runs { Runs D.honest D.disk D.size D.failures D.goes_on R.remaining W1.contents W2.contents
         run.now «module».now random.now device streams.input streams.out streams.err result.0 }
     ensures lines { TellsLines «module».now run.now.frames result.0.stopped result.1.items }

@@ -1,9 +1,8 @@
 use Rattle.std.proofs.Common.{◌∙◌, ℕ, List, Option, take, ap, subst, sym}
 use Rattle.sandbox_command.specs.Reporting.{from_here}
 use Rattle.wasm_interp.specs.declared.frames.Frame.{Frame}
-use Rattle.std.specs.Prelude.{IsSome}
 use Rattle.sandbox_command.specs.declared.profiling.FuelUse.{FuelUse}
-use Rattle.sandbox_command.specs.Profiling.{IsUseOf}
+use Rattle.sandbox_command.specs.Profiling.{IsThere, IsUseOf}
 use Rattle.sandbox_command.proofs.Charged.{none_tells, tells_use, told_use}
 use Rattle.sandbox_command.proofs.Frames.{room_left}
 use Rattle.sandbox_command.proofs.Launching.{no_session, ran}
@@ -41,7 +40,7 @@ returns-in-Err-clause-module g c = c.in-Err.ensures.hands_back.valid
 pub returns-in-Ok-clause-fuel_use : goal.returns-in-Ok-clause-fuel_use
 returns-in-Ok-clause-fuel_use g c =
     tells_use c.args.stacks _ c.stopped_with-stopped.result c.reported.ensures.stopped
-    (λ some. subst IsSome (sym c.stopped_with-stopped.ensures.fuel_use)
+    (λ some. subst IsThere (sym c.stopped_with-stopped.ensures.fuel_use)
     (told_use c.args.stacks c.run_within-told.result.1 _ c.fuel_use_of-fuel_use.result c.run_within-told.ensures.stacks c.fuel_use_of-fuel_use.ensures some))
 
 pub returns-in-Err-clause-fuel_use : goal.returns-in-Err-clause-fuel_use
