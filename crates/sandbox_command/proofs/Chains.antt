@@ -116,24 +116,59 @@ module _ {P : Type 0} (asks : Access → P → P → Type 0) (refuses : Access �
   medium_refused (Some file) image kind p q (inr (m, asked, none)) = absurd none
 
   -- the files of a run alone, one after the other
-  module _ (run : Run) (p a b c d e f q : P)
+  module _ (run : Run) (p a b c d e f g q : P)
       (bytes : asks (Reads run.module.now) p a) (random : Chain asks (reads_of run.random) a b) (medium : Chain asks (medium_accesses run.volume run.image) b c)
       (input : Chain asks (where_named Opens run.stdin) c d) (out : Chain asks (where_named Makes run.stdout) d e) (err : Chain asks (where_named Makes run.stderr) e f)
-      (received : Chain asks (where_named Receives run.volume_out) f q) where
-    from_err : Chain asks (where_named Makes run.stderr ++ where_named Receives run.volume_out) e q
-    from_err = Chain-join asks (where_named Makes run.stderr) (where_named Receives run.volume_out) e f q err received
+      (profile : Chain asks (where_named Makes run.profile) f g) (received : Chain asks (where_named Receives run.volume_out) g q) where
+    -- those from one on
+    abbrev since_profile : List Access
+    since_profile = where_named Makes run.profile ++ where_named Receives run.volume_out
 
-    from_out : Chain asks (where_named Makes run.stdout ++ (where_named Makes run.stderr ++ where_named Receives run.volume_out)) d q
-    from_out = Chain-join asks (where_named Makes run.stdout) _ d e q out from_err
+    abbrev since_err : List Access
+    since_err = where_named Makes run.stderr ++ since_profile
 
-    from_input : Chain asks (where_named Opens run.stdin ++ (where_named Makes run.stdout ++ (where_named Makes run.stderr ++ where_named Receives run.volume_out))) c q
-    from_input = Chain-join asks (where_named Opens run.stdin) _ c d q input from_out
+    abbrev since_out : List Access
+    since_out = where_named Makes run.stdout ++ since_err
 
-    from_medium : Chain asks (medium_accesses run.volume run.image ++ (where_named Opens run.stdin ++ (where_named Makes run.stdout ++ (where_named Makes run.stderr ++ where_named Receives run.volume_out)))) b q
-    from_medium = Chain-join asks (medium_accesses run.volume run.image) _ b c q medium from_input
+    abbrev since_input : List Access
+    since_input = where_named Opens run.stdin ++ since_out
 
-    from_random : Chain asks (reads_of run.random ++ (medium_accesses run.volume run.image ++ (where_named Opens run.stdin ++ (where_named Makes run.stdout ++ (where_named Makes run.stderr ++ where_named Receives run.volume_out))))) a q
-    from_random = Chain-join asks (reads_of run.random) _ a b q random from_medium
+    abbrev since_medium : List Access
+    since_medium = medium_accesses run.volume run.image ++ since_input
+
+    from_profile : Chain asks since_profile f q
+    from_profile = Chain-join asks (where_named Makes run.profile) (where_named Receives run.volume_out) f g q profile received
+
+    from_err : Chain asks since_err e q
+    from_err = Chain-join asks (where_named Makes run.stderr) since_profile e f q err from_profile
+
+    from_out : Chain asks since_out d q
+    from_out = Chain-join asks (where_named Makes run.stdout) since_err d e q out from_err
+
+    from_input : Chain asks since_input c q
+    from_input = Chain-join asks (where_named Opens run.stdin) since_out c d q input from_out
+
+    from_medium : Chain asks since_medium b q
+    from_medium = Chain-join asks (medium_accesses run.volume run.image) since_input b c q medium from_input
+
+    from_random : Chain asks (reads_of run.random ++ since_medium) a q
+    from_random = Chain-join asks (reads_of run.random) since_medium a b q random from_medium
+
+    -- one behind those before it
+    after_random : (kind : ErrorKind) → IsRefusedOfAll asks refuses since_medium kind b q → IsRefusedOfAll asks refuses (run_accesses run) kind p q
+    after_random kind refused = (a, bytes, inr (refused-later (reads_of run.random) since_medium kind a b q random refused))
+
+    after_medium : (kind : ErrorKind) → IsRefusedOfAll asks refuses since_input kind c q → IsRefusedOfAll asks refuses (run_accesses run) kind p q
+    after_medium kind refused = after_random kind (refused-later (medium_accesses run.volume run.image) since_input kind b c q medium refused)
+
+    after_input : (kind : ErrorKind) → IsRefusedOfAll asks refuses since_out kind d q → IsRefusedOfAll asks refuses (run_accesses run) kind p q
+    after_input kind refused = after_medium kind (refused-later (where_named Opens run.stdin) since_out kind c d q input refused)
+
+    after_out : (kind : ErrorKind) → IsRefusedOfAll asks refuses since_err kind e q → IsRefusedOfAll asks refuses (run_accesses run) kind p q
+    after_out kind refused = after_input kind (refused-later (where_named Makes run.stdout) since_err kind d e q out refused)
+
+    after_err : (kind : ErrorKind) → IsRefusedOfAll asks refuses since_profile kind f q → IsRefusedOfAll asks refuses (run_accesses run) kind p q
+    after_err kind refused = after_out kind (refused-later (where_named Makes run.stderr) since_profile kind e f q err refused)
 
     pub all_asked : Chain asks (run_accesses run) p q
     all_asked = (a, bytes, from_random)
@@ -142,46 +177,22 @@ module _ {P : Type 0} (asks : Access → P → P → Type 0) (refuses : Access �
     module_lacks kind refused = (a, bytes, inl (refused, from_random))
 
     pub random_lacks : (kind : ErrorKind) → IsRefusedAmong asks refuses (reads_of run.random) kind a b → IsRefusedOfAll asks refuses (run_accesses run) kind p q
-    random_lacks kind refused = (a, bytes, inr (refused-first (reads_of run.random) _ kind a b q (one_refused Reads run.random kind a b refused) from_medium))
+    random_lacks kind refused = (a, bytes, inr (refused-first (reads_of run.random) since_medium kind a b q (one_refused Reads run.random kind a b refused) from_medium))
 
     pub medium_lacks : (kind : ErrorKind) → IsRefusedAmong asks refuses (medium_accesses run.volume run.image) kind b c → IsRefusedOfAll asks refuses (run_accesses run) kind p q
-    medium_lacks kind refused = (
-      a,
-      bytes,
-      inr (refused-later (reads_of run.random) _ kind a b q random
-          (refused-first (medium_accesses run.volume run.image) _ kind b c q (medium_refused run.volume run.image kind b c refused) from_input)),
-    )
+    medium_lacks kind refused = after_random kind (refused-first (medium_accesses run.volume run.image) since_input kind b c q (medium_refused run.volume run.image kind b c refused) from_input)
 
     pub input_lacks : (kind : ErrorKind) → IsRefusedAmong asks refuses (where_named Opens run.stdin) kind c d → IsRefusedOfAll asks refuses (run_accesses run) kind p q
-    input_lacks kind refused = (
-      a,
-      bytes,
-      inr (refused-later (reads_of run.random) _ kind a b q random (refused-later (medium_accesses run.volume run.image) _ kind b c q medium
-          (refused-first (where_named Opens run.stdin) _ kind c d q (one_refused Opens run.stdin kind c d refused) from_out))),
-    )
+    input_lacks kind refused = after_medium kind (refused-first (where_named Opens run.stdin) since_out kind c d q (one_refused Opens run.stdin kind c d refused) from_out)
 
     pub out_lacks : (kind : ErrorKind) → IsRefusedAmong asks refuses (where_named Makes run.stdout) kind d e → IsRefusedOfAll asks refuses (run_accesses run) kind p q
-    out_lacks kind refused = (
-      a,
-      bytes,
-      inr (refused-later (reads_of run.random) _ kind a b q random (refused-later (medium_accesses run.volume run.image) _ kind b c q medium
-          (refused-later (where_named Opens run.stdin) _ kind c d q input (refused-first (where_named Makes run.stdout) _ kind d e q (one_refused Makes run.stdout kind d e refused) from_err)))),
-    )
+    out_lacks kind refused = after_input kind (refused-first (where_named Makes run.stdout) since_err kind d e q (one_refused Makes run.stdout kind d e refused) from_err)
 
     pub err_lacks : (kind : ErrorKind) → IsRefusedAmong asks refuses (where_named Makes run.stderr) kind e f → IsRefusedOfAll asks refuses (run_accesses run) kind p q
-    err_lacks kind refused = (
-      a,
-      bytes,
-      inr (refused-later (reads_of run.random) _ kind a b q random (refused-later (medium_accesses run.volume run.image) _ kind b c q medium
-          (refused-later (where_named Opens run.stdin) _ kind c d q input (refused-later (where_named Makes run.stdout) _ kind d e q out
-          (refused-first (where_named Makes run.stderr) _ kind e f q (one_refused Makes run.stderr kind e f refused) received))))),
-    )
+    err_lacks kind refused = after_out kind (refused-first (where_named Makes run.stderr) since_profile kind e f q (one_refused Makes run.stderr kind e f refused) from_profile)
 
-    pub receiver_lacks : (kind : ErrorKind) → IsRefusedAmong asks refuses (where_named Receives run.volume_out) kind f q → IsRefusedOfAll asks refuses (run_accesses run) kind p q
-    receiver_lacks kind refused = (
-      a,
-      bytes,
-      inr (refused-later (reads_of run.random) _ kind a b q random (refused-later (medium_accesses run.volume run.image) _ kind b c q medium
-          (refused-later (where_named Opens run.stdin) _ kind c d q input (refused-later (where_named Makes run.stdout) _ kind d e q out
-          (refused-later (where_named Makes run.stderr) _ kind e f q err (one_refused Receives run.volume_out kind f q refused)))))),
-    )
+    pub profile_lacks : (kind : ErrorKind) → IsRefusedAmong asks refuses (where_named Makes run.profile) kind f g → IsRefusedOfAll asks refuses (run_accesses run) kind p q
+    profile_lacks kind refused = after_err kind (refused-first (where_named Makes run.profile) (where_named Receives run.volume_out) kind f g q (one_refused Makes run.profile kind f g refused) received)
+
+    pub receiver_lacks : (kind : ErrorKind) → IsRefusedAmong asks refuses (where_named Receives run.volume_out) kind g q → IsRefusedOfAll asks refuses (run_accesses run) kind p q
+    receiver_lacks kind refused = after_err kind (refused-later (where_named Makes run.profile) (where_named Receives run.volume_out) kind f g q profile (one_refused Receives run.volume_out kind g q refused))

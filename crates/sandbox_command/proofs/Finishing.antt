@@ -22,7 +22,9 @@ use Rattle.sandbox_command.specs.declared.streams.Source.{Source}
 use Rattle.sandbox_command.specs.declared.streams.Sink.{Sink}
 use Rattle.sandbox_command.specs.declared.streams.Spare.{Spare}
 use Rattle.sandbox_command.specs.declared.streams.Streams.{Streams}
-use Rattle.sandbox_command.specs.Alone.{Hands, HandsNothing, IsTold, RunsAlone, RunsOnMedium, RunsWith, left_of}
+use Rattle.sandbox_command.specs.declared.profiling.FuelUse.{FuelUse}
+use Rattle.sandbox_command.specs.declared.stopping.Stopped.{Stopped}
+use Rattle.sandbox_command.specs.Alone.{Hands, HandsNothing, IsProfiled, IsTold, PrintsUse, RunsAlone, RunsOnMedium, RunsWith, left_of}
 use Rattle.sandbox_command.specs.Around.{Around, in_memory}
 use Rattle.sandbox_command.specs.Execution.{Runs}
 use Rattle.sandbox_command.specs.Files.{Clashes, IsPerformed, RunsNamed}
@@ -38,7 +40,7 @@ use Rattle.sandbox_command.proofs.Lines.{lines_then}
 
 module _ {P I O V R W1 W2 : Type 0} (on : Around P I O V R W1 W2) {D : Type 0} (known : Known D)
     (HandsIt : D → (before : ℕ) → Option Summary → P → P → (status : ℕ) → Option Summary → Type 0)
-    (run : Run) (device : D) (streams : Streams (Source I R) (Sink O W1) (Sink O W2)) (spare : Spare R W1 W2) (report : Option O) where
+    (run : Run) (device : D) (streams : Streams (Source I R) (Sink O W1) (Sink O W2)) (spare : Spare R W1 W2) (profile report : Option O) where
   abbrev Ended : (bytes random : List ℕ) → Executed D (Source I R) (Sink O W1) (Sink O W2) → Type 0
   Ended bytes random left = Runs known.honest known.disk known.size known.failures known.goes_on (source_remaining on.read.remaining on.input.remaining)
       (sink_contents on.written.contents on.out.contents) (sink_contents on.written.contents on.err.contents)
@@ -51,16 +53,21 @@ module _ {P I O V R W1 W2 : Type 0} (on : Around P I O V R W1 W2) {D : Type 0} (
       → (own : Sink O W2) → AppendsSome (told_in (own_of left.err spare.err)) (told_in own) → (all : Left D I O R W1 W2) → all ≡ left_of left spare own
       → (last : Sink O W2) → AppendsSome (told_in all.own) (told_in last)
       → (frames : Text) → TellsLines bytes run.frames left.stopped frames
-      → (before : ℕ) (summary : Option Summary) (p handed told q : P) (status : ℕ) → HandsIt left.device left.status left.summary p handed before summary
-      → IsTold on.places on.written run.report report summary frames before handed told status → on.places.ended (record all { own = last }) told q
-      → RunsWith on known HandsIt run items rest device streams spare report p q status
-  runs_with bytes items random rest first second left runs own lines all same last more frames are_lines before summary p handed told q status hands tells ended = record {
+      → (handing : ℕ) (said : Option Summary) (before : ℕ) (summary : Option Summary) (p handed profiled told q : P) (status : ℕ) → HandsIt left.device left.status left.summary p handed handing said
+      → IsProfiled on.places on.written bytes left.stopped run.profile profile handing said handed profiled before summary
+      → IsTold on.places on.written run.report report summary frames before profiled told status → on.places.ended (record all { own = last }) told q
+      → RunsWith on known HandsIt run items rest device streams spare profile report p q status
+  runs_with bytes items random rest first second left runs own lines all same last more frames are_lines handing said before summary p handed profiled told q status hands profiles tells ended = record {
     left = left;
     runs = subst (λ (b : List ℕ). Ended b rest left) first (subst (λ (b : List ℕ). Ended bytes b left) second runs);
-    before = before;
-    summary = summary;
+    handing = handing;
+    said = said;
     handed = handed;
     hands = hands;
+    before = before;
+    summary = summary;
+    profiled = profiled;
+    profiles = subst (λ (b : List ℕ). IsProfiled on.places on.written b left.stopped run.profile profile handing said handed profiled before summary) first profiles;
     lines_of_frames = frames;
     are_lines = subst (λ (b : List ℕ). TellsLines b run.frames left.stopped frames) first are_lines;
     told = told;
@@ -101,6 +108,20 @@ module _ {P I O V : Type 0} (places : Ghosts P I O V) where
     | inr (kind, refused, fault) ↦ omega (arith, fault)
   ]
 
+  profiled_within : (written : Writer O) (bytes : List ℕ) (stopped : Option Stopped) (name : Option (Bor Text)) (file : Option O) (before : ℕ) (said : Option Summary) (p q : P) (status : ℕ) (summary : Option Summary)
+      → IsProfiled places written bytes stopped name file before said p q status summary → before ≤ 124 → status ≤ 124
+  profiled_within written bytes stopped None file before said p q status summary is most = within status before is.1 most
+  profiled_within written bytes stopped (Some name) None before said p q status summary is most = absurd is
+  profiled_within written bytes None (Some name) (Some file) before said p q status summary is most = within status before is.1 most
+  profiled_within written bytes (Some stopped) (Some name) (Some file) before said p q status summary is most = by stopped.fuel_use is
+    where
+      by : (usage : Option FuelUse) → PrintsUse places written bytes usage name.now file before said p q status summary → status ≤ 124
+      by None none = absurd none
+      by (Some usage) prints = elim prints.why [
+        | inl done ↦ within status before done.4 most
+        | inr (kind, refused, fault, same) ↦ omega (arith, fault)
+      ]
+
   hands_within : (name : Option (Bor Text)) (device : RamDevice) (before : ℕ) (said : Option Summary) (p q : P) (status : ℕ) (summary : Option Summary) → Hands places name device before said p q status summary → before ≤ 124 → status ≤ 124
   hands_within None device before said p q status summary is most = within status before is.1 most
   hands_within (Some name) device before said p q status summary (inl (none, is)) most = within status before is.1 most
@@ -110,22 +131,23 @@ module _ {P I O V : Type 0} (places : Ghosts P I O V) where
 module _ {P I O V R W1 W2 : Type 0} (on : Around P I O V R W1 W2) where
   with_within : {D : Type 0} (known : Known D) (HandsIt : D → (before : ℕ) → Option Summary → P → P → (status : ℕ) → Option Summary → Type 0)
       → ((device : D) (before : ℕ) (said : Option Summary) (p q : P) (status : ℕ) (summary : Option Summary) → HandsIt device before said p q status summary → before ≤ 124 → status ≤ 124)
-      → (run : Run) (bytes : List ℕ) (random : Text) (device : D) (streams : Streams (Source I R) (Sink O W1) (Sink O W2)) (spare : Spare R W1 W2) (report : Option O) (p q : P) (status : ℕ)
-      → RunsWith on known HandsIt run bytes random device streams spare report p q status → status ≤ 124
-  with_within known HandsIt keeps run bytes random device streams spare report p q status it =
-      told_within on.places on.written run.report report it.summary it.lines_of_frames it.before it.handed it.told status it.tells
-      (keeps it.left.device it.left.status it.left.summary p it.handed it.before it.summary it.hands
+      → (run : Run) (bytes : List ℕ) (random : Text) (device : D) (streams : Streams (Source I R) (Sink O W1) (Sink O W2)) (spare : Spare R W1 W2) (profile report : Option O) (p q : P) (status : ℕ)
+      → RunsWith on known HandsIt run bytes random device streams spare profile report p q status → status ≤ 124
+  with_within known HandsIt keeps run bytes random device streams spare profile report p q status it =
+      told_within on.places on.written run.report report it.summary it.lines_of_frames it.before it.profiled it.told status it.tells
+      (profiled_within on.places on.written bytes it.left.stopped run.profile profile it.handing it.said it.handed it.profiled it.before it.summary it.profiles
+      (keeps it.left.device it.left.status it.left.summary p it.handed it.handing it.said it.hands
       (runs_within known.honest known.disk known.size known.failures known.goes_on (source_remaining on.read.remaining on.input.remaining)
-      (sink_contents on.written.contents on.out.contents) (sink_contents on.written.contents on.err.contents) run bytes random device streams.input streams.out streams.err it.left it.runs))
+      (sink_contents on.written.contents on.out.contents) (sink_contents on.written.contents on.err.contents) run bytes random device streams.input streams.out streams.err it.left it.runs)))
 
   medium_within : (m : Medium V) (run : Run) (opened : Opened I O V) (given : Streams R W1 W2) (report : Option O) (p q : P) (status : ℕ) → RunsOnMedium on m run opened given report p q status → status ≤ 124
   medium_within (medium.File device) run opened given report p q status it =
       with_within on.volume (λ left before said p q status summary. HandsNothing on.places before said p q status summary) (λ left before said p q status summary is most. within status before is.1 most)
-      run _ _ device _ _ report p q status it
+      run _ _ device _ _ _ report p q status it
   medium_within (medium.Memory device) run opened given report p q status it =
       with_within in_memory (λ left before said p q status summary. Hands on.places run.volume_out left before said p q status summary)
       (λ left before said p q status summary is most. hands_within on.places run.volume_out left before said p q status summary is most)
-      run _ _ device _ _ report p q status it
+      run _ _ device _ _ _ report p q status it
 
   pub alone_within : (run : Run) (given : Streams R W1 W2) (p q : P) (status : ℕ) → RunsAlone on run given p q status → status ≤ 124
   alone_within run given p q status (inl untold) = elim untold.why [

@@ -1,14 +1,13 @@
 -- A run is what is said of it: one that gets no volume, or no session, or whose guest ran.
-use Rattle.std.proofs.Common.{◌≡◌, ◌-◌, ◌^◌, ℕ, true, List, take, Option, Some, Result, inl, inr, refl, sym, ◌∙◌, ap, subst}
+use Rattle.std.proofs.Common.{◌≡◌, ◌-◌, ◌^◌, ℕ, true, List, take, Option, Some, inl, inr, sym, ◌∙◌, ap, subst}
 use Rattle.std.specs.Io.KnownBytes.{Keeps}
 use Rattle.std.proofs.KnownBytes.{Keeps-refl}
-use Rattle.vol_sector.specs.Disk.{Disk, Leaves}
+use Rattle.vol_sector.specs.Disk.{Leaves}
 use Rattle.vol_sector.specs.declared.device.Device.{Ghosts}
 use Rattle.vol_sector.specs.declared.fault.Refused.{Refused}
 use Rattle.vol_tree.specs.Opened.{Opened}
 use Rattle.wasm_module.specs.declared.module.Module.{Module}
 use Rattle.wasm_steps.specs.Configuration.{first_configuration}
-use Rattle.wasi_calls.specs.declared.host.settings.Settings.{Settings}
 use Rattle.wasi_calls.specs.declared.host.wasi_host.HostParts.{HostParts}
 use Rattle.sandbox_core.specs.declared.session.RefusedSession.{RefusedSession}
 use Rattle.sandbox_core.specs.declared.report.Report.{Report}
@@ -17,7 +16,7 @@ use Rattle.sandbox_core.specs.Devices.{Calls, Devices, disk_of, numbers_of, tree
 use Rattle.vol_tree.proofs.GoingOn.{goes_then}
 use Rattle.wasm_interp.specs.declared.frames.Frame.{Frame}
 use Rattle.wasm_interp.specs.Frames.{frames_of}
-use Rattle.observed_run.specs.Telling.{ReportsTold, TellsFrames}
+use Rattle.run_profile.specs.Stacks.{Stacks}
 use Rattle.sandbox_core.specs.Runs.{StandsInRun}
 use Rattle.sandbox_core.specs.Session.{HandsBack, IsRefused, Opens, SessionState, Shares, given, limited_to}
 use Rattle.sandbox_core.proofs.Headline.{reach_moves}
@@ -30,10 +29,12 @@ use Rattle.sandbox_words.specs.Request.{Text}
 use Rattle.sandbox_command.specs.declared.program.Executed.{Executed}
 use Rattle.sandbox_command.specs.declared.stopping.Stopped.{Stopped}
 use Rattle.sandbox_command.proofs.Frames.{first_frames}
+use Rattle.sandbox_command.proofs.Charged.{use_of}
+use Rattle.sandbox_command.specs.Profiling.{IsUseOf, ReportsCharged, slice_of}
 use Rattle.sandbox_command.specs.internal.Seeds.{with_seed}
-use Rattle.sandbox_command.specs.Execution.{NoVolume, OnVolume, RunsOn}
-use Rattle.sandbox_command.specs.Reporting.{counted_bytes, counting, from_here, kept_where_not_begun, kept_where_refused, not_run, output_of, run_summary, session_reason, volume_of}
-use Rattle.sandbox_command.specs.Running.{Launches, NotOpened, Ran, counted_devices, returned_device}
+use Rattle.sandbox_command.specs.Execution.{RunsOn}
+use Rattle.sandbox_command.specs.Reporting.{counting, from_here, kept_where_not_begun, kept_where_refused, not_run, output_of, run_summary, session_reason, volume_of}
+use Rattle.sandbox_command.specs.Running.{Launches, counted_devices, returned_device}
 use Rattle.sandbox_command.specs.Status.{EndsWith, session_status, volume_status}
 use Rattle.sandbox_command.specs.Streams.{IsSilent}
 use Rattle.sandbox_command.specs.Supplies.{AreSettings}
@@ -95,12 +96,13 @@ module _ {D R W1 W2 : Type 0} (device : Ghosts D) (remaining : R → Option (Lis
     handed = given parts.settings parts.volume input out err
 
     pub ran : (begun : SessionState D (Counted R) (Counted W1) (Counted W2)) → Opens m handed begun → Shares device handed begun
-        → (report : Report D (Counted R) (Counted W1) (Counted W2)) (tally : Tally) (room : List Frame) (depth : ℕ) → ReportsTold on (with_seed run.seed (limited_to run.limits.values begun)) run.limits.fuel report tally room depth
-        → (stopped : Stopped) → stopped.depth ≡ depth → stopped.innermost.items ≡ take depth room
+        → (report : Report D (Counted R) (Counted W1) (Counted W2)) (tally : Tally) (room : List Frame) (depth : ℕ) (stacks : Option Stacks) → ReportsCharged on (with_seed run.seed (limited_to run.limits.values begun)) run.limits.fuel (slice_of run) report tally room depth stacks
+        → (stopped : Stopped) → stopped.depth ≡ depth → stopped.innermost.items ≡ take depth room → IsUseOf stacks m stopped.fuel_use
         → (left : Executed D R W1 W2) → left.stopped ≡ Some stopped → EndsWith report.outcome report.volume left.flushed left.status → left.summary ≡ Some (run_summary run report tally left.status left.flushed)
         → left.device ≡ returned_device report.volume → left.input ≡ report.input.stream → Keeps (outs report.out.stream) (outs left.out) → Keeps (errs report.err.stream) (errs left.err)
         → Launches device.honest device.disk device.size device.failures device.goes_on remaining outs errs m run parts left
-    ran begun opening sharing report tally room depth told stopped depth_is taken left stopped_is ends summary is from out_keeps err_keeps =
+    ran begun opening sharing report tally room depth stacks reported stopped depth_is taken used left stopped_is ends summary is from out_keeps err_keeps =
+        let told = reported.told in
         let counted = told.counted in
         let same = counting_from run parts input out err in_is out_is err_is in
         let limited = limited_to run.limits.values begun in
@@ -110,6 +112,7 @@ module _ {D R W1 W2 : Type 0} (device : Ghosts D) (remaining : R → Option (Lis
         let shares = shares_seeded device (counting run parts) limited run.seed
         (shares_limited device (counting run parts) begun run.limits.values (subst (λ (p : HostParts D (Counted R) (Counted W1) (Counted W2)). Shares device p begun) same sharing)) in
         let i = opens.starts.instance in
+        let slice = slice_of run in
         let first = first_configuration opens.starts.entered opens.starts.store in
         let reports = counted.reports in
         let last = reports.last.host in
@@ -125,6 +128,7 @@ module _ {D R W1 W2 : Type 0} (device : Ghosts D) (remaining : R → Option (Lis
           stopped = stopped;
           is_stopped = stopped_is;
           frames = first_frames (frames_of reports.last.machine) room depth stopped told.frames depth_is taken;
+          fuel_use = use_of slice s reports.resumes report.used m stacks stopped.fuel_use used reported.charged;
           goes = λ end le earlier before. subst (λ (d : D). device.goes_on end earlier d) (sym back)
               (goes_then device.goes_on parts.volume s.host.volume reports.volume.new shares.reads.kept.numbers shares.reads.goes reports.goes end le earlier before);
           ends = ends;

@@ -10,5 +10,6 @@ mod Finishing
 mod Frames
 mod AfterFlush
 mod Seeding
+mod Charged
 mod Launching
 mod Upheld

@@ -1,15 +1,12 @@
 -- A run of the program is a list of resumes of a session that begins, with a seed or without.
-use Rattle.std.proofs.Common.{◌≡◌, ℕ, List, [], ◌∷◌, Option, Some, None, refl, sym, subst, ap}
-use Rattle.vol_sector.specs.Disk.{Image, Disk}
+use Rattle.std.proofs.Common.{◌≡◌, ℕ, [], ◌∷◌, Option, Some, None, refl, sym, subst, ap}
+use Rattle.vol_sector.specs.Disk.{Image}
 use Rattle.vol_tree.specs.Stands.{StandsAs}
 use Rattle.wasm_module.specs.declared.module.Module.{Module}
 use Rattle.wasi_calls.specs.declared.host.wasi_host.HostParts.{HostParts}
-use Rattle.wasi_calls.specs.supplies.Random.{seeded}
-use Rattle.std.specs.Option.{option_map}
-use Rattle.sandbox_core.specs.Devices.{Devices, IsHonest}
+use Rattle.sandbox_core.specs.Devices.{Devices}
 use Rattle.sandbox_core.specs.Session.{SessionState, OpensWith, Shares, History, Follow, seeded_by}
-use Rattle.sandbox_core.specs.Safety.{TurnsAreSafe, IsSafeVolume}
-use Rattle.vol_tree.specs.Tree.{Tree}
+use Rattle.sandbox_core.specs.Safety.{TurnsAreSafe}
 use Rattle.sandbox_core.specs.Headline.{Headline, SeededHeadline, Upholds}
 
 module _ {D R W1 W2 : Type 0} (on : Devices D R W1 W2) where

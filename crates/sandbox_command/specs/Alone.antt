@@ -1,6 +1,6 @@
 -- A run alone, on the files that its words name (`docs/USING.md`, "The command `run`"), over any `Places`: what is asked for in
 -- turn, what the run begins with, how it ends, and that nothing follows on what it had.
-use Rattle.std.specs.Prelude.{◌≡◌, ◌⊎◌, ◌++◌, ℕ, List, Option, Some, None, option_map}
+use Rattle.std.specs.Prelude.{◌≡◌, ◌⊎◌, ◌++◌, ℕ, List, Option, Some, None, IsSome, false, option_map}
 use Rattle.std.specs.Borrow.{Bor}
 use Rattle.std.specs.Io.KnownBytes.{Appends}
 use Rattle.std.specs.declared.io.ErrorKind.{ErrorKind}
@@ -21,6 +21,7 @@ use Rattle.sandbox_command.specs.declared.streams.Sink.{Sink}
 use Rattle.sandbox_command.specs.declared.streams.Spare.{Spare}
 use Rattle.sandbox_command.specs.declared.streams.Streams.{Streams}
 use Rattle.sandbox_command.specs.declared.places.Places.{Ghosts}
+use Rattle.sandbox_command.specs.declared.opening.Ledger.{Ledger}
 use Rattle.sandbox_command.specs.declared.opening.Opened.{Opened}
 use Rattle.sandbox_command.specs.declared.opening.Medium.{Medium}
 use Rattle.sandbox_command.specs.declared.opening.Medium.TheVariants as medium
@@ -29,6 +30,10 @@ use Rattle.sandbox_command.specs.Around.{Around, EndsGiven, in_memory}
 use Rattle.sandbox_command.specs.Beginning.{IsImage, unread}
 use Rattle.sandbox_command.specs.Execution.{Runs}
 use Rattle.sandbox_command.specs.Places.{Chain, HandsOut, IsOfImage, IsOfName, IsOfRandom, IsRefusedAmong, IsRefusedOfAll, Prints, report_accesses, run_accesses}
+use Rattle.run_profile.specs.Stacks.{Stacks}
+use Rattle.sandbox_command.specs.declared.profiling.FuelUse.{FuelUse}
+use Rattle.sandbox_command.specs.declared.stopping.Stopped.{Stopped}
+use Rattle.sandbox_command.specs.Profiling.{IsProfileOf, no_stacks}
 use Rattle.sandbox_command.specs.Sources.{guest_of, own_of, sink_contents, sink_of, source_of, source_remaining, spare_of}
 use Rattle.sandbox_command.specs.Status.{file_status}
 use Rattle.sandbox_command.specs.Stopping.{AreLinesOfNone, TellsLines}
@@ -37,6 +42,23 @@ use Rattle.sandbox_command.specs.Streams.{AppendsSome}
 -- the report of a run whose volume couldn't be handed out
 abbrev pub lost : Summary → Summary
 lost summary = record summary { status = 124; volume = became.Failed }
+
+-- the report of a run whose profile couldn't be printed
+abbrev pub unprofiled : Summary → Summary
+unprofiled summary = record summary { status = 124; flushed = false }
+
+-- the file of a profile, where one is named, and its stacks, which are none yet
+abbrev pub IsLedger : {O : Type 0} → (Text → O → Type 0) → Option (Bor Text) → Option (Ledger O) → Type 0
+IsLedger is_output None None = Unit {0}
+IsLedger is_output None (Some ledger) = ⊥
+IsLedger is_output (Some file) None = ⊥
+IsLedger is_output (Some file) (Some ledger) = is_output file.now ledger.file × (ledger.stacks ≡ no_stacks)
+
+abbrev pub stacks_of : {O : Type 0} → Option (Ledger O) → Option Stacks
+stacks_of ledger = option_map (λ l. l.stacks) ledger
+
+abbrev pub file_of : {O : Type 0} → Option (Ledger O) → Option O
+file_of ledger = option_map (λ l. l.file) ledger
 
 module _ {P I O V : Type 0} (places : Ghosts P I O V) where
   -- ---- the files of a run
@@ -56,11 +78,12 @@ module _ {P I O V : Type 0} (places : Ghosts P I O V) where
     pub its_input : IsOfName places.is_input run.stdin opened.stdin
     pub its_out : IsOfName places.is_output run.stdout opened.stdout
     pub its_err : IsOfName places.is_output run.stderr opened.stderr
+    pub its_profile : IsLedger places.is_output run.profile opened.profile
 
-  -- All were asked for, and one was refused; or memory was wanting for the sectors of a run that names none.
+  -- All were asked for, and one was refused; or memory was wanting for the sectors of a run that names none, or for its stacks.
   abbrev pub Lacks : Run → ErrorKind → P → P → Type 0
   Lacks run kind p q = IsRefusedOfAll places.asked places.refused (run_accesses run) kind p q
-      ⊎ ((run.volume ≡ None) × (run.image ≡ None) × (kind ≡ OutOfMemory) × Chain places.asked (run_accesses run) p q)
+      ⊎ ((((run.volume ≡ None) × (run.image ≡ None)) ⊎ IsSome run.profile) × (kind ≡ OutOfMemory) × Chain places.asked (run_accesses run) p q)
 
   -- ---- its report
 
@@ -100,6 +123,30 @@ module _ {P I O V : Type 0} (places : Ghosts P I O V) (written : Writer O) where
   IsTold (Some name) (Some report) None lines before p q status = (q ≡ p) × (status ≡ before)
   IsTold (Some name) (Some report) (Some summary) lines before p q status = IsPrinted name.now report summary lines before p q status
 
+  -- ---- its profile
+
+  -- It was printed into its file, which is at its end then; or that was refused, and the status is 124.
+  pub record PrintsProfile (bytes : List ℕ) (usage : FuelUse) (name : Text) (file : O) (before : ℕ) (said : Option Summary) (p q : P) (status : ℕ) (summary : Option Summary) : Type 0 where
+    pub printed : P
+    pub asked_for : places.asked (Prints name) p printed
+    pub left : O
+    pub why : ((text : Text) × IsProfileOf bytes usage text × places.printed name text p printed × Appends (written.contents file) (written.contents left) text
+        × (status ≡ before) × (summary ≡ said))
+        ⊎ ((kind : ErrorKind) × places.refused (Prints name) kind p printed × (status ≡ 124) × (summary ≡ option_map unprofiled said))
+    pub ended : places.ended left printed q
+
+  -- where there is one: a guest that ran tells where its fuel went
+  abbrev pub PrintsUse : (bytes : List ℕ) → Option FuelUse → (name : Text) → O → (before : ℕ) → Option Summary → P → P → (status : ℕ) → Option Summary → Type 0
+  PrintsUse bytes None name file before said p q status summary = ⊥
+  PrintsUse bytes (Some usage) name file before said p q status summary = PrintsProfile bytes usage name file before said p q status summary
+
+  -- the same, where one is asked for; the file of a run that didn't begin is given up as it is
+  abbrev pub IsProfiled : List ℕ → Option Stopped → Option (Bor Text) → Option O → (before : ℕ) → Option Summary → P → P → (status : ℕ) → Option Summary → Type 0
+  IsProfiled bytes stopped None file before said p q status summary = HandsNothing places before said p q status summary
+  IsProfiled bytes stopped (Some name) None before said p q status summary = ⊥
+  IsProfiled bytes None (Some name) (Some file) before said p q status summary = places.ended file p q × (status ≡ before) × (summary ≡ said)
+  IsProfiled bytes (Some stopped) (Some name) (Some file) before said p q status summary = PrintsUse bytes stopped.fuel_use name.now file before said p q status summary
+
 -- ---- its end
 
 -- what a run had when it ended, with lines of the program's own behind the errors
@@ -116,23 +163,27 @@ left_of ended spare own = record {
 
 module _ {P I O V R W1 W2 : Type 0} (on : Around P I O V R W1 W2) where
   -- A module was run on a device with these files and streams, and so it ended. Its volume was handed out where that is said, its
-  -- report was printed, and all that it had was given up as it was then, but for lines of the program's own.
+  -- profile and its report were printed, and all that it had was given up as it was then, but for lines of the program's own.
   pub record RunsWith {D : Type 0} (known : Known D) (HandsIt : D → (before : ℕ) → Option Summary → P → P → (status : ℕ) → Option Summary → Type 0)
       (run : Run) (bytes : List ℕ) (random : Text) (device : D) (streams : Streams (Source I R) (Sink O W1) (Sink O W2)) (spare : Spare R W1 W2)
-      (report : Option O) (p q : P) (status : ℕ) : Type 0 where
+      (profile report : Option O) (p q : P) (status : ℕ) : Type 0 where
     pub left : Executed D (Source I R) (Sink O W1) (Sink O W2)
     pub runs : Runs known.honest known.disk known.size known.failures known.goes_on (source_remaining on.read.remaining on.input.remaining)
         (sink_contents on.written.contents on.out.contents) (sink_contents on.written.contents on.err.contents)
         run bytes random device streams.input streams.out streams.err left
+    pub handing : ℕ
+    pub said : Option Summary
+    pub handed : P
+    pub hands : HandsIt left.device left.status left.summary p handed handing said
     pub before : ℕ
     pub summary : Option Summary
-    pub handed : P
-    pub hands : HandsIt left.device left.status left.summary p handed before summary
+    pub profiled : P
+    pub profiles : IsProfiled on.places on.written bytes left.stopped run.profile profile handing said handed profiled before summary
     -- its report tells where it stopped
     pub lines_of_frames : Text
     pub are_lines : TellsLines bytes run.frames left.stopped lines_of_frames
     pub told : P
-    pub tells : IsTold on.places on.written run.report report summary lines_of_frames before handed told status
+    pub tells : IsTold on.places on.written run.report report summary lines_of_frames before profiled told status
     pub own : Sink O W2
     pub lines : AppendsSome (sink_contents on.written.contents on.err.contents (own_of left.err spare.err))
         (sink_contents on.written.contents on.err.contents own)
@@ -148,9 +199,9 @@ module _ {P I O V R W1 W2 : Type 0} (on : Around P I O V R W1 W2) where
   -- on the file of its volume, or in memory
   abbrev pub RunsOnMedium : Medium V → Run → Opened I O V → Streams R W1 W2 → Option O → P → P → (status : ℕ) → Type 0
   RunsOnMedium (medium.File device) run opened given report p q status = RunsWith on.volume (λ left before said p q status summary. HandsNothing on.places before said p q status summary)
-      run opened.module.items opened.random.items device (streams_of opened given) (spare_streams opened given) report p q status
+      run opened.module.items opened.random.items device (streams_of opened given) (spare_streams opened given) (file_of opened.profile) report p q status
   RunsOnMedium (medium.Memory device) run opened given report p q status = RunsWith in_memory (λ left before said p q status summary. Hands on.places run.volume_out left before said p q status summary)
-      run opened.module.items opened.random.items device (streams_of opened given) (spare_streams opened given) report p q status
+      run opened.module.items opened.random.items device (streams_of opened given) (spare_streams opened given) (file_of opened.profile) report p q status
 
   -- ---- a run alone
 

@@ -1,7 +1,7 @@
 -- What is done on the files that a command line names (`docs/USING.md`, "Commands"), over any `Places` and, in `IsAnswered`,
 -- over the files of the system. No contract says which bytes a named file has; of a volume's file it is said what a crash
 -- leaves, by the premise `KeepsItsModel`. All that is asked for is said, and that nothing follows on what a command had.
-use Rattle.std.specs.Prelude.{◌≡◌, ◌⊎◌, ◌≤◌, ℕ, List, [], Option, Some, None, IsSome, IsSomeAnd, length, min}
+use Rattle.std.specs.Prelude.{◌≡◌, ◌⊎◌, ◌≤◌, ℕ, List, Option, Some, None, IsSome, IsSomeAnd, length, min}
 use Rattle.std.specs.Borrow.{Bor}
 use Rattle.std.specs.declared.fs.File.{File}
 use Rattle.std.specs.declared.io.ErrorKind.{ErrorKind as InputKind}
@@ -36,13 +36,17 @@ pub use Rattle.sandbox_command.specs.Beginning.{IsImage, memory_disk}
 
 -- what each run of a list of tests has of its own, or can't have
 abbrev pub IsForOneRun : Run → Type 0
-IsForOneRun run = IsSome run.stdin ⊎ (IsSome run.stdout ⊎ (IsSome run.stderr ⊎ (IsSome run.report ⊎ (IsSome run.volume ⊎ IsSome run.volume_out))))
+IsForOneRun run = IsSome run.stdin ⊎ (IsSome run.stdout ⊎ (IsSome run.stderr ⊎ (IsSome run.report ⊎ (IsSome run.volume ⊎ (IsSome run.volume_out ⊎ IsSome run.profile)))))
+
+-- its stack is to be looked at in steps of no unit, or for no profile
+abbrev pub HasWrongSteps : Run → Type 0
+HasWrongSteps run = (run.profile_every ≡ Some 0) ⊎ (IsSome run.profile_every × (run.profile ≡ None))
 
 -- A run whose options don't go together: an image beside a volume of its own, a file that its volume is to be handed out
--- into without an image, a seed beside random bytes, or a list of tests beside what is for one run.
+-- into without an image, a seed beside random bytes, a list of tests beside what is for one run, or steps of a profile that isn't wanted.
 abbrev pub Clashes : Invocation → Type 0
 Clashes (asked.Run run) = (IsSome run.image × IsSome run.volume) ⊎ ((IsSome run.volume_out × (run.image ≡ None)) ⊎ ((IsSome run.seed × IsSome run.random)
-    ⊎ (IsSome run.tests × IsForOneRun run)))
+    ⊎ ((IsSome run.tests × IsForOneRun run) ⊎ HasWrongSteps run)))
 Clashes _ = ⊥
 
 -- ---- over any places

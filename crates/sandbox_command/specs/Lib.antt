@@ -3,6 +3,7 @@
 -- or a list of tests names.
 pub mod Status
 pub mod Stopping
+pub mod Profiling
 pub mod Streams
 pub mod Checking
 pub mod Sources

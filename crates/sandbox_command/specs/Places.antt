@@ -11,8 +11,8 @@ use Rattle.sandbox_words.specs.Request.{Text}
 
 -- A file of this name is opened to read; or opened or made, to be written from its beginning; or one that was made is cut
 -- to nothing; or a file is read whole and not written; or it is that of a volume, which is locked and read, or made or
--- lengthened to these sectors before; or it is opened and locked to get a volume at the end, and gets it; or a report is
--- printed into one that was made.
+-- lengthened to these sectors before; or it is opened and locked to get a volume at the end, and gets it; or a report or a
+-- profile is printed into one that was made.
 pub data Access : Type 0 where
   Opens : Text → Access
   Makes : Text → Access
@@ -67,7 +67,7 @@ medium_accesses None image = reads_of image
 -- part in the run when its report is made.
 abbrev pub run_accesses : Run → List Access
 run_accesses run = (Reads run.module.now ∷ []) ++ (reads_of run.random ++ (medium_accesses run.volume run.image ++ (where_named Opens run.stdin
-    ++ (where_named Makes run.stdout ++ (where_named Makes run.stderr ++ where_named Receives run.volume_out)))))
+    ++ (where_named Makes run.stdout ++ (where_named Makes run.stderr ++ (where_named Makes run.profile ++ where_named Receives run.volume_out))))))
 
 -- the file of a report is made and cut to nothing, where one is named
 abbrev pub report_accesses : Option (Bor Text) → List Access

@@ -1,7 +1,6 @@
 -- What the report of a run says of it (`crates/run_report/specs`). Here stands where each field of a `Summary` comes
 -- from, for a run that could not begin (`not_run`) and for one that did (`run_summary`).
-use Rattle.std.specs.Prelude.{◌≡◌, ◌⊎◌, ◌||◌, ◌-◌, ◌^◌, ℕ, List, Bool, true, false, Option, Some, None, Result, Ok, Err, unwrap_or, if◌then◌else◌}
-use Rattle.std.specs.Io.KnownBytes.{Appends}
+use Rattle.std.specs.Prelude.{◌||◌, ◌-◌, ◌^◌, ℕ, List, Bool, true, false, Option, Some, None, Result, Ok, Err, unwrap_or, if◌then◌else◌}
 use Rattle.std.specs.Borrow.{Bor}
 use Rattle.std.specs.Option.{option_or}
 use Rattle.vol_sector.specs.declared.fault.VolumeFault.{VolumeFault}
@@ -22,7 +21,6 @@ use Rattle.run_report.specs.declared.summary.Cut.{Cut}
 use Rattle.run_report.specs.declared.summary.Kept.{Kept}
 use Rattle.run_report.specs.declared.summary.Kept.TheVariants as kept
 use Rattle.run_report.specs.declared.summary.Summary.{Summary}
-use Rattle.run_report.specs.Reporting.{report_text}
 
 -- ---- the volume of a run
 

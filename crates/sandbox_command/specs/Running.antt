@@ -31,6 +31,7 @@ use Rattle.sandbox_command.specs.declared.program.Executed.{Executed}
 use Rattle.sandbox_command.specs.declared.stopping.Stopped.{Stopped}
 use Rattle.sandbox_command.specs.Status.{EndsWith, session_status}
 use Rattle.sandbox_command.specs.Streams.{IsSilent}
+use Rattle.sandbox_command.specs.Profiling.{IsFuelUse, slice_of}
 use Rattle.sandbox_command.specs.Reporting.{counted_bytes, counting, kept_where_not_begun, not_run, run_summary, session_reason}
 
 -- the device of a volume that is handed back, or the device itself
@@ -86,6 +87,8 @@ module _ {D R W1 W2 : Type 0} (is_honest : D → Type 0) (disk : D → Disk) (se
     pub stopped : Stopped
     pub is_stopped : left.stopped ≡ Some stopped
     pub frames : TellsFrames (frames_of counted.reports.last.machine) stopped.innermost.items stopped.depth
+    -- where its fuel went, if that is told
+    pub fuel_use : IsFuelUse (slice_of run) session counted.reports.resumes report.used m stopped.fuel_use
     pub ends : EndsWith report.outcome report.volume left.flushed left.status
     pub summary : left.summary ≡ Some (run_summary run report tally left.status left.flushed)
     pub device : left.device ≡ returned_device report.volume

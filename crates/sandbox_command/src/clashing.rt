@@ -1,11 +1,11 @@
 //! Options of a run that don't go together.
 
 ghost use Rattle.std.specs.Prelude.{◌↔◌, IsTrue};
-ghost use Rattle.sandbox_command.specs.Files.{Clashes, IsForOneRun};
+ghost use Rattle.sandbox_command.specs.Files.{Clashes, HasWrongSteps, IsForOneRun};
 
 use sandbox_words::{Invocation, Run};
 
-/// Whether a run has what is for one run alone: files of its streams or of its report, or a volume that stays.
+/// Whether a run has what is for one run alone: files of its streams, of its report or of its profile, or a volume that stays.
 fn is_for_one_run(run: &Run<'_>) -> bool
     ensures { IsTrue result ↔ IsForOneRun run.now }
 {
@@ -15,10 +15,18 @@ fn is_for_one_run(run: &Run<'_>) -> bool
         || run.report.is_some()
         || run.volume.is_some()
         || run.volume_out.is_some()
+        || run.profile.is_some()
+}
+
+/// Whether a run looks at its stack in steps that can't be, or for no profile.
+fn has_wrong_steps(run: &Run<'_>) -> bool
+    ensures { IsTrue result ↔ HasWrongSteps run.now }
+{
+    run.profile_every == Some(0) || (run.profile_every.is_some() && run.profile.is_none())
 }
 
 /// Whether a run has options that don't go together: an image beside a volume, what its volume is to be handed out into
-/// without an image, a seed beside random bytes, or a list of tests beside what is for one run.
+/// without an image, a seed beside random bytes, a list of tests beside what is for one run, or steps of a profile that isn't wanted.
 pub(crate) fn clashes(invocation: &Invocation<'_>) -> bool
     ensures { IsTrue result ↔ Clashes invocation.now }
 {
@@ -28,6 +36,7 @@ pub(crate) fn clashes(invocation: &Invocation<'_>) -> bool
                 || (run.volume_out.is_some() && run.image.is_none())
                 || (run.seed.is_some() && run.random.is_some())
                 || (run.tests.is_some() && is_for_one_run(run))
+                || has_wrong_steps(run)
         }
         _ => false,
     }

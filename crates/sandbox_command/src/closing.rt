@@ -1,14 +1,15 @@
 //! The end of a run alone: the program's own lines, its volume handed out, its report, and all that it had given up.
 
-ghost use Rattle.std.specs.Prelude.{◌≡◌, Some, false, option_map};
+ghost use Rattle.std.specs.Prelude.{◌≡◌, Some, false, option_and_then, option_map};
 ghost use Rattle.std.specs.IoError.{error_kind};
 ghost use Rattle.run_report.specs.declared.end.End.TheVariants.{Ran};
 ghost use Rattle.sandbox_command.specs.declared.streams.Sink.{Sink as SinkValue};
 ghost use Rattle.run_report.specs.declared.summary.Summary.{Summary as SummaryValue};
 ghost use Rattle.wasm_steps.specs.declared.pause.Outcome.{Outcome};
-ghost use Rattle.sandbox_command.specs.Alone.{Hands, IsTold, left_of, lost};
+ghost use Rattle.sandbox_command.specs.Alone.{Hands, IsProfiled, IsTold, PrintsProfile, left_of, lost, unprofiled};
 ghost use Rattle.sandbox_command.specs.Beginning.{unread};
 ghost use Rattle.sandbox_command.specs.Places.{IsOfName};
+ghost use Rattle.sandbox_command.specs.Profiling.{TellsUse};
 ghost use Rattle.sandbox_command.specs.Sources.{own_of, sink_contents};
 ghost use Rattle.sandbox_command.specs.Status.{file_status};
 ghost use Rattle.sandbox_command.specs.Streams.{AppendsSome};
@@ -17,11 +18,12 @@ use crate::explaining::tell_of_kind;
 use crate::output::tell_of_file;
 use crate::places::Places;
 use crate::possession::is_silent;
+use crate::profiling::{FuelUse, StackNames};
 use crate::program;
 use crate::program::Executed;
 use crate::refusals::{tell_of_outcome, tell_of_refusal};
 use crate::reporting::not_run;
-use crate::stopping::tell_frames;
+use crate::stopping::{Stopped, tell_frames};
 use crate::streams::{Sink, Source, Spare, apart};
 use run_report::{End, Fault, Kept, Summary};
 use sandbox_device::{Hindrance, RamDevice};
@@ -71,7 +73,7 @@ fn tell_ending<W: Write>(
     }
 }
 
-/// Prints the lines of how a run of a module ended, and gives that and all that the run had.
+/// Prints the lines of how a run of a module ended, and gives that, where it stopped, and all that the run had.
 pub(crate) fn finished<D: Drop, I: Drop, O: Write + Drop, R: Drop, W1: Drop, W2: Write + Drop>(
     alloc: Global,
     run: &Run<'_>,
@@ -79,11 +81,12 @@ pub(crate) fn finished<D: Drop, I: Drop, O: Write + Drop, R: Drop, W1: Drop, W2:
     ended: Executed<D, Source<I, R>, Sink<O, W1>, Sink<O, W2>>,
     lines: &[u8],
     spare: Spare<R, W1, W2>,
-) -> (Ending, Left<D, I, O, R, W1, W2>)
+) -> (Ending, Option<Stopped>, Left<D, I, O, R, W1, W2>)
     ensures ending { (result.0.status ≡ ended.status) × (result.0.summary ≡ ended.summary) }
+    ensures stopped { result.1 ≡ ended.stopped }
     ensures left { (own : SinkValue O W2)
         × AppendsSome (sink_contents O.contents W2.contents (own_of ended.err spare.err)) (sink_contents O.contents W2.contents own)
-        × (result.1 ≡ left_of ended spare own) }
+        × (result.2 ≡ left_of ended spare own) }
 {
     let Executed {
         status,
@@ -107,7 +110,7 @@ pub(crate) fn finished<D: Drop, I: Drop, O: Write + Drop, R: Drop, W1: Drop, W2:
         spare_input: spare.input,
         spare_out: spare.out,
     };
-    (Ending { status, summary }, left)
+    (Ending { status, summary }, stopped, left)
 }
 
 /// Whether a guest ran.
@@ -178,6 +181,92 @@ pub(crate) fn handed_out<P: Places, W: Write>(
                 status,
                 summary: not_kept(ending.summary),
             }
+        }
+    }
+}
+
+/// What is said of a run whose profile couldn't be printed.
+fn unprofiled(summary: Option<Summary>) -> Option<Summary>
+    ensures { result ≡ option_map unprofiled summary }
+{
+    let summary = summary?;
+    Some(Summary {
+        status: program::FAULT,
+        flushed: false,
+        ..summary
+    })
+}
+
+/// Prints where the fuel of a run of a module of these bytes went into its file, and gives how the run ended then.
+fn print_use<P: Places, W: Write>(
+    alloc: Global,
+    places: &mut P,
+    name: &str,
+    module: &[u8],
+    fuel_use: &FuelUse,
+    file: P::Output,
+    ending: Ending,
+    err: &mut W,
+) -> Ending
+    requires { P.is_output name.now file }
+    ensures profile { PrintsProfile P.Places P.Output.Write «module».now fuel_use.now name.now file ending.status ending.summary
+        places.old places.new result.status result.summary }
+    ensures lines { AppendsSome (W.contents err.old) (W.contents err.new) }
+{
+    let mut file = file;
+    let names = StackNames {
+        alloc,
+        bytes: module,
+        imported: fuel_use.imported,
+    };
+    let printed = places.print_profile(alloc, name, &mut file, &fuel_use.stacks, &names);
+    places.end(file);
+    match printed {
+        Ok(()) => ending,
+        Err(error) => {
+            let status = program::refuse_file(err);
+            tell_of_kind(err, name, error.kind());
+            Ending {
+                status,
+                summary: unprofiled(ending.summary),
+            }
+        }
+    }
+}
+
+/// Where the fuel of a run went that stopped so, if it began and that is told.
+fn fuel_use_in(stopped: Option<Stopped>) -> Option<FuelUse>
+    ensures { result ≡ option_and_then (λ s. s.fuel_use) stopped }
+{
+    stopped?.fuel_use
+}
+
+/// Prints the profile of a run of a module of these bytes into its file, where one is named, and gives how the run ended then: with
+/// the status 124 where it can't be printed. The file of a run that didn't begin is given up as it is.
+pub(crate) fn profiled<P: Places, W: Write>(
+    alloc: Global,
+    places: &mut P,
+    run: &Run<'_>,
+    module: &[u8],
+    stopped: Option<Stopped>,
+    file: Option<P::Output>,
+    ending: Ending,
+    err: &mut W,
+) -> Ending
+    requires file { IsOfName P.is_output run.now.profile file }
+    requires told { TellsUse file stopped }
+    ensures profile { IsProfiled P.Places P.Output.Write «module».now stopped run.now.profile file ending.status ending.summary
+        places.old places.new result.status result.summary }
+    ensures lines { AppendsSome (W.contents err.old) (W.contents err.new) }
+{
+    let (Some(name), Some(file)) = (run.profile, file) else {
+        return ending;
+    };
+    match fuel_use_in(stopped) {
+        Some(fuel_use) => print_use(alloc, places, name, module, &fuel_use, file, ending, err),
+        None => {
+            places.end(file);
+            ending
         }
     }
 }

@@ -1,17 +1,21 @@
 //! The files of the system, as a command holds them.
 
-ghost use Rattle.std.specs.Prelude.{◌≡◌, ◌≤◌, IfOk, length, min};
+ghost use Rattle.std.specs.Prelude.{◌≡◌, ◌≤◌, IfOk, OnOk, length, min};
+ghost use Rattle.sandbox_words.specs.Request.{Text};
+ghost use Rattle.sandbox_command.specs.Profiling.{IsProfile};
 ghost use Rattle.sandbox_command.specs.Places.{Gave, Took, WasEnded, WasHandedOut, WasRefused};
 
 use crate::clashing::clashes;
 use crate::host_volume::HostVolume;
 use crate::places::Places;
 use crate::possession::{Held, refuse_errors, refuse_errors_of};
+use run_profile::{Names, Profile};
 use run_report::{Printed, Summary};
 use sandbox_device::{
     FileDevice, Hindrance, Identity, Output, RamDevice, Replacement, open_image, open_to_read,
 };
 use sandbox_words::{Invocation, Run};
+use std::alloc::Global;
 use std::fs::File;
 use std::io::{ErrorKind, Read, Write};
 use std::{fs, io};
@@ -238,6 +242,19 @@ impl<'a> HostPlaces<'a> {
     }
 }
 
+/// Prints a profile, also one that has no line: then its file is cut.
+fn print_stacks<N: Names>(
+    alloc: Global,
+    file: &mut Output,
+    stacks: &Profile,
+    names: &N,
+) -> io::Result<()>
+    ensures { OnOk result ((text : Text) × IsProfile (N.text names.now) stacks.now text) }
+{
+    stacks.print(alloc, names, file)?;
+    file.flush()
+}
+
 impl<'a> Places for HostPlaces<'a> {
     type Input = File;
 
@@ -333,6 +350,17 @@ impl<'a> Places for HostPlaces<'a> {
         lines: &[u8],
     ) -> io::Result<()> {
         self.print_apart(file, summary, lines)
+    }
+
+    fn print_profile<N: Names>(
+        &mut self,
+        alloc: Global,
+        _name: &str,
+        file: &mut Output,
+        stacks: &Profile,
+        names: &N,
+    ) -> io::Result<()> {
+        print_stacks(alloc, file, stacks, names)
     }
 
     fn end<X: Drop>(&mut self, it: X) {

@@ -1,13 +1,15 @@
 //! The files of a run alone, all of which are open and locked before one of them is written.
 
-ghost use Rattle.std.specs.Prelude.{◌≡◌, ◌⊎◌, Err, IfErr, IfOk, MatchResult, None, Ok};
+ghost use Rattle.std.specs.Prelude.{◌≡◌, ◌⊎◌, Err, IfErr, IfOk, IsSome, MatchResult, None, Ok};
 ghost use Rattle.std.specs.IoError.{error_kind};
 ghost use Rattle.std.specs.declared.io.ErrorKind.TheVariants as failing;
-ghost use Rattle.sandbox_command.specs.Alone.{AreOpened, HasReport, IsMedium, Lacks};
+ghost use Rattle.sandbox_command.specs.Alone.{AreOpened, HasReport, IsLedger, IsMedium, Lacks};
 ghost use Rattle.sandbox_command.specs.Beginning.{IsImage};
 ghost use Rattle.sandbox_command.specs.Places.{Chain, IsOfImage, IsOfName, IsOfRandom, IsRefusedAmong, IsRefusedOfAll, Makes, Opens, Reads, Receives, file_accesses, medium_accesses, reads_of, report_accesses, run_accesses, where_named};
 
 use crate::places::Places;
+use crate::profiling::no_stacks;
+use run_profile::Profile;
 use sandbox_device::RamDevice;
 use sandbox_words::Run;
 use std::alloc::Global;
@@ -27,6 +29,13 @@ pub(crate) enum Medium<V> {
     Memory(RamDevice),
 }
 
+/// What gets the profile of a run: stacks, and the file that they are printed into at the end.
+#[derive(Drop)]
+pub(crate) struct Ledger<O> {
+    pub(crate) stacks: Profile,
+    pub(crate) file: O,
+}
+
 /// The files of a run, but for its report.
 #[derive(Drop)]
 pub(crate) struct Opened<I, O, V> {
@@ -36,6 +45,7 @@ pub(crate) struct Opened<I, O, V> {
     pub(crate) stdin: Option<I>,
     pub(crate) stdout: Option<O>,
     pub(crate) stderr: Option<O>,
+    pub(crate) profile: Option<Ledger<O>>,
 }
 
 /// The sectors in memory that a run begins with: those of its image, or new ones.
@@ -131,6 +141,26 @@ fn made_file<P: Places>(places: &mut P, path: Option<&str>) -> io::Result<Option
     }
 }
 
+/// The file of a profile, which has what it had, and its stacks; none where none is named.
+fn ledger_of<P: Places>(
+    alloc: Global,
+    places: &mut P,
+    path: Option<&str>,
+) -> io::Result<Option<Ledger<P::Output>>>
+    ensures ledger { IfOk result (IsLedger P.is_output path.entry) }
+    ensures asked { Chain P.asked (where_named Makes path.entry) places.old places.new }
+    ensures refused { IfErr result (λ error.
+        IsRefusedAmong P.asked P.refused (where_named Makes path.entry) (error_kind error) places.old places.new
+        ⊎ (IsSome path.entry × (error_kind error ≡ failing.OutOfMemory))) }
+{
+    let Some(path) = path else {
+        return Ok(None);
+    };
+    let file = places.make(path)?;
+    let stacks = no_stacks(alloc)?;
+    Ok(Some(Ledger { stacks, file }))
+}
+
 /// Opens what gets the volume of an image, where one is named.
 fn receive_file<P: Places>(places: &mut P, path: Option<&str>) -> io::Result<()>
     ensures asked { Chain P.asked (where_named Receives path.entry) places.old places.new }
@@ -171,15 +201,17 @@ pub(crate) fn open_all<P: Places>(
     let stdin = opened_file(places, run.stdin);
     let stdout = made_file(places, run.stdout);
     let stderr = made_file(places, run.stderr);
+    let profile = ledger_of(alloc, places, run.profile);
     let received = receive_file(places, run.volume_out);
     let bytes = both(module, random);
     let read = both(bytes, medium);
-    let outputs = both(stdout, stderr);
+    let errors = both(stderr, profile);
+    let outputs = both(stdout, errors);
     let streams = both(stdin, outputs);
     let files = both(read, streams);
     match both(files, received) {
         Ok((files, _)) => {
-            let (((module, random), medium), (stdin, (stdout, stderr))) = files;
+            let (((module, random), medium), (stdin, (stdout, (stderr, profile)))) = files;
             Ok(Opened {
                 module,
                 random,
@@ -187,6 +219,7 @@ pub(crate) fn open_all<P: Places>(
                 stdin,
                 stdout,
                 stderr,
+                profile,
             })
         }
         Err(error) => Err(error),

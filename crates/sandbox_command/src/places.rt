@@ -7,10 +7,13 @@ ghost use Rattle.std.specs.declared.io.ErrorKind.{ErrorKind as Kind};
 ghost use Rattle.run_report.specs.Reporting.{report_text};
 ghost use Rattle.sandbox_words.specs.Request.{Text};
 ghost use Rattle.sandbox_device.specs.declared.ram_device.RamDevice.{RamDevice as RamDeviceValue};
+ghost use Rattle.sandbox_command.specs.Profiling.{IsProfile};
 ghost use Rattle.sandbox_command.specs.Places.{Access, Cuts, HandsOut, Lengthens, Locks, Makes, Opens, Prints, Reads, Receives};
 
+use run_profile::{Names, Profile};
 use run_report::Summary;
 use sandbox_device::{Hindrance, RamDevice};
+use std::alloc::Global;
 use std::io;
 use std::io::{Read, Write};
 use vol_sector::Device;
@@ -142,6 +145,22 @@ pub trait Places {
         ensures printed { OnOk result (printed name.now (report_text summary.now ++ lines.now) self.old self.new) }
         ensures tells { OnOk result
             (Appends (Self.Output.contents file.old) (Self.Output.contents file.new) (report_text summary.now ++ lines.now)) };
+
+    /// Prints a profile into a file that was made under this name, with these names of its functions. Where that fails, some of it may
+    /// have been printed.
+    fn print_profile<N: Names>(
+        &mut self,
+        alloc: Global,
+        name: &str,
+        file: &mut Self::Output,
+        stacks: &Profile,
+        names: &N,
+    ) -> io::Result<()>
+        requires { is_output name.now file.old }
+        ensures asked { asked (Prints name.now) self.old self.new }
+        ensures refused { IfErr result (λ error. refused (Prints name.now) (error_kind error) self.old self.new) }
+        ensures printed { OnOk result ((text : Text) × IsProfile (N.text names.now) stacks.now text × printed name.now text self.old self.new
+            × Appends (Self.Output.contents file.old) (Self.Output.contents file.new) text) };
 
     /// Gives up what a command had, as it is: nothing more is read, written or changed with it.
     fn end<X: Drop>(&mut self, it: X)

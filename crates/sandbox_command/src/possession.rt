@@ -56,6 +56,7 @@ pub(crate) fn refuse_errors_of(rt: &HostRuntime, run: &Run<'_>) -> io::Result<()
         run.stdout,
         run.stderr,
         run.report,
+        run.profile,
         run.tests,
     ];
     for path in named.iter().flatten() {

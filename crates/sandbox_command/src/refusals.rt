@@ -191,6 +191,10 @@ fn clash_of(run: &Run<'_>) -> (&'static str, &'static str) {
         ("--volume-out without --image", BOTH)
     } else if run.seed.is_some() && run.random.is_some() {
         ("--seed with --random", ONE)
+    } else if run.profile_every.is_some() && run.profile.is_none() {
+        ("--profile-every without --profile", BOTH)
+    } else if run.profile_every == Some(0) {
+        ("--profile-every 0", "1 or more")
     } else if run.stdin.is_some() {
         ("--tests with --stdin", LINE)
     } else if run.stdout.is_some() {
@@ -199,6 +203,8 @@ fn clash_of(run: &Run<'_>) -> (&'static str, &'static str) {
         ("--tests with --stderr", LINE)
     } else if run.report.is_some() {
         ("--tests with --report", LINE)
+    } else if run.profile.is_some() {
+        ("--tests with --profile", "profile one run alone")
     } else {
         (
             "--tests with --volume or --volume-out",

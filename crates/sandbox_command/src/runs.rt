@@ -2,7 +2,7 @@
 
 ghost use Rattle.std.specs.Prelude.{◌≡◌, Some};
 ghost use Rattle.std.specs.IoError.{error_kind};
-ghost use Rattle.sandbox_command.specs.Alone.{Hands, HandsNothing, IsTold, RunsAlone, RunsOnMedium, RunsWith};
+ghost use Rattle.sandbox_command.specs.Alone.{Hands, HandsNothing, IsLedger, IsTold, RunsAlone, RunsOnMedium, RunsWith, file_of, stacks_of};
 ghost use Rattle.sandbox_command.specs.Around.{EndsGiven, around, in_memory};
 ghost use Rattle.sandbox_command.specs.Beginning.{unread};
 ghost use Rattle.sandbox_command.specs.Places.{IsOfName};
@@ -10,12 +10,13 @@ ghost use Rattle.sandbox_command.specs.Status.{file_status};
 ghost use Rattle.sandbox_command.specs.Stopping.{AreLinesOfNone};
 ghost use Rattle.sandbox_words.specs.Request.{Text};
 
-use crate::closing::{Ending, finished, handed_out, refuse, told, unread};
-use crate::opening::{Medium, Opened, made_report, open_all};
+use crate::closing::{Ending, finished, handed_out, profiled, refuse, told, unread};
+use crate::opening::{Ledger, Medium, Opened, made_report, open_all};
 use crate::places::Places;
 use crate::program;
 use crate::stopping::no_lines;
 use crate::streams::{Sink, Source, Spare, Streams, sink_of, source_of};
+use run_profile::Profile;
 use sandbox_device::RamDevice;
 use sandbox_words::Run;
 use std::alloc::Global;
@@ -29,6 +30,18 @@ struct Wired<I, O, R, W1, W2> {
     random: Vec<u8>,
     streams: Streams<Source<I, R>, Sink<O, W1>, Sink<O, W2>>,
     spare: Spare<R, W1, W2>,
+    profile: Option<Ledger<O>>,
+}
+
+/// The stacks of a profile, and its file.
+fn parted<O: Drop>(ledger: Option<Ledger<O>>) -> (Option<Profile>, Option<O>)
+    ensures stacks { result.0 ≡ stacks_of ledger }
+    ensures file { result.1 ≡ file_of ledger }
+{
+    match ledger {
+        Some(Ledger { stacks, file }) => (Some(stacks), Some(file)),
+        None => (None, None),
+    }
 }
 
 /// Opens the files of a run, makes its report, and runs it.
@@ -110,7 +123,8 @@ fn run_opened<P: Places, R: Read + Drop, W1: Write + Drop, W2: Write + Drop>(
     report: Option<P::Output>,
     given: Streams<R, W1, W2>,
 ) -> u8
-    requires { IsOfName P.is_output run.now.report report }
+    requires report { IsOfName P.is_output run.now.report report }
+    requires profile { IsLedger P.is_output run.now.profile opened.profile }
     ensures { RunsOnMedium (around P.Places P.Input.Read P.Output.Write P.Volume.Device R.Read W1.Write W2.Write)
         opened.medium run.now opened given report places.old places.new result }
 {
@@ -121,6 +135,7 @@ fn run_opened<P: Places, R: Read + Drop, W1: Write + Drop, W2: Write + Drop>(
         stdin,
         stdout,
         stderr,
+        profile,
     } = opened;
     let Streams { input, out, err } = given;
     let (input, spare_input) = source_of(stdin, input);
@@ -135,6 +150,7 @@ fn run_opened<P: Places, R: Read + Drop, W1: Write + Drop, W2: Write + Drop>(
             out: spare_out,
             err: spare_err,
         },
+        profile,
     };
     match medium {
         Medium::File(device) => run_in_file(alloc, places, run, device, wired, report),
@@ -153,21 +169,26 @@ fn run_in_file<P: Places, R: Read + Drop, W1: Write + Drop, W2: Write + Drop>(
     wired: Wired<P::Input, P::Output, R, W1, W2>,
     report: Option<P::Output>,
 ) -> u8
-    requires { IsOfName P.is_output run.now.report report }
+    requires report { IsOfName P.is_output run.now.report report }
+    requires profile { IsLedger P.is_output run.now.profile wired.profile }
     ensures { RunsWith (around P.Places P.Input.Read P.Output.Write P.Volume.Device R.Read W1.Write W2.Write) P.Volume.Device
         (λ left before said p q status summary. HandsNothing P.Places before said p q status summary)
-        run.now wired.«module».items wired.random.items device wired.streams wired.spare report places.old places.new result }
+        run.now wired.«module».items wired.random.items device wired.streams wired.spare (file_of wired.profile) report places.old places.new result }
 {
     let Wired {
         module,
         random,
         streams,
         spare,
+        profile,
     } = wired;
     let (module, random) = (module.as_slice(), random.as_slice());
-    let (ended, lines) = program::run(alloc, run, module, random, device, streams);
+    let (stacks, file) = parted(profile);
+    let (ended, lines) = program::run(alloc, run, module, random, device, streams, stacks);
     let lines = lines.as_slice();
-    let (ending, mut left) = finished(alloc, run, module, ended, lines, spare);
+    let (ending, stopped, mut left) = finished(alloc, run, module, ended, lines, spare);
+    let own = &mut left.own;
+    let ending = profiled(alloc, places, run, module, stopped, file, ending, own);
     let status = told(places, run.report, report, ending, lines, &mut left.own);
     places.end(left);
     status
@@ -183,22 +204,27 @@ fn run_in_memory<P: Places, R: Read + Drop, W1: Write + Drop, W2: Write + Drop>(
     wired: Wired<P::Input, P::Output, R, W1, W2>,
     report: Option<P::Output>,
 ) -> u8
-    requires { IsOfName P.is_output run.now.report report }
+    requires report { IsOfName P.is_output run.now.report report }
+    requires profile { IsLedger P.is_output run.now.profile wired.profile }
     ensures { RunsWith (around P.Places P.Input.Read P.Output.Write P.Volume.Device R.Read W1.Write W2.Write) in_memory
         (λ left before said p q status summary. Hands P.Places run.now.volume_out left before said p q status summary)
-        run.now wired.«module».items wired.random.items device wired.streams wired.spare report places.old places.new result }
+        run.now wired.«module».items wired.random.items device wired.streams wired.spare (file_of wired.profile) report places.old places.new result }
 {
     let Wired {
         module,
         random,
         streams,
         spare,
+        profile,
     } = wired;
     let (module, random) = (module.as_slice(), random.as_slice());
-    let (ended, lines) = program::run(alloc, run, module, random, device, streams);
+    let (stacks, file) = parted(profile);
+    let (ended, lines) = program::run(alloc, run, module, random, device, streams, stacks);
     let lines = lines.as_slice();
-    let (ending, mut left) = finished(alloc, run, module, ended, lines, spare);
+    let (ending, stopped, mut left) = finished(alloc, run, module, ended, lines, spare);
     let ending = handed_out(places, run.volume_out, &left.device, ending, &mut left.own);
+    let own = &mut left.own;
+    let ending = profiled(alloc, places, run, module, stopped, file, ending, own);
     let status = told(places, run.report, report, ending, lines, &mut left.own);
     places.end(left);
     status

@@ -8,6 +8,7 @@ ghost use Rattle.sandbox_command.specs.Streams.{AppendsSome};
 ghost use Rattle.sandbox_words.specs.Request.{Text};
 
 use crate::output::{say, tell};
+use crate::profiling::FuelUse;
 use module_survey::add_site;
 use sandbox_core::Frame;
 use sandbox_words::Run;
@@ -16,13 +17,15 @@ use std::io;
 use std::io::Write;
 use wasm_module::Module;
 
-/// The functions that were at work when a run stopped.
+/// The functions that were at work when a run stopped, and where its fuel went.
 #[derive(Drop)]
 pub struct Stopped {
     /// How many they were; 0 after an exit, and of a run that could not begin.
     pub depth: usize,
     /// The innermost of them, the innermost first: as many as are told, or none where memory was refused.
     pub innermost: Vec<Frame>,
+    /// Where its fuel went, if that is asked for.
+    pub fuel_use: Option<FuelUse>,
 }
 
 /// A machine has no more functions at work.
@@ -41,13 +44,18 @@ pub(crate) fn room_for(alloc: Global, run: &Run<'_>) -> Vec<Frame> {
 }
 
 /// What is told of a run that stopped with so many functions at work, of which the innermost are in the room.
-pub(crate) fn stopped_with(depth: usize, room: Vec<Frame>) -> Stopped
+pub(crate) fn stopped_with(depth: usize, room: Vec<Frame>, fuel_use: Option<FuelUse>) -> Stopped
     ensures depth { result.depth ≡ depth }
     ensures innermost { result.innermost.items ≡ take depth room.items }
+    ensures fuel_use { result.fuel_use ≡ fuel_use }
 {
     let mut innermost = room;
     innermost.truncate(depth);
-    Stopped { depth, innermost }
+    Stopped {
+        depth,
+        innermost,
+        fuel_use,
+    }
 }
 
 /// The instruction at which a function stands that has so many inside it and goes on with this one: a caller at its call.

@@ -152,6 +152,7 @@ fn tested<'m, P: Places>(
                 files.random,
                 device,
                 streams,
+                None,
             );
             let summary = left.summary;
             let frames = lines_of(alloc, run, files.module, valid.module(), &left.stopped);

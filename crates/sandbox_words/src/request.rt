@@ -47,6 +47,10 @@ pub struct Run<'a> {
     pub report: Option<&'a str>,
     /// How many frames are told at most of a run that stopped before its end.
     pub frames: u32,
+    /// The file of its profile, which says which functions used its fuel.
+    pub profile: Option<&'a str>,
+    /// The units of fuel from one look at its frames to the next; where there is none, the program has a number.
+    pub profile_every: Option<u64>,
     /// The file of a list of tests that the module is run on.
     pub tests: Option<&'a str>,
     /// The module's file.

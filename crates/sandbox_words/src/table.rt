@@ -121,7 +121,7 @@ static PUT: [Argument; 3] = [
 ];
 
 /// The arguments of `run`.
-static RUN: [Argument; 21] = [
+static RUN: [Argument; 23] = [
     Argument {
         name: "volume",
         takes: Takes::Text("FILE"),
@@ -211,6 +211,16 @@ static RUN: [Argument; 21] = [
         name: "frames",
         takes: Takes::Number,
         help: "Most frames that are told of where it stopped before its end [default: 16]",
+    },
+    Argument {
+        name: "profile",
+        takes: Takes::Text("FILE"),
+        help: "The file to be made with its profile, a line of a stack and its units of fuel each",
+    },
+    Argument {
+        name: "profile-every",
+        takes: Takes::Long,
+        help: "Units of fuel between two looks at its stack; 1 is exact [default: 9973]",
     },
     Argument {
         name: "tests",

@@ -246,6 +246,8 @@ fn run_with<'a>(
         name: option_text(matches, "name"),
         report: option_text(matches, "report"),
         frames: number(matches, "frames").unwrap_or(FRAMES),
+        profile: option_text(matches, "profile"),
+        profile_every: long_number(matches, "profile-every"),
         tests: option_text(matches, "tests"),
         module: text(matches, "MODULE"),
         words,

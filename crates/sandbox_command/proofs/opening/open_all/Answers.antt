@@ -1,23 +1,23 @@
 use Rattle.std.proofs.Common.{inl, inr}
 use Rattle.std.specs.IoError.{error_kind}
 use Rattle.std.specs.declared.io.Error.{Error}
-use Rattle.sandbox_command.specs.Alone.{IsMedium, Lacks}
+use Rattle.sandbox_command.specs.Alone.{IsLedger, IsMedium, Lacks}
 use Rattle.sandbox_command.specs.Places.{IsOfName, IsOfRandom}
 use Rattle.sandbox_command.proofs.Both.{if_err, of_error, of_errors, of_ok, of_values}
-use Rattle.sandbox_command.proofs.Chains.{all_asked, err_lacks, input_lacks, medium_lacks, module_lacks, out_lacks, random_lacks, receiver_lacks}
+use Rattle.sandbox_command.proofs.Chains.{all_asked, err_lacks, input_lacks, medium_lacks, module_lacks, out_lacks, profile_lacks, random_lacks, receiver_lacks}
 use Rattle.sandbox_command.proofs.opening.open_all.Goals as goal
 
 pub returns-in-Ok-clause-asked : goal.returns-in-Ok-clause-asked
 returns-in-Ok-clause-asked g c =
-    all_asked g.P.Places.asked g.P.Places.refused c.args.run.now _ _ _ _ _ _ _ _
+    all_asked g.P.Places.asked g.P.Places.refused c.args.run.now _ _ _ _ _ _ _ _ _
     c.bytes-module.ensures.asked c.random_of-random.ensures.asked c.medium_of-medium.ensures.asked c.opened_file-stdin.ensures.asked
-    c.made_file-stdout.ensures.asked c.made_file-stderr.ensures.asked c.receive_file-received.ensures.asked
+    c.made_file-stdout.ensures.asked c.made_file-stderr.ensures.asked c.ledger_of-profile.ensures.asked c.receive_file-received.ensures.asked
 
 pub returns-in-Err-clause-asked : goal.returns-in-Err-clause-asked
 returns-in-Err-clause-asked g c =
-    all_asked g.P.Places.asked g.P.Places.refused c.args.run.now _ _ _ _ _ _ _ _
+    all_asked g.P.Places.asked g.P.Places.refused c.args.run.now _ _ _ _ _ _ _ _ _
     c.bytes-module.ensures.asked c.random_of-random.ensures.asked c.medium_of-medium.ensures.asked c.opened_file-stdin.ensures.asked
-    c.made_file-stdout.ensures.asked c.made_file-stderr.ensures.asked c.receive_file-received.ensures.asked
+    c.made_file-stdout.ensures.asked c.made_file-stderr.ensures.asked c.ledger_of-profile.ensures.asked c.receive_file-received.ensures.asked
 
 -- each is what its name gave
 pub returns-in-Ok-clause-opened : goal.returns-in-Ok-clause-opened
@@ -33,15 +33,18 @@ returns-in-Ok-clause-opened g c =
     c.medium_of-medium.ensures.medium)
     (of_values c.opened_file-stdin.result c.both-outputs.result c.both-streams.result c.both-streams.ensures (IsOfName places.is_input run.stdin) _
     c.opened_file-stdin.ensures.file
-    (of_values c.made_file-stdout.result c.made_file-stderr.result c.both-outputs.result c.both-outputs.ensures (IsOfName places.is_output run.stdout) (IsOfName places.is_output run.stderr)
-    c.made_file-stdout.ensures.file c.made_file-stderr.ensures.file))) in
+    (of_values c.made_file-stdout.result c.both-errors.result c.both-outputs.result c.both-outputs.ensures (IsOfName places.is_output run.stdout) _
+    c.made_file-stdout.ensures.file
+    (of_values c.made_file-stderr.result c.ledger_of-profile.result c.both-errors.result c.both-errors.ensures (IsOfName places.is_output run.stderr) (IsLedger places.is_output run.profile)
+    c.made_file-stderr.ensures.file c.ledger_of-profile.ensures.ledger)))) in
     record {
       its_module = are.0.0.0;
       its_random = are.0.0.1;
       its_medium = are.0.1;
       its_input = are.1.0;
       its_out = are.1.1.0;
-      its_err = are.1.1.1;
+      its_err = are.1.1.1.0;
+      its_profile = are.1.1.1.1;
     }
 
 -- one of them is refused
@@ -56,6 +59,7 @@ returns-in-Err-clause-refused g c =
     let input = c.opened_file-stdin.ensures.asked in
     let out = c.made_file-stdout.ensures.asked in
     let err = c.made_file-stderr.ensures.asked in
+    let profile = c.ledger_of-profile.ensures.asked in
     let received = c.receive_file-received.ensures.asked in
     let lacking : Error → Type 0 = λ e. Lacks g.P.Places run (error_kind e) c.args.places.now c.receive_file-received.new.places in
     of_error lacking c.both.result c.in-Err.error c.in-Err.is
@@ -63,15 +67,20 @@ returns-in-Err-clause-refused g c =
     (of_errors c.both-read.result c.both-streams.result c.both-files.result c.both-files.ensures lacking
     (of_errors c.both-bytes.result c.medium_of-medium.result c.both-read.result c.both-read.ensures lacking
     (of_errors c.bytes-module.result c.random_of-random.result c.both-bytes.result c.both-bytes.ensures lacking
-    (if_err _ lacking c.bytes-module.result (λ e refused. inl (module_lacks asks refuses run _ _ _ _ _ _ _ _ bytes random medium input out err received (error_kind e) refused)) c.bytes-module.ensures.refused)
-    (if_err _ lacking c.random_of-random.result (λ e refused. inl (random_lacks asks refuses run _ _ _ _ _ _ _ _ bytes random medium input out err received (error_kind e) refused)) c.random_of-random.ensures.refused))
+    (if_err _ lacking c.bytes-module.result (λ e refused. inl (module_lacks asks refuses run _ _ _ _ _ _ _ _ _ bytes random medium input out err profile received (error_kind e) refused)) c.bytes-module.ensures.refused)
+    (if_err _ lacking c.random_of-random.result (λ e refused. inl (random_lacks asks refuses run _ _ _ _ _ _ _ _ _ bytes random medium input out err profile received (error_kind e) refused)) c.random_of-random.ensures.refused))
     (if_err _ lacking c.medium_of-medium.result (λ e why. elim why [
-      | inl refused ↦ inl (medium_lacks asks refuses run _ _ _ _ _ _ _ _ bytes random medium input out err received (error_kind e) refused)
-      | inr memory ↦ inr (memory.0, memory.1, memory.2, all_asked asks refuses run _ _ _ _ _ _ _ _ bytes random medium input out err received)
+      | inl refused ↦ inl (medium_lacks asks refuses run _ _ _ _ _ _ _ _ _ bytes random medium input out err profile received (error_kind e) refused)
+      | inr memory ↦ inr (inl (memory.0, memory.1), memory.2, all_asked asks refuses run _ _ _ _ _ _ _ _ _ bytes random medium input out err profile received)
     ]) c.medium_of-medium.ensures.refused))
     (of_errors c.opened_file-stdin.result c.both-outputs.result c.both-streams.result c.both-streams.ensures lacking
-    (if_err _ lacking c.opened_file-stdin.result (λ e refused. inl (input_lacks asks refuses run _ _ _ _ _ _ _ _ bytes random medium input out err received (error_kind e) refused)) c.opened_file-stdin.ensures.refused)
-    (of_errors c.made_file-stdout.result c.made_file-stderr.result c.both-outputs.result c.both-outputs.ensures lacking
-    (if_err _ lacking c.made_file-stdout.result (λ e refused. inl (out_lacks asks refuses run _ _ _ _ _ _ _ _ bytes random medium input out err received (error_kind e) refused)) c.made_file-stdout.ensures.refused)
-    (if_err _ lacking c.made_file-stderr.result (λ e refused. inl (err_lacks asks refuses run _ _ _ _ _ _ _ _ bytes random medium input out err received (error_kind e) refused)) c.made_file-stderr.ensures.refused))))
-    (if_err _ lacking c.receive_file-received.result (λ e refused. inl (receiver_lacks asks refuses run _ _ _ _ _ _ _ _ bytes random medium input out err received (error_kind e) refused)) c.receive_file-received.ensures.refused))
+    (if_err _ lacking c.opened_file-stdin.result (λ e refused. inl (input_lacks asks refuses run _ _ _ _ _ _ _ _ _ bytes random medium input out err profile received (error_kind e) refused)) c.opened_file-stdin.ensures.refused)
+    (of_errors c.made_file-stdout.result c.both-errors.result c.both-outputs.result c.both-outputs.ensures lacking
+    (if_err _ lacking c.made_file-stdout.result (λ e refused. inl (out_lacks asks refuses run _ _ _ _ _ _ _ _ _ bytes random medium input out err profile received (error_kind e) refused)) c.made_file-stdout.ensures.refused)
+    (of_errors c.made_file-stderr.result c.ledger_of-profile.result c.both-errors.result c.both-errors.ensures lacking
+    (if_err _ lacking c.made_file-stderr.result (λ e refused. inl (err_lacks asks refuses run _ _ _ _ _ _ _ _ _ bytes random medium input out err profile received (error_kind e) refused)) c.made_file-stderr.ensures.refused)
+    (if_err _ lacking c.ledger_of-profile.result (λ e why. elim why [
+      | inl refused ↦ inl (profile_lacks asks refuses run _ _ _ _ _ _ _ _ _ bytes random medium input out err profile received (error_kind e) refused)
+      | inr memory ↦ inr (inr memory.0, memory.1, all_asked asks refuses run _ _ _ _ _ _ _ _ _ bytes random medium input out err profile received)
+    ]) c.ledger_of-profile.ensures.refused)))))
+    (if_err _ lacking c.receive_file-received.result (λ e refused. inl (receiver_lacks asks refuses run _ _ _ _ _ _ _ _ _ bytes random medium input out err profile received (error_kind e) refused)) c.receive_file-received.ensures.refused))

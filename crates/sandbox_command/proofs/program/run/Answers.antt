@@ -2,6 +2,7 @@ use Rattle.std.proofs.Common.{ℕ, inl, inr, refl, sym, ◌∙◌, ap, subst, So
 use Rattle.run_report.specs.declared.fault.Fault.{Fault}
 use Rattle.sandbox_command.specs.Execution.{IsUntouched}
 use Rattle.sandbox_command.specs.Stopping.{AreLinesBy, TellsLines}
+use Rattle.sandbox_command.proofs.Charged.{none_tells}
 use Rattle.sandbox_command.proofs.Frames.{lines_told}
 use Rattle.sandbox_command.proofs.Launching.{kept_streams}
 use Rattle.sandbox_command.proofs.Unbegun.{not_run_so}
@@ -58,3 +59,6 @@ returns-in-Ok-load-clause-lines g c =
 -- nothing is told where it didn't begin
 pub returns-clause-lines : goal.returns-clause-lines
 returns-clause-lines g c = subst (λ s. TellsLines c.args.«module».now c.args.run.now.frames s c.no_lines.result.items) (sym c.not_begun-left.ensures.stopped) c.no_lines.ensures
+
+pub returns-clause-fuel_use : goal.returns-clause-fuel_use
+returns-clause-fuel_use g c = none_tells c.args.stacks _ c.not_begun-left.ensures.stopped

@@ -1,5 +1,6 @@
 use Rattle.std.proofs.Common.{subst}
 use Rattle.volume_tasks.specs.Volumes.{IsOpenFor, IsRefusedFor}
+use Rattle.sandbox_command.proofs.Charged.{none_tells}
 use Rattle.sandbox_command.proofs.Launching.{no_volume, on_volume}
 use Rattle.sandbox_command.proofs.program.run_valid.Goals as goal
 
@@ -19,3 +20,6 @@ returns-in-Ok-clause-runs g c =
     c.args.device c.args.streams.input c.args.streams.out c.args.streams.err c.in-Ok.volume c.parts_of-parts.result c.launch.result.1
     (subst (λ named. IsOpenFor g.D.Device.honest g.D.Device.disk g.D.Device.size g.D.Device.failures named c.args.device c.in-Ok.volume) c.volume_of.ensures c.in-Ok.ensures.opens)
     c.parts_of-parts.ensures.settings c.parts_of-parts.ensures.parts c.launch.ensures.launches
+
+pub returns-in-Err-clause-fuel_use : goal.returns-in-Err-clause-fuel_use
+returns-in-Err-clause-fuel_use g c = none_tells c.args.stacks _ c.no_volume.ensures.stopped

@@ -1,6 +1,6 @@
 use Rattle.std.proofs.Common.{sym, subst}
 use Rattle.sandbox_command.specs.declared.opening.Medium.{Medium}
-use Rattle.sandbox_command.specs.Alone.{Hands, HandsNothing, RunsOnMedium, RunsWith}
+use Rattle.sandbox_command.specs.Alone.{Hands, HandsNothing, RunsOnMedium, RunsWith, file_of}
 use Rattle.sandbox_command.specs.Around.{around, in_memory}
 use Rattle.sandbox_command.proofs.Finishing.{rewired}
 use Rattle.sandbox_command.proofs.runs.run_opened.Goals as goal
@@ -12,7 +12,7 @@ returns-in-File g c =
     let opened = c.args.opened in
     subst (λ (m : Medium _). RunsOnMedium on m run opened c.args.given c.args.report c.args.places.now c.run_in_file.new.places c.run_in_file.result) (sym c.in-File.is)
     (rewired (λ streams spare. RunsWith on g.P.Volume.Device (λ left before said p q status summary. HandsNothing g.P.Places before said p q status summary)
-    run opened.«module».items opened.random.items c.in-File.device streams spare c.args.report c.args.places.now c.run_in_file.new.places c.run_in_file.result)
+    run opened.«module».items opened.random.items c.in-File.device streams spare (file_of opened.profile) c.args.report c.args.places.now c.run_in_file.new.places c.run_in_file.result)
     _ _ c.source_of-input.ensures.source _ _ c.sink_of-out.ensures.sink _ _ c.sink_of-err.ensures.sink
     _ _ c.source_of-input.ensures.spare _ _ c.sink_of-out.ensures.spare _ _ c.sink_of-err.ensures.spare
     c.run_in_file.ensures)
@@ -24,7 +24,7 @@ returns-in-Memory g c =
     let opened = c.args.opened in
     subst (λ (m : Medium _). RunsOnMedium on m run opened c.args.given c.args.report c.args.places.now c.run_in_memory.new.places c.run_in_memory.result) (sym c.in-Memory.is)
     (rewired (λ streams spare. RunsWith on in_memory (λ left before said p q status summary. Hands g.P.Places run.volume_out left before said p q status summary)
-    run opened.«module».items opened.random.items c.in-Memory.device streams spare c.args.report c.args.places.now c.run_in_memory.new.places c.run_in_memory.result)
+    run opened.«module».items opened.random.items c.in-Memory.device streams spare (file_of opened.profile) c.args.report c.args.places.now c.run_in_memory.new.places c.run_in_memory.result)
     _ _ c.source_of-input.ensures.source _ _ c.sink_of-out.ensures.sink _ _ c.sink_of-err.ensures.sink
     _ _ c.source_of-input.ensures.spare _ _ c.sink_of-out.ensures.spare _ _ c.sink_of-err.ensures.spare
     c.run_in_memory.ensures)

@@ -1,6 +1,5 @@
-use Rattle.std.proofs.Common.{[], refl, sym, subst, ◌≡◌, ◌++◌, take, List}
+use Rattle.std.proofs.Common.{[], subst, List}
 use Rattle.wasm_interp.specs.declared.frames.Frame.{Frame}
-use Rattle.sandbox_words.specs.Request.{Text}
 use Rattle.sandbox_command.specs.Stopping.{AreFrameLines, none}
 use Rattle.sandbox_command.proofs.Frames.{nothing_more, one_line_more, taken_all}
 use Rattle.sandbox_command.proofs.stopping.add_frames.Goals as goal

@@ -22,7 +22,9 @@ returns c dirs env words = record {
   name = c.option_text-8.ensures;
   report = c.option_text-9.ensures;
   frames = c.unwrap_or-5.ensures ∙ ap (λ (o : Option ℕ). unwrap_or o 16) c.number-3.ensures;
-  tests = c.option_text-10.ensures;
+  profile = c.option_text-10.ensures;
+  profile_every = c.long_number-5.ensures;
+  tests = c.option_text-11.ensures;
   module_word = c.text.ensures;
   words = words;
 }
