@@ -6,6 +6,7 @@ pub mod PlainSteps
 pub mod Checks
 pub mod Alike
 pub mod FastSteps
+pub mod PlaceSteps
 pub mod Reading
 pub mod Framing
 pub mod Limiting

@@ -11,3 +11,4 @@ pub mod Signatures
 pub mod Begun
 pub mod Keys
 pub mod Fast
+pub mod InPlaces

@@ -12,6 +12,7 @@ mod loads;
 mod machine;
 mod pending;
 mod phase;
+mod places;
 mod plain;
 mod running;
 mod shared;

@@ -1,4 +1,4 @@
-use Rattle.std.proofs.Common.{◌≡◌, ℕ, suc, List, [], ◌∷◌, Some, refl, sym, subst, ap, ◌∙◌, arith, inl, inr}
+use Rattle.std.proofs.Common.{◌≡◌, [], refl, sym, subst, ap, ◌∙◌, arith, inl, inr}
 use Rattle.wasm_steps.specs.declared.pause.Outcome.TheVariants as ends
 use Rattle.wasm_steps.specs.Configuration.{Configuration, at, Instance, code_of, store_of, used_by}
 use Rattle.wasm_interp.specs.declared.phase.Phase.{Phase}

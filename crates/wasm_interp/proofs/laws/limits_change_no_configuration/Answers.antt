@@ -1,4 +1,3 @@
-use Rattle.wasm_interp.specs.Machine.{Represents}
 use Rattle.wasm_interp.proofs.Limiting.{limited_represents}
 use Rattle.wasm_interp.proofs.laws.limits_change_no_configuration.Goals as goal
 

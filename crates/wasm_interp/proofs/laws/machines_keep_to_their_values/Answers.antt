@@ -1,11 +1,10 @@
-use Rattle.std.proofs.Common.{◌≡◌, ℕ, ◌+◌, ◌≤◌, List, ◌++◌, length, reverse, None, Some, sym, ap, ◌∙◌, subst, arith, length-append}
+use Rattle.std.proofs.Common.{◌≡◌, ℕ, List, ◌++◌, length, reverse, None, Some, sym, ap, ◌∙◌, arith, length-append}
 use Rattle.std.proofs.lemmas.List.{length-reverse}
-use Rattle.wasm_steps.specs.declared.pause.Outcome.{Outcome}
 use Rattle.wasm_steps.specs.declared.pause.Outcome.TheVariants as ends
-use Rattle.wasm_steps.specs.Configuration.{Configuration, Instance, code, code_of, store_of, values_in}
+use Rattle.wasm_steps.specs.Configuration.{Configuration, code, code_of, store_of, values_in}
 use Rattle.wasm_interp.specs.declared.phase.Phase.{Phase}
 use Rattle.wasm_interp.specs.declared.phase.Phase.TheVariants.{Within as within, Between as between, Refused as refused, Over as over}
-use Rattle.wasm_interp.specs.Machine.{Represents, Snapshot}
+use Rattle.wasm_interp.specs.Machine.{Represents}
 use Rattle.wasm_interp.specs.internal.Standing.{Flat, Program, inside, labelled, under}
 use Rattle.wasm_interp.specs.internal.Driving.{outcome_at, StandsAt}
 use Rattle.wasm_interp.specs.internal.HeldState.{machine_over}
