@@ -48,7 +48,8 @@ checked_damage Upgrade done = None
 checked_damage (Stat path) done = None
 checked_damage (Changing change) done = None
 
--- Both lines follow, or a beginning of them where the side of errors takes no more; and of what is no damage some line.
+-- Both lines follow, or a beginning of them where the side of errors takes no more, and then what the fault means; and of what is no
+-- damage some line.
 abbrev pub TellsChecked : Option Damage → Option (List ℕ) → Option (List ℕ) → Type 0
 TellsChecked None before after = AppendsSome before after
-TellsChecked (Some damage) before after = AppendsPart before after (damage_lines damage)
+TellsChecked (Some damage) before after = (told : Option (List ℕ)) × AppendsPart before told (damage_lines damage) × AppendsSome told after

@@ -28,7 +28,7 @@ use Rattle.sandbox_command.specs.Alone.{RunsAlone}
 use Rattle.sandbox_command.specs.Around.{Around, EndsGiven}
 use Rattle.sandbox_command.specs.Execution.{StaysWithin, Executes}
 use Rattle.sandbox_command.specs.Inspecting.{Inspects}
-use Rattle.sandbox_command.specs.Places.{Access, Gave, Lengthens, Locks, Reads, Took, WasEnded, WasHandedOut, WasRefused}
+use Rattle.sandbox_command.specs.Places.{Access, Gave, HasRoom, Locks, Reads, Took, WasEnded, WasHandedOut, WasRefused, lengthens}
 use Rattle.sandbox_command.specs.Status.{command_line_status, file_status, words_status}
 use Rattle.sandbox_command.specs.Streams.{AppendsSome}
 use Rattle.sandbox_command.specs.Testing.{RunsList}
@@ -62,17 +62,17 @@ module _ {P I O V R W1 W2 : Type 0} (on : Around P I O V R W1 W2) where
     pub ends : status ≡ left.status
     pub ended : on.places.ended left p q
 
-  -- the device of the file of this name, on which no operation failed yet, with at least so many sectors
-  pub record IsNewDevice (name : Text) (least : ℕ) (device : V) : Type 0 where
+  -- the device of the file of this name, on which no operation failed yet, and which has what is wanted
+  pub record IsNewDevice (name : Text) (HasIts : V → Type 0) (device : V) : Type 0 where
     pub is_its_volume : on.places.is_volume name device
     pub unused : on.volume.failures device ≡ 0
-    pub enough : least ≤ on.volume.size device
+    pub enough : HasIts device
 
   -- One file is asked for. It is refused, and nothing else is done; or what is asked for was executed on it.
-  abbrev pub DoesOn : Access → (name : Text) → (least : ℕ) → VolumeWork → Streams R W1 W2 → (p q : P) → (status : ℕ) → Type 0
-  DoesOn access name least does given p q status = (m : P) × on.places.asked access p m
+  abbrev pub DoesOn : Access → (name : Text) → (HasIts : V → Type 0) → VolumeWork → Streams R W1 W2 → (p q : P) → (status : ℕ) → Type 0
+  DoesOn access name HasIts does given p q status = (m : P) × on.places.asked access p m
       × (((kind : InputKind) × on.places.refused access kind p m × (status ≡ file_status kind) × EndsGiven on given m q)
-      ⊎ ((device : V) × IsNewDevice name least device × HasExecuted does device given m q status))
+      ⊎ ((device : V) × IsNewDevice name HasIts device × HasExecuted does device given m q status))
 
   -- What these bytes are as a module was printed, nothing was read, and all was given up as it was then.
   pub record HasInspected (bytes : Text) (given : Streams R W1 W2) (p q : P) (status : ℕ) : Type 0 where
@@ -99,10 +99,10 @@ module _ {P I O V R W1 W2 : Type 0} (on : Around P I O V R W1 W2) where
   IsPerformed (asked.Run run) given p q status =
       (Clashes (asked.Run run) × (status ≡ 124) × EndsGiven on given p q) ⊎ ((Clashes (asked.Run run) → ⊥) × RunsNamed run.tests run given p q status)
   IsPerformed (asked.Format file sectors slots large new) given p q status =
-      DoesOn (Lengthens file.now sectors) file.now (min sectors 65536) (work.Format sectors slots large new) given p q status
-  IsPerformed (asked.Volume file task) given p q status = DoesOn (Locks file.now) file.now 0 (work.Task task) given p q status
-  IsPerformed (asked.Import file path) given p q status = DoesOn (Locks file.now) file.now 0 (work.Import path) given p q status
-  IsPerformed (asked.Export file path) given p q status = DoesOn (Locks file.now) file.now 0 (work.Export path) given p q status
+      DoesOn (lengthens new file.now sectors) file.now (λ d. HasRoom on.volume.size on.volume.disk new (min sectors 65536) d) (work.Format sectors slots large new) given p q status
+  IsPerformed (asked.Volume file task) given p q status = DoesOn (Locks file.now) file.now (λ d. Unit {0}) (work.Task task) given p q status
+  IsPerformed (asked.Import file path) given p q status = DoesOn (Locks file.now) file.now (λ d. Unit {0}) (work.Import path) given p q status
+  IsPerformed (asked.Export file path) given p q status = DoesOn (Locks file.now) file.now (λ d. Unit {0}) (work.Export path) given p q status
   IsPerformed (asked.Inspect «module») given p q status = DoesInspect «module».now given p q status
 
 -- ---- the files of the system

@@ -2,17 +2,19 @@
 -- (`crates/sandbox_command/src/places.rt`): contracts over any `Places` say by `Chain` what was asked for between two
 -- of its states, in which order. `Gave`, `Took`, `WasRefused`, `WasHandedOut` and `WasEnded` stand for what the system did
 -- with a named file, and for what a command gave up; only the proofs of `HostPlaces` introduce them.
-use Rattle.std.specs.Prelude.{◌≡◌, ◌⊎◌, ◌++◌, ℕ, List, [], ◌∷◌, Option, Some, None}
+use Rattle.std.specs.Prelude.{◌≡◌, ◌⊎◌, ◌≤◌, ◌++◌, ℕ, Bool, true, false, List, [], ◌∷◌, Option, Some, None}
 use Rattle.std.specs.Borrow.{Bor}
 use Rattle.std.specs.declared.io.ErrorKind.{ErrorKind}
+use Rattle.vol_sector.specs.Disk.{Disk}
+use Rattle.volume_tasks.specs.Formatting.{BeginsAsVolume}
 use Rattle.sandbox_device.specs.declared.ram_device.RamDevice.{RamDevice}
 use Rattle.sandbox_words.specs.declared.request.Run.{Run}
 use Rattle.sandbox_words.specs.Request.{Text}
 
 -- A file of this name is opened to read; or opened or made, to be written from its beginning; or one that was made is cut
 -- to nothing; or a file is read whole and not written; or it is that of a volume, which is locked and read, or made or
--- lengthened to these sectors before; or it is opened and locked to get a volume at the end, and gets it; or a report or a
--- profile is printed into one that was made.
+-- lengthened to these sectors before, unless it is to be new and begins as a volume; or it is opened and locked to get a volume
+-- at the end, and gets it; or a report or a profile is printed into one that was made.
 pub data Access : Type 0 where
   Opens : Text → Access
   Makes : Text → Access
@@ -20,6 +22,7 @@ pub data Access : Type 0 where
   Reads : Text → Access
   Locks : Text → Access
   Lengthens : Text → ℕ → Access
+  LengthensNew : Text → ℕ → Access
   Receives : Text → Access
   HandsOut : Text → Access
   Prints : Text → Access
@@ -44,6 +47,16 @@ abbrev pub ChainWithFailure : {A P : Type 0} → (went failed : A → P → P �
 ChainWithFailure went failed [] p q = ⊥
 ChainWithFailure went failed (a ∷ rest) p q =
     (m : _) × ((failed a p m × Chain (λ b r s. went b r s ⊎ failed b r s) rest m q) ⊎ (went a p m × ChainWithFailure went failed rest m q))
+
+-- a file that is to be formatted is made or lengthened, whatever it is, or only if it is new
+abbrev pub lengthens : (only_new : Bool) → Text → ℕ → Access
+lengthens false name sectors = Lengthens name sectors
+lengthens true name sectors = LengthensNew name sectors
+
+-- It has so many sectors; or it was to be new, and begins as a volume.
+abbrev pub HasRoom : {D : Type 0} → (size : D → ℕ) → (disk : D → Disk) → (only_new : Bool) → ℕ → D → Type 0
+HasRoom size disk false least d = least ≤ size d
+HasRoom size disk true least d = (least ≤ size d) ⊎ BeginsAsVolume (size d) (disk d).seen
 
 -- this is done with a file, where one is named
 abbrev pub where_named : (Text → Access) → Option (Bor Text) → List Access

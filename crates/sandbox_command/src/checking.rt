@@ -60,6 +60,13 @@ fn print_damage<W: Write>(err: &mut W, damage: Damage) -> io::Result<()>
     print_all(err, lines.as_slice())
 }
 
+/// Prints the lines of a damage, or a beginning of them.
+fn tell_damage<W: Write>(err: &mut W, damage: Damage)
+    ensures { AppendsPart (W.contents err.old) (W.contents err.new) (damage_lines damage) }
+{
+    let _ = print_damage(err, damage);
+}
+
 /// The damage for which a volume that is checked is refused.
 fn checked_damage(task: Task<'_>, done: Result<(), Failure>) -> Option<Damage>
     ensures { result ≡ checked_damage task.entry done }
@@ -70,7 +77,8 @@ fn checked_damage(task: Task<'_>, done: Result<(), Failure>) -> Option<Damage>
     }
 }
 
-/// Ends a task as `ended` does, but where a volume that is checked is damaged it also tells where and how.
+/// Ends a task as `ended` does, but where a volume that is checked is damaged it also tells where and how, before it says what the
+/// fault means.
 pub(crate) fn ended_task<D: Drop, R: Drop, W1: Write + Drop, W2: Write + Drop>(
     task: Task<'_>,
     done: Result<(), Failure>,
@@ -91,6 +99,7 @@ pub(crate) fn ended_task<D: Drop, R: Drop, W1: Write + Drop, W2: Write + Drop>(
     };
     let mut given = given;
     let flushed = given.out.flush().is_ok();
-    let _ = print_damage(&mut given.err, damage);
+    tell_damage(&mut given.err, damage);
+    about.tell_of_volume(&mut given.err, VolumeFault::Damaged(damage));
     left_with(FAULT, None, flushed, device, given)
 }

@@ -107,7 +107,7 @@ pub fn perform_in<P: Places, R: Read + Drop, W1: Write + Drop, W2: Write + Drop>
                 large: *large,
                 new: *new,
             };
-            let device = places.lengthen(file, *sectors);
+            let device = places.lengthen(file, *sectors, *new);
             execute_on(alloc, places, file, work, device, given)
         }
         Invocation::Volume { file, task } => {

@@ -1,9 +1,10 @@
 //! The files of the system, as a command holds them.
 
-ghost use Rattle.std.specs.Prelude.{◌≡◌, ◌≤◌, IfOk, OnOk, length, min};
+ghost use Rattle.std.specs.Prelude.{◌≡◌, ◌≤◌, IfOk, Ok, OnOk, false, length, min};
 ghost use Rattle.sandbox_words.specs.Request.{Text};
+ghost use Rattle.sandbox_command.specs.Files.{file_disk};
 ghost use Rattle.sandbox_command.specs.Profiling.{IsProfile};
-ghost use Rattle.sandbox_command.specs.Places.{Gave, Took, WasEnded, WasHandedOut, WasRefused};
+ghost use Rattle.sandbox_command.specs.Places.{Gave, HasRoom, Took, WasEnded, WasHandedOut, WasRefused};
 
 use crate::clashing::clashes;
 use crate::host_volume::HostVolume;
@@ -19,6 +20,7 @@ use std::alloc::Global;
 use std::fs::File;
 use std::io::{ErrorKind, Read, Write};
 use std::{fs, io};
+use volume_tasks::MAGIC;
 
 /// The most bytes of a list of tests.
 const LIST_READ: u64 = 67_108_864;
@@ -36,6 +38,19 @@ pub(crate) struct HostPlaces<'a> {
     refused: Option<ErrorKind>,
     /// The name of the first file that was refused, for who is told of it.
     first_refused: Option<String>,
+}
+
+/// The volume of a file that is lengthened to these sectors, but where it is to be new and begins as a volume.
+fn volume_in(alloc: Global, file: File, sectors: u32, only_new: bool) -> io::Result<HostVolume>
+    ensures unused { IfOk result (λ d. d.device.failures ≡ 0) }
+    ensures enough { IfOk result (λ d. HasRoom (λ it. length it.device.sectors) file_disk only_new (min sectors 65536) d) }
+{
+    if only_new {
+        let device = FileDevice::lengthened_unless(alloc, file, sectors, &MAGIC)?;
+        return Ok(HostVolume { device });
+    }
+    let device = FileDevice::lengthened(alloc, file, sectors)?;
+    Ok(HostVolume { device })
 }
 
 impl<'a> HostPlaces<'a> {
@@ -101,6 +116,26 @@ impl<'a> HostPlaces<'a> {
         }
     }
 
+    /// Says of a file that is refused since it is locked whether it is this command that has it.
+    fn or_twice<T: Drop>(&self, name: &str, done: io::Result<T>) -> io::Result<T>
+        ensures { IfOk result (λ it. done ≡ Ok it) }
+    {
+        match done {
+            Err(error) if error.kind() == ErrorKind::WouldBlock && self.has(name) => {
+                Err(io::Error::from(ErrorKind::ResourceBusy))
+            }
+            done => done,
+        }
+    }
+
+    /// Whether the command has a file open under this name or another.
+    fn has(&self, name: &str) -> bool {
+        match Identity::of_path(self.rt, name) {
+            Some(it) => self.held.is_used(it),
+            None => false,
+        }
+    }
+
     /// Refuses what is asked for first, if so.
     fn go_on(&mut self) -> io::Result<()> {
         match self.refused.take() {
@@ -119,20 +154,19 @@ impl<'a> HostPlaces<'a> {
         Ok(HostVolume { device })
     }
 
-    fn lengthened(&mut self, name: &str, sectors: u32) -> io::Result<HostVolume>
+    fn lengthened(&mut self, name: &str, sectors: u32, only_new: bool) -> io::Result<HostVolume>
         ensures unused { IfOk result (λ d. d.device.failures ≡ 0) }
-        ensures enough { IfOk result (λ d. min sectors 65536 ≤ length d.device.sectors) }
+        ensures enough { IfOk result (λ d. HasRoom (λ it. length it.device.sectors) file_disk only_new (min sectors 65536) d) }
     {
         self.go_on()?;
         let file = FileDevice::lock_or_make(self.rt, name)?;
         self.held.take_volume(Identity::of(&file)?)?;
-        let device = FileDevice::lengthened(self.rt.alloc(), file, sectors)?;
-        Ok(HostVolume { device })
+        volume_in(self.rt.alloc(), file, sectors, only_new)
     }
 
     /// Opens what gets a volume at the end, which may be the image.
     fn received(&mut self, name: &str) -> io::Result<()> {
-        let it = Replacement::open(self.rt, name)?;
+        let it = self.or_twice(name, Replacement::open(self.rt, name))?;
         self.held.take_volume(it.identity()?)?;
         self.receiver = Some(it);
         Ok(())
@@ -147,14 +181,19 @@ impl<'a> HostPlaces<'a> {
     }
 
     fn opened(&mut self, name: &str) -> io::Result<File> {
-        let file = open_to_read(self.rt, name)?;
+        let file = self.or_twice(name, open_to_read(self.rt, name))?;
+        if file.metadata()?.is_dir() {
+            return Err(io::Error::from(ErrorKind::IsADirectory));
+        }
         self.held.take_input(&file)?;
         Ok(file)
     }
 
-    fn made(&mut self, name: &str) -> io::Result<Output> {
+    fn made(&mut self, name: &str) -> io::Result<Output>
+        ensures { IfOk result (λ it. it.on.is_cut ≡ false) }
+    {
         self.held.contest(Identity::of_path(self.rt, name))?;
-        let file = Output::open(self.rt, name)?;
+        let file = self.or_twice(name, Output::open(self.rt, name))?;
         self.held.take_output(&file)?;
         Ok(file)
     }
@@ -308,8 +347,8 @@ impl<'a> Places for HostPlaces<'a> {
         done
     }
 
-    fn lengthen(&mut self, name: &str, sectors: u32) -> io::Result<HostVolume> {
-        let done = self.lengthened(name, sectors);
+    fn lengthen(&mut self, name: &str, sectors: u32, only_new: bool) -> io::Result<HostVolume> {
+        let done = self.lengthened(name, sectors, only_new);
         self.note(name, &done);
         done
     }

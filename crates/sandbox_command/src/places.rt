@@ -8,7 +8,7 @@ ghost use Rattle.run_report.specs.Reporting.{report_text};
 ghost use Rattle.sandbox_words.specs.Request.{Text};
 ghost use Rattle.sandbox_device.specs.declared.ram_device.RamDevice.{RamDevice as RamDeviceValue};
 ghost use Rattle.sandbox_command.specs.Profiling.{IsProfile};
-ghost use Rattle.sandbox_command.specs.Places.{Access, Cuts, HandsOut, Lengthens, Locks, Makes, Opens, Prints, Reads, Receives};
+ghost use Rattle.sandbox_command.specs.Places.{Access, Cuts, HandsOut, HasRoom, Locks, Makes, Opens, Prints, Reads, Receives, lengthens};
 
 use run_profile::{Names, Profile};
 use run_report::Summary;
@@ -92,13 +92,14 @@ pub trait Places {
         ensures volume { IfOk result (λ device. is_volume name.now device) }
         ensures unused { IfOk result (λ device. Self.Volume.failures device ≡ 0) };
 
-    /// Does the same with a file that is to be formatted: makes it, or lengthens it to these sectors, where that is needed.
-    fn lengthen(&mut self, name: &str, sectors: u32) -> io::Result<Self::Volume>
-        ensures asked { asked (Lengthens name.now sectors) self.old self.new }
-        ensures refused { IfErr result (λ error. refused (Lengthens name.now sectors) (error_kind error) self.old self.new) }
+    /// Does the same with a file that is to be formatted: makes it, or lengthens it to these sectors, where that is needed. Where it is
+    /// to be new, one that begins as a volume stays as it is.
+    fn lengthen(&mut self, name: &str, sectors: u32, only_new: bool) -> io::Result<Self::Volume>
+        ensures asked { asked (lengthens only_new name.now sectors) self.old self.new }
+        ensures refused { IfErr result (λ error. refused (lengthens only_new name.now sectors) (error_kind error) self.old self.new) }
         ensures volume { IfOk result (λ device. is_volume name.now device) }
         ensures unused { IfOk result (λ device. Self.Volume.failures device ≡ 0) }
-        ensures enough { IfOk result (λ device. min sectors 65536 ≤ Self.Volume.size device) };
+        ensures enough { IfOk result (λ device. HasRoom Self.Volume.size Self.Volume.disk only_new (min sectors 65536) device) };
 
     /// Reads the whole sectors of a file, 65,536 at most, and writes nothing to it.
     fn image(&mut self, name: &str) -> io::Result<RamDevice>

@@ -97,7 +97,7 @@ impl Held {
     }
 
     /// Whether a file has any part in this line but that of the image.
-    fn is_used(&self, it: Identity) -> bool {
+    pub(crate) fn is_used(&self, it: Identity) -> bool {
         self.is_written(it)
             || self.streams[0] == Some(it)
             || self.input == Some(it)

@@ -5,6 +5,7 @@ ghost use Rattle.sandbox_command.specs.Streams.{AppendsSome};
 use crate::explaining::{say_meaning, say_part, tell_of_fault, tell_words};
 use crate::inspecting::Served;
 use crate::output::{say, say_name, tell};
+use arrayvec::ArrayVec;
 use meanings::{fault_cure, fault_text};
 use module_survey::{add_function_at, add_refused_import};
 use run_report::Fault;
@@ -132,6 +133,21 @@ fn tell_of_setting<W: Write>(err: &mut W, run: &Run<'_>)
             "at most 64, each with a name of 1 to 255 bytes",
         );
     }
+}
+
+/// Prints which line of a list of tests is none.
+pub(crate) fn tell_of_line<W: Write>(err: &mut W, list: &str, number: usize)
+    ensures { AppendsSome (W.contents err.old) (W.contents err.new) }
+{
+    let mut part = ArrayVec::<u8, 32>::new();
+    let _ = write!(part, "line {number}");
+    tell_of_part(
+        err,
+        list,
+        part.as_slice(),
+        SETTING,
+        "a line is four names of files with one blank between them",
+    );
 }
 
 /// Prints what it means that a run could not begin, whose module has these bytes.

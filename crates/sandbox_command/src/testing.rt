@@ -12,10 +12,12 @@ ghost use Rattle.sandbox_command.specs.internal.Tests.{AllEndAs, BeginsWithNoWor
 ghost use Rattle.sandbox_command.specs.Streams.{AppendsSome};
 
 use crate::closing::{refuse, unread};
+use crate::explaining::{tell_of_fault, tell_words};
 use crate::opening::{memory_of, read_files};
 use crate::output::tell_fault;
 use crate::places::Places;
 use crate::program::{load_status, refuse_file, run_valid, session_status};
+use crate::refusals::{tell_of_line, tell_of_refusal};
 use crate::reporting::session_reason;
 use crate::stopping::{lines_of, no_lines};
 use crate::streams::Streams;
@@ -240,13 +242,59 @@ fn run_all<'m, P: Places>(
     have_run
 }
 
-/// Prints the line of what refuses all tests, and gives the status.
-fn refuse_all<W: Write>(err: &mut W, fault: SessionFault) -> u8
+/// Prints the line of what refuses all tests of a module of these bytes, and what it means.
+fn refuse_all<W: Write>(alloc: Global, err: &mut W, run: &Run<'_>, module: &[u8], fault: Fault)
+    ensures { AppendsSome (W.contents err.old) (W.contents err.new) }
+{
+    tell_fault(err, fault);
+    tell_of_refusal(alloc, err, run, module, fault);
+}
+
+/// The number of the first line of a list that is no test, from 1 on.
+fn wrong_line(list: &str) -> Option<usize> {
+    let mut number: usize = 0;
+    for line in list.lines() {
+        number = number.saturating_add(1);
+        if test_of(line).is_none() {
+            return Some(number);
+        }
+    }
+    None
+}
+
+/// Prints which line of a list is no test, or what else the fault of a list means.
+fn tell_of_list<W: Write>(err: &mut W, list: &str, text: &str, fault: Fault)
+    ensures { AppendsSome (W.contents err.old) (W.contents err.new) }
+{
+    match (fault, wrong_line(text)) {
+        (Fault::Setting, Some(number)) => tell_of_line(err, list, number),
+        _ => tell_of_fault(err, list, fault),
+    }
+}
+
+/// Prints the line of a list that isn't taken, and what it means, and gives the status.
+fn refuse_list<W: Write>(err: &mut W, list: &str, text: &str, fault: SessionFault) -> u8
     ensures status { result ≡ session_status fault }
     ensures line { AppendsSome (W.contents err.old) (W.contents err.new) }
 {
     tell_fault(err, session_reason(fault));
+    tell_of_list(err, list, text, session_reason(fault));
     session_status(fault)
+}
+
+/// Prints that not each test has run, and gives the status.
+fn refuse_tests<W: Write>(err: &mut W, run: &Run<'_>) -> u8
+    ensures status { result ≡ 124 }
+    ensures line { AppendsSome (W.contents err.old) (W.contents err.new) }
+{
+    let status = refuse_file(err);
+    tell_words(
+        err,
+        run.tests.unwrap_or("the list"),
+        "a test of it has not run, or has no report",
+        "the reports say which, and why",
+    );
+    status
 }
 
 /// Decodes a module and runs it on these tests, and gives the status.
@@ -264,7 +312,10 @@ fn run_tests<P: Places, W: Write>(
 {
     let supplies = match supplied(alloc, run) {
         Ok(supplies) => supplies,
-        Err(fault) => return refuse_all(err, fault),
+        Err(fault) => {
+            refuse_all(alloc, err, run, module, session_reason(fault));
+            return session_status(fault);
+        }
     };
     match sandbox_core::load(alloc, module) {
         Ok(valid) => {
@@ -272,10 +323,10 @@ fn run_tests<P: Places, W: Write>(
             if run_all(alloc, places, run, valid, &supplies, files, tests) {
                 return 0;
             }
-            refuse_file(err)
+            refuse_tests(err, run)
         }
         Err(fault) => {
-            tell_fault(err, Fault::Module(fault));
+            refuse_all(alloc, err, run, module, Fault::Module(fault));
             load_status(fault)
         }
     }
@@ -324,7 +375,7 @@ fn run_lines<P: Places, W: Write>(
             tests.as_slice(),
             err,
         ),
-        Err(fault) => refuse_all(err, fault),
+        Err(fault) => refuse_list(err, list, text.as_str(), fault),
     }
 }
 

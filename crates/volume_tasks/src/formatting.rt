@@ -12,7 +12,7 @@ use vol_sector::{Device, DeviceFault, Refused, VolumeFault};
 use vol_tree::Errno;
 
 /// The bytes that a volume begins with.
-const MAGIC: [u8; 8] = *b"WASMVOLU";
+pub const MAGIC: [u8; 8] = *b"WASMVOLU";
 
 /// Makes the first sectors of a device an empty volume of version 2, and gives the device back.
 fn format_large<D: Device>(

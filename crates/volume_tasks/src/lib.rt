@@ -20,7 +20,7 @@ mod volume_path;
 
 pub use exporting::{ExportFailure, export_from};
 pub use failure::Failure;
-pub use formatting::{format_as, format_where};
+pub use formatting::{MAGIC, format_as, format_where};
 pub use importing::{ImportFailure, import_into};
 pub use laws::removed_tree_takes_all_below;
 pub use opening::{FRESH_SECTORS, open_for_run};

@@ -55,7 +55,7 @@ returns-clause-runs g c =
         is_its_module = read.is_its_module;
         is_its_random = read.is_its_random;
       };
-      runs = elim (unlisted c.as_str.result.now c.in-Err-tests_of.fault c.refuse_all.result c.refuse_all.ensures.status c.in-Err-tests_of.ensures.refused) [
+      runs = elim (unlisted c.as_str.result.now c.in-Err-tests_of.fault c.refuse_list.result c.refuse_list.ensures.status c.in-Err-tests_of.ensures.refused) [
         | inl setting ↦ inl (setting.0, setting.1, refl)
         | inr memory ↦ inr (inl (memory, refl))
       ];

@@ -10,8 +10,8 @@ use Rattle.sandbox_command.proofs.testing.run_tests.Goals as goal
 pub returns-in-Err-clause-runs : goal.returns-in-Err-clause-runs
 returns-in-Err-clause-runs g c =
     inl (
-      Some (not_run c.args.run.now (session_reason c.in-Err.fault) kept.None c.refuse_all.result),
-      record { fault = c.in-Err.fault; uncut = c.in-Err.ensures.refused; ends = c.refuse_all.ensures.status; summary_is = refl },
+      Some (not_run c.args.run.now (session_reason c.in-Err.fault) kept.None c.session_status.result),
+      record { fault = c.in-Err.fault; uncut = c.in-Err.ensures.refused; ends = c.session_status.ensures; summary_is = refl },
       refl,
     )
 
@@ -41,7 +41,7 @@ returns-in-Ok-load-clause-runs g c =
       found.0,
       found.1,
       inr (
-        c.refuse_file.ensures.status,
+        c.refuse_tests.ensures.status,
         failed_some
             (HasRun g.P.Places g.P.Input.Read g.P.Output.Write c.args.run.now c.args.«module».now c.in-Ok-load.valid c.args.random.now)
             (HasFailed g.P.Places g.P.Input.Read g.P.Output.Write c.args.run.now c.args.«module».now c.in-Ok-load.valid c.args.random.now)

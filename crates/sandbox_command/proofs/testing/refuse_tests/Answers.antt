@@ -1,0 +1,7 @@
+use Rattle.sandbox_command.proofs.Lines.{lines_then}
+use Rattle.sandbox_command.proofs.testing.refuse_tests.Goals as goal
+
+pub returns-clause-line : goal.returns-clause-line
+returns-clause-line g c =
+    let errs = g.W.Write.contents in
+    lines_then (errs c.args.err.now) (errs c.refuse_file-status.new.err) (errs c.tell_words.new.err) c.refuse_file-status.ensures.line c.tell_words.ensures
