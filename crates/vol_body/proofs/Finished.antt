@@ -63,7 +63,7 @@ module _ (place offset : ℕ) (bytes first last spelled : List ℕ) (a b : Alloc
   same : IsSameFile between after changed
   same = same_file between after changed (entry_elsewhere b between after changed place spelled changes.ready.taken slot_now is)
 
-  part_stays : (j : ℕ) → j < 16570 → block_bytes after (named after changed (data_block j)) ≡ block_bytes between (named between changed (data_block j))
+  part_stays : (j : ℕ) → j < 2113722 → block_bytes after (named after changed (data_block j)) ≡ block_bytes between (named between changed (data_block j))
   part_stays j lt =
       ap (block_bytes after) (same.names (data_block j) lt)
       ∙ same_bytes between after (named between changed (data_block j)) (entry_elsewhere b between after changed place spelled changes.ready.taken slot_now is (data_block j) lt)
@@ -123,6 +123,5 @@ module _ (place offset : ℕ) (bytes first last spelled : List ℕ) (a b : Alloc
           (zeros_beyond content after e changed offset bytes first last write body changed_size);
       others = others_leave;
       taken = taken_leaves;
-      last = changes.last;
       count = count_leaves;
     }
