@@ -215,7 +215,7 @@ module _ (content after : Image) (e : Entry) (n m r : ℕ) (naming : IsNaming co
       let there = double_below i lt in
       let doubles = double_names holder there is (λ equal. cc) in
       let one : named after e (inner_block i) ≡ n = new_number holder (i % 128) (doubles (i / 128) ∙ is) (sym at) in
-      let in_lists = λ (k : ℕ) (below : k < 16512) (not : inner_block k ≡ inner_block i → ⊥). elim (cases_eq (k / 128) (i / 128)) [
+      let in_lists : (k : ℕ) → k < 16512 → (inner_block k ≡ inner_block i → ⊥) → number_in after (named after e (double_indirect_block (k / 128))) (k % 128) ≡ number_in content (named content e (double_indirect_block (k / 128))) (k % 128) = λ k below not. elim (cases_eq (k / 128) (i / 128)) [
         | inl equal ↦
             let here : named content e (double_indirect_block (k / 128)) ≡ m = ap (λ (x : ℕ). named content e (double_indirect_block x)) equal ∙ is in
             old_numbers (double_indirect_block (k / 128)) (k % 128) here (doubles (k / 128)) (omega arith) (λ same. not (ap inner_block (omega (arith, same, at, equal))))

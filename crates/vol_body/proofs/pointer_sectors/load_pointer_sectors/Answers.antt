@@ -75,14 +75,14 @@ load_late-requires g c =
       working = third.failed;
     }
 
-pub returns-in_err-load_late : goal.returns-in_err-load_late
-returns-in_err-load_late g c =
-    let r = c.from_residual-in_err-load_late.result in
-    let is_err_now = c.from_residual-in_err-load_late.ensures.0 in
+pub returns-in_err-next_double : goal.returns-in_err-next_double
+returns-in_err-next_double g c =
+    let r = c.from_residual-in_err-next_double.result in
+    let is_err_now = c.from_residual-in_err-next_double.ensures.0 in
     let first = c.in_ok-triple.ensures in
     let second = c.in_ok-double.ensures in
     let third = c.in_ok-early.ensures in
-    let e = c.in_err-load_late.ensures in
+    let e = c.in_err-next_double.ensures in
     record {
       right = λ h names. IfOk-from_err r _ is_err_now;
       known = IfOk-from_err r _ is_err_now;
@@ -102,11 +102,10 @@ returns-clause-right g c h names =
     let first = c.in_ok-triple.ensures in
     let second = c.in_ok-double.ensures in
     let third = c.in_ok-early.ensures in
-    let fourth = c.in_ok-load_late.ensures in
+    let fourth = c.in_ok-next_double.ensures in
     let triple = c.in_ok-triple.triple in
     let double = c.in_ok-double.double in
     let early = c.in_ok-early.early in
-    let both = c.in_ok-load_late.field-0 in
     let one : view c.load_triple.new.log ≡ content = first.reads.view h in
     let one_honest = first.reads.honest.0 h in
     let two : view c.load_double.new.log ≡ content = second.reads.view one_honest ∙ one in
@@ -127,13 +126,13 @@ returns-clause-right g c h names =
     let names_then = subst (λ (m : Image). NamesTaken taken m e) (sym three) names in
     let triple_then = λ (further : 16570 ≤ last). mirrors_in e triple_indirect_block triple.number triple.image (sym three) (has_triple further) in
     let has_next = λ (differ : double_of (group + 1) ≢ double_of group) (reaches : 186 + 16384 * double_of (group + 1) ≤ last).
-    mirrors_in e (double_indirect_block (double_of (group + 1))) both.0.number both.0.image three (fourth.next three_honest names_then triple_then differ reaches) in
+    mirrors_in e (double_indirect_block (double_of (group + 1))) c.in_ok-next_double.next_double.number c.in_ok-next_double.next_double.image three (fourth.next three_honest names_then triple_then differ reaches) in
     let has_late = λ (reaches : 58 + 128 * (group + 1) ≤ last).
-    mirrors_in e (segment (group + 1)) both.1.number both.1.image three
+    mirrors_in e (segment (group + 1)) c.in_ok-next_double.late.number c.in_ok-next_double.late.image three
     (fourth.late three_honest names_then triple_then (λ further. mirrors_in e (double_indirect_block (double_of group)) double.number double.image (sym three) (has_double further)) reaches) in
     let B = λ (s : ℕ). (186 + 16384 * double_of s ≤ last → Mirrors content e (double_indirect_block (double_of s)) double.number double.image)
-    × (double_of (s + 1) ≢ double_of s → 186 + 16384 * double_of (s + 1) ≤ last → Mirrors content e (double_indirect_block (double_of (s + 1))) both.0.number both.0.image)
-    × (58 + 128 * s ≤ last → Mirrors content e (segment s) early.number early.image) × (58 + 128 * (s + 1) ≤ last → Mirrors content e (segment (s + 1)) both.1.number both.1.image) in
+    × (double_of (s + 1) ≢ double_of s → 186 + 16384 * double_of (s + 1) ≤ last → Mirrors content e (double_indirect_block (double_of (s + 1))) c.in_ok-next_double.next_double.number c.in_ok-next_double.next_double.image)
+    × (58 + 128 * s ≤ last → Mirrors content e (segment s) early.number early.image) × (58 + 128 * (s + 1) ≤ last → Mirrors content e (segment (s + 1)) c.in_ok-next_double.late.number c.in_ok-next_double.late.image) in
     let all = subst B is_group (has_double, has_next, has_early, has_late) in
     record {
       triple = has_triple;
@@ -147,9 +146,9 @@ pub returns-clause-known : goal.returns-clause-known
 returns-clause-known g c = record {
   triple = c.in_ok-triple.ensures.known;
   double = c.in_ok-double.ensures.known;
-  next_double = c.in_ok-load_late.ensures.known.0;
+  next_double = c.in_ok-next_double.ensures.known.0;
   early = c.in_ok-early.ensures.known;
-  late = c.in_ok-load_late.ensures.known.1;
+  late = c.in_ok-next_double.ensures.known.1;
 }
 
 pub returns-clause-reads : goal.returns-clause-reads
@@ -158,7 +157,7 @@ returns-clause-reads g c =
     let second = c.in_ok-double.ensures in
     let third = c.in_ok-early.ensures in
     reads_then c.args.log.now c.load_segment.new.log c.load_late.new.log third.failed (reads_then c.args.log.now c.load_double.new.log c.load_segment.new.log second.failed
-    (reads_then c.args.log.now c.load_triple.new.log c.load_double.new.log first.failed first.reads second.reads) third.reads) c.in_ok-load_late.ensures.reads
+    (reads_then c.args.log.now c.load_triple.new.log c.load_double.new.log first.failed first.reads second.reads) third.reads) c.in_ok-next_double.ensures.reads
 
 pub returns-clause-failed : goal.returns-clause-failed
-returns-clause-failed g c = c.in_ok-load_late.ensures.failed
+returns-clause-failed g c = c.in_ok-next_double.ensures.failed

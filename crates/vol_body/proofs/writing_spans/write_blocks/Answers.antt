@@ -103,7 +103,7 @@ returns g c =
           (λ some later. double_one (omega (arith, some, later, middle_from, middle_to, c.saturating_sub-group.ensures)))
           (λ some later. triple_one (omega (arith, some, later, middle_from, middle_to, c.saturating_sub-group.ensures))) in
           let size2 : blocks_for_size e2.size ≡ blocks_for_size e1.size = ap blocks_for_size two.0.size in
-          let double_next = λ (reaches : 186 + 16384 * m ≤ last). elim (cases_eq m k) [
+          let double_next : 186 + 16384 * m ≤ last → Mirrors c2 e2 (double_indirect_block m) double_three.number double_three.image = λ reaches. elim (cases_eq m k) [
             | inl same ↦
                 let is = c.take_next.ensures.same same in
                 subst (λ (x : PointerSector). Mirrors c2 e2 (double_indirect_block m) x.number x.image) (sym is)
