@@ -106,6 +106,16 @@ listed_before content of_list end image some is before numbers known i lt =
     within : (n : ℕ) → n < end → (if nat_lt n end then n else 0) ≡ n
     within n below = grind (arith, nat_tests)
 
+-- what the inner blocks of a double-indirect block lose, by its numbers as they were read
+pub frees_inner : (a b : ℕ → Bool) (content now : Image) (n start count end other : ℕ) (image : List ℕ) (numbers : ℕ → ℕ) → n ≢ 0 → image ≡ content n → end ≡ other
+    → ((i : ℕ) → i < 128 → number_in content n i ≢ 0 → number_in content n i < other)
+    → ((i : ℕ) → i < 128 → numbers i ≡ (if nat_lt (little_number 4 (drop (4 * i) image)) end then little_number 4 (drop (4 * i) image) else 0))
+    → now ≡ content → Frees a b (IsFreedWithLater now numbers start count 128) → Frees a b (IsFreedWithLater content (number_in content n) start count 128)
+frees_inner a b content now n start count end other image numbers some is same before known view frees =
+    frees_lists a b content numbers (number_in content n) start count
+    (listed_before content n end image some is (λ i lt there. subst (λ (k : ℕ). number_in content n i < k) (sym same) (before i lt there)) numbers known)
+    (subst (λ (m : Image). Frees a b (IsFreedWithLater m numbers start count 128)) view frees)
+
 -- such a number is before the end, whatever the sector has
 pub before_end : (n end k : ℕ) → k ≡ (if nat_lt n end then n else 0) → k ≢ 0 → k < end
 before_end n end k is some = elim (cases_lt n end) [

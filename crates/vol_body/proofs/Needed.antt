@@ -40,9 +40,16 @@ long_parts count = length-map-range_with_len data_block 0 count
 -- so many of one kind
 all_of_it : (count : ℕ) → length ((((parts_to count ++ indirect_to count) ++ inner_to count) ++ double_to count) ++ triple_to count)
     ≡ count + length (indirect_to count) + inner_blocks_for (count - 186) + double_blocks_for (count - 186) + length (triple_to count)
-all_of_it count = omega (arith, length-append (parts_to count) (indirect_to count), length-append (parts_to count ++ indirect_to count) (inner_to count),
-    length-append ((parts_to count ++ indirect_to count) ++ inner_to count) (double_to count), length-append (((parts_to count ++ indirect_to count) ++ inner_to count) ++ double_to count) (triple_to count),
-    long_parts count, length-map-range_with_len inner_block 0 (inner_blocks_for (count - 186)), length-map-range_with_len double_indirect_block 0 (double_blocks_for (count - 186)))
+all_of_it count = omega (
+  arith,
+  length-append (parts_to count) (indirect_to count),
+  length-append (parts_to count ++ indirect_to count) (inner_to count),
+  length-append ((parts_to count ++ indirect_to count) ++ inner_to count) (double_to count),
+  length-append (((parts_to count ++ indirect_to count) ++ inner_to count) ++ double_to count) (triple_to count),
+  long_parts count,
+  length-map-range_with_len inner_block 0 (inner_blocks_for (count - 186)),
+  length-map-range_with_len double_indirect_block 0 (double_blocks_for (count - 186)),
+)
 
 pub length-positions_of : (size : ℕ) → length (positions_of size) ≡ need_of size
 length-positions_of size = by_count (blocks_for_size size)

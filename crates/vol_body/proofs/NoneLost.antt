@@ -126,7 +126,7 @@ place_of count triple_indirect_block = length (((parts_to count ++ indirect_to c
 
 numbered_either : (number : BlockPosition → ℕ) (a : ℕ) (b : Bool) (p : BlockPosition) → number p ≡ a → Numbered number a (if b then p ∷ [] else [])
 unfolding Numbered
-numbered_either number a true p is = numbered_one number a p is
+numbered_either number a true p is k lt = numbered_one number a p is k lt
 numbered_either number a false p is k lt = absurd (omega (arith, lt))
 
 numbered_by_count : (count : ℕ) → Numbered (place_of count) 0 ((((parts_to count ++ indirect_to count) ++ inner_to count) ++ double_to count) ++ triple_to count)

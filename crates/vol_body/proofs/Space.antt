@@ -132,8 +132,13 @@ count_grown f a b le =
   where
     parted : (c : ℕ) → count_by f ((((parts_to c ++ indirect_to c) ++ inner_to c) ++ double_to c) ++ triple_to c)
         ≡ count_by f (parts_to c) + count_by f (indirect_to c) + count_by f (inner_to c) + count_by f (double_to c) + count_by f (triple_to c)
-    parted c = omega (arith, count_append f (((parts_to c ++ indirect_to c) ++ inner_to c) ++ double_to c) (triple_to c), count_append f ((parts_to c ++ indirect_to c) ++ inner_to c) (double_to c),
-        count_append f (parts_to c ++ indirect_to c) (inner_to c), count_append f (parts_to c) (indirect_to c))
+    parted c = omega (
+      arith,
+      count_append f (((parts_to c ++ indirect_to c) ++ inner_to c) ++ double_to c) (triple_to c),
+      count_append f ((parts_to c ++ indirect_to c) ++ inner_to c) (double_to c),
+      count_append f (parts_to c ++ indirect_to c) (inner_to c),
+      count_append f (parts_to c) (indirect_to c),
+    )
 
     either : (f : BlockPosition → Bool) (n a b : ℕ) (p : BlockPosition) → a ≤ b → count_by f (if nat_lt n a then p ∷ [] else []) ≤ count_by f (if nat_lt n b then p ∷ [] else [])
     either f n a b p le = elim (cases_lt n a) [

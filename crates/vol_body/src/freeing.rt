@@ -17,9 +17,7 @@ use crate::holding::{Held, read_unless_held};
 use crate::locate::{Numbers, number_at, taken_or_zero};
 use crate::pointer_sectors::PointerSector;
 use vol_alloc::Alloc;
-use vol_inode::{
-    DIRECT, DOUBLE_INDIRECT, Entry, INDIRECT, LISTED, NUMBERS, SERVED, TWICE_LISTED,
-};
+use vol_inode::{DIRECT, DOUBLE_INDIRECT, Entry, INDIRECT, LISTED, NUMBERS, SERVED, TWICE_LISTED};
 use vol_log::Log;
 use vol_sector::{Device, DeviceFault};
 

@@ -15,8 +15,8 @@ ghost use Rattle.vol_body.specs.internal.Writing.{Mirrors, MirrorsAll, KnowsAll,
 use crate::locate::{number_at, read_taken, taken_or_zero};
 use vol_alloc::Alloc;
 use vol_inode::{
-    DIRECT, DOUBLE_INDIRECT, Entry, INDIRECT, LISTED, NUMBERS, SERVED, TRIPLE_INDIRECT, TWICE_LISTED,
-    put_number,
+    DIRECT, DOUBLE_INDIRECT, Entry, INDIRECT, LISTED, NUMBERS, SERVED, TRIPLE_INDIRECT,
+    TWICE_LISTED, put_number,
 };
 use vol_log::Log;
 use vol_sector::{Device, DeviceFault};

@@ -18,7 +18,8 @@ ghost use Rattle.vol_inode.specs.declared.version.TheConstants.{LARGEST_SIZE};
 
 use crate::locate::{Numbers, number_at};
 use vol_inode::{
-    DIRECT, DOUBLE_INDIRECT, Entry, INDIRECT, LISTED, NUMBERS, SERVED, TRIPLE_INDIRECT, TWICE_LISTED,
+    DIRECT, DOUBLE_INDIRECT, Entry, INDIRECT, LISTED, NUMBERS, SERVED, TRIPLE_INDIRECT,
+    TWICE_LISTED,
 };
 use vol_log::Log;
 use vol_sector::{Damage, Device, DeviceFault, Rule, VolumeFault};

@@ -1,13 +1,12 @@
-use Rattle.std.proofs.Common.{◌≡◌, ◌≢◌, ◌∙◌, ◌⊎◌, ◌≤◌, ◌<◌, inl, inr, ⊎_elim, ℕ, slice_index, refl, sym, ap, subst, arith}
+use Rattle.std.proofs.Common.{◌≡◌, ◌∙◌, ◌⊎◌, ◌≤◌, ◌<◌, inl, inr, ⊎_elim, ℕ, slice_index, refl, sym, ap, subst, arith}
 use Rattle.std.proofs.lemmas.Result.{IfOk-from_err}
 use Rattle.vol_sector.specs.Disk.{Image}
-use Rattle.vol_log.specs.Log.{view, device_of}
+use Rattle.vol_log.specs.Log.{view}
 use Rattle.vol_log.proofs.Readings.{reads_same, reads_then}
 use Rattle.vol_alloc.specs.Alloc.{first_of, end_of, taken_of}
 use Rattle.vol_body.specs.Body.{number_in, block_bytes}
 use Rattle.vol_body.specs.internal.Truncated.{Frees, IsFreedWithLater, IsFreedWithDouble}
-use Rattle.vol_body.proofs.Freed.{frees_none, frees_then, frees_these, frees_lists, listed_before, before_end, no_double, kept_double, none_taken}
-use Rattle.vol_body.proofs.freeing.free_double_indirect_block.Given.{Over}
+use Rattle.vol_body.proofs.Freed.{frees_none, frees_then, frees_these, frees_inner, before_end, no_double, kept_double, none_taken}
 use Rattle.vol_body.proofs.freeing.free_double_indirect_block.Goals as goal
 
 pub returns-then-double_indirect_block-eq0 : goal.returns-then-double_indirect_block-eq0
@@ -20,10 +19,10 @@ returns-then-double_indirect_block-eq0 g c = record {
   failed = c.requires.working;
 }
 
-pub returns-then-count : goal.returns-then-count
-returns-then-count g c = record {
+pub returns-then-start-count : goal.returns-then-start-count
+returns-then-start-count g c = record {
   frees = λ h top above names. frees_none (taken_of c.args.sectors.now) (IsFreedWithDouble (view c.args.log.now) c.args.double_indirect_block c.args.start c.args.count)
-      (λ n goes taken. kept_double (view c.args.log.now) c.args.double_indirect_block c.args.start c.args.count n (omega (arith, c.if-count.true)) goes);
+      (λ n goes taken. kept_double (view c.args.log.now) c.args.double_indirect_block c.args.start c.args.count n (omega (arith, c.if-start-count.true)) goes);
   range = (refl, refl);
   reads = reads_same c.args.log.now;
   failed = c.requires.working;
@@ -65,33 +64,20 @@ returns-in_err-free_inner_blocks g c =
       failed = e.failed ∙ sym is_err_now;
     }
 
--- what the inner blocks lose
-later : (g : Over) (c : goal.After-free_inner_blocks g) → g.D.Device.honest (device_of c.args.log.now) → c.args.held.now.top.image ≡ block_bytes (view c.args.log.now) c.args.held.now.top.number
-    → c.args.held.now.above.image ≡ block_bytes (view c.args.log.now) c.args.held.now.above.number
-    → ((i : ℕ) → i < 128 → number_in (view c.args.log.now) c.args.double_indirect_block i ≢ 0 → number_in (view c.args.log.now) c.args.double_indirect_block i < end_of c.args.sectors.now)
-    → Frees (taken_of c.args.sectors.now) (taken_of c.free_inner_blocks.new.sectors) (IsFreedWithLater (view c.args.log.now) (number_in (view c.args.log.now) c.args.double_indirect_block) c.args.start c.args.count 128)
-later g c h top above names =
-    let content = view c.args.log.now in
-    let first = c.in_ok-image.ensures in
-    let a = taken_of c.args.sectors.now in
-    let b = taken_of c.free_inner_blocks.new.sectors in
-    let numbers = slice_index c.numbers_before-numbers.result in
-    let n = c.args.double_indirect_block in
-    let same = listed_before content n c.end.result c.in_ok-image.image c.if-double_indirect_block-eq0.false (first.bytes h top) (λ i lt some. subst (λ (k : ℕ). number_in content n i < k) (sym c.end.ensures) (names i lt some)) numbers c.numbers_before-numbers.ensures in
-    frees_lists a b content numbers (number_in content n) c.args.start c.args.count same
-    (subst (λ (m : Image). Frees a b (IsFreedWithLater m numbers c.args.start c.args.count 128)) (first.reads.view h)
-    (c.in_ok-free_inner_blocks.ensures.frees (first.reads.honest.0 h) (above ∙ sym (ap (λ (m : Image). block_bytes m c.args.held.now.above.number) (first.reads.view h)))))
-
 pub returns-then-count-start : goal.returns-then-count-start
 returns-then-count-start g c = record {
   frees = λ h top above names.
       let a = taken_of c.args.sectors.now in
       let b = taken_of c.free_inner_blocks.new.sectors in
       let d = taken_of c.free_taken.new.sectors in
+      let content = view c.args.log.now in
+      let first = c.in_ok-image.ensures in
       let n = c.args.double_indirect_block in
       let P = IsFreedWithLater (view c.args.log.now) (number_in (view c.args.log.now) n) c.args.start c.args.count 128 in
       frees_these a d (λ k. P k ⊎ (k ≡ n)) (IsFreedWithDouble (view c.args.log.now) n c.args.start c.args.count)
-      (frees_then a b d P (λ k. k ≡ n) (later g c h top above names) c.free_taken.ensures.frees)
+      (frees_then a b d P (λ k. k ≡ n) (frees_inner a b content (view c.read_unless_held.new.log) n c.args.start c.args.count c.end.result (end_of c.args.sectors.now) c.in_ok-image.image (slice_index c.numbers_before-numbers.result) c.if-double_indirect_block-eq0.false
+      (first.bytes h top) c.end.ensures names c.numbers_before-numbers.ensures (first.reads.view h)
+      (c.in_ok-free_inner_blocks.ensures.frees (first.reads.honest.0 h) (above ∙ sym (ap (λ (m : Image). block_bytes m c.args.held.now.above.number) (first.reads.view h))))) c.free_taken.ensures.frees)
       (λ k either. ⊎_elim (λ s. inl s) (λ is. inr (c.if-count-start.true, sym is)) either)
       (λ k either. ⊎_elim (λ s. inl s) (λ s. inr (sym s.1)) either);
   range = (c.free_taken.ensures.range.0 ∙ c.in_ok-free_inner_blocks.ensures.range.0, c.free_taken.ensures.range.1 ∙ c.in_ok-free_inner_blocks.ensures.range.1);
@@ -104,9 +90,13 @@ returns-else-count-start g c = record {
   frees = λ h top above names.
       let a = taken_of c.args.sectors.now in
       let b = taken_of c.free_inner_blocks.new.sectors in
+      let content = view c.args.log.now in
+      let first = c.in_ok-image.ensures in
       let n = c.args.double_indirect_block in
       let P = IsFreedWithLater (view c.args.log.now) (number_in (view c.args.log.now) n) c.args.start c.args.count 128 in
-      frees_these a b P (IsFreedWithDouble (view c.args.log.now) n c.args.start c.args.count) (later g c h top above names)
+      frees_these a b P (IsFreedWithDouble (view c.args.log.now) n c.args.start c.args.count) (frees_inner a b content (view c.read_unless_held.new.log) n c.args.start c.args.count c.end.result (end_of c.args.sectors.now) c.in_ok-image.image (slice_index c.numbers_before-numbers.result) c.if-double_indirect_block-eq0.false
+      (first.bytes h top) c.end.ensures names c.numbers_before-numbers.ensures (first.reads.view h)
+      (c.in_ok-free_inner_blocks.ensures.frees (first.reads.honest.0 h) (above ∙ sym (ap (λ (m : Image). block_bytes m c.args.held.now.above.number) (first.reads.view h)))))
       (λ k s. inl s)
       (λ k either. ⊎_elim (λ s. s) (λ s. absurd (omega (arith, s.0, c.if-count-start.false))) either);
   range = c.in_ok-free_inner_blocks.ensures.range;

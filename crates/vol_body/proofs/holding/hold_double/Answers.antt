@@ -21,8 +21,8 @@ returns-in_err-held g c =
       failed = e.failed ∙ sym is_err_now;
     }
 
-pub returns-then-d-double_of : goal.returns-then-d-double_of
-returns-then-d-double_of g c =
+pub returns-in_ok-held : goal.returns-in_ok-held
+returns-in_ok-held g c =
     let e = c.in_ok-held.ensures in
     record {
       top = λ h names is_held reaches. e.right h names reaches is_held.triple;

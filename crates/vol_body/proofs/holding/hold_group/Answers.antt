@@ -58,7 +58,7 @@ returns g c =
     let first = c.in_ok-hold_double.ensures in
     let second = c.in_ok-held.ensures in
     let now = c.hold_double.new.held in
-    let above = c.in_ok-held.held in
+    let above = c.in_ok-held.field-0 in
     record {
       held = λ h names was.
           let one : view c.hold_double.new.log ≡ content = first.reads.view h in

@@ -110,8 +110,7 @@ returns-then-triple-ne0 g c =
           let zeros : above.image ≡ replicate 512 0 = held_zeros c1 e1 p above.number above.image still c.if-double-eq0.true in
           let added = c.add_number-double.ensures.added e1 triple_indirect_block p (omega (arith, c.if-d-eq0.false)) tt below (blank_zeros p) missing top.mirror in
           let changes = changes_then a b d c0 c1 c2 e0 e1 e1 (λ x. x ≡ triple_indirect_block) (λ x. (x ≡ p) ⊎ (x ≡ triple_indirect_block)) (λ x. (x ≡ p) ⊎ (x ≡ triple_indirect_block)) c.requires.can.after_log c.open_pointer-2.ensures.range c.add_number-double.ensures.range
-          (λ x same. inr same) (λ x touched. touched) top.changes added.0.changes in
-          (
+          (λ x same. inr same) (λ x touched. touched) top.changes added.0.changes in (
             record { changes = changes; mirror = subst (λ (image : List ℕ). Mirrors c2 e1 p c.add_number-double.result image) (sym zeros) added.0.mirror; some = added.0.some },
             λ held. added.1,
           );
@@ -148,8 +147,7 @@ returns-else-double-eq0 g c =
           let some : above.number ≢ 0 = λ zero. elim c.else-double-eq0.branch [
             | else-double-eq0-via-then-double-eq0+else-triple-ne0 w ↦ top.some w.if-triple-ne0.false
             | else-double-eq0-via-else-double-eq0 w ↦ w.if-double-eq0.false zero
-          ] in
-          (
+          ] in (
             record { changes = changes_wider a b c0 c1 e0 e1 (λ x. x ≡ triple_indirect_block) (λ x. (x ≡ p) ⊎ (x ≡ triple_indirect_block)) (λ x same. inr same) top.changes; mirror = still; some = some },
             λ held. top.mirror,
           );
