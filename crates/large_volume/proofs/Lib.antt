@@ -1,1 +1,3 @@
+-- What crates above cite.
+pub mod Going
 mod Made

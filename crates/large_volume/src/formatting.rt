@@ -1,7 +1,8 @@
 //! Making a device an empty volume of version 2.
 
-ghost use Rattle.std.specs.Prelude.{◌≡◌, false};
-ghost use Rattle.large_volume.specs.Large.{MakesLarge};
+ghost use Rattle.std.specs.Prelude.{◌≡◌, ◌≤◌, ◌⊎◌, ℕ, false};
+ghost use Rattle.vol_sector.specs.Past.{StillGoesOn};
+ghost use Rattle.large_volume.specs.Large.{MakesLarge, device_in};
 ghost use Rattle.large_volume.specs.internal.Raising.{Raises};
 
 use std::alloc::Global;
@@ -11,7 +12,9 @@ use vol_tree::Volume;
 /// Makes an open volume one of version 2, and gives its device back.
 fn raise<D: Device>(mut volume: Volume<D>) -> Result<D, Refused<D>>
     requires { volume.failed ≡ false }
-    ensures { Raises D.honest D.disk D.size D.failures volume result }
+    ensures raises { Raises D.honest D.disk D.size D.failures volume result }
+    ensures goes_on { (end : ℕ) → volume.numbers.sectors ≤ end
+        → StillGoesOn (D.goes_on end) volume.device (device_in result) }
 {
     match volume.upgrade() {
         Ok(()) => Ok(volume.into_device()),
@@ -35,7 +38,10 @@ pub fn format_large<D: Device>(
     sectors: u32,
     slots: u32,
 ) -> Result<D, Refused<D>>
-    ensures { MakesLarge D.honest D.disk D.size D.failures device sectors slots result }
+    ensures makes { MakesLarge D.honest D.disk D.size D.failures device sectors slots result }
+    // What the device has past the volume's sectors isn't written.
+    ensures goes_on { (end : ℕ) → (sectors ≤ end) × (D.honest device ⊎ (D.size device ≤ end))
+        → StillGoesOn (D.goes_on end) device (device_in result) }
 {
     let device = match Volume::format(device, sectors, slots) {
         Ok(device) => device,

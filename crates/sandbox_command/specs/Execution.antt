@@ -26,6 +26,7 @@ use Rattle.volume_tasks.specs.Exporting.{PerformsExport}
 use Rattle.run_report.specs.declared.fault.Fault.TheVariants as reason
 use Rattle.run_report.specs.declared.summary.Kept.TheVariants as kept
 use Rattle.run_report.specs.declared.summary.Summary.{Summary}
+use Rattle.volume_tasks.specs.Going.{FormatsWithin, KeepsWithin}
 use Rattle.volume_tasks.specs.Formatting.{FormatsWhere}
 use Rattle.sandbox_command.specs.Reporting.{kept_where_refused, not_run, session_reason, volume_of}
 use Rattle.volume_tasks.specs.Doing.{Performs}
@@ -120,3 +121,10 @@ module _ {D R W1 W2 : Type 0} (is_honest : D → Type 0) (disk : D → Disk) (se
       × PerformsExport is_honest disk sectors_on failures path.now device (out_contents out) (out_contents left.out) left.device done
       × (left.status ≡ ended_status export_status done left.flushed) × (left.summary ≡ None)
       × (left.input ≡ input) × AppendsSome (err_contents err) (err_contents left.err)
+
+-- No sector of the device past its volume was written: past the one that it was made, or that stood on it.
+abbrev pub StaysWithin : {D : Type 0} → (D → Type 0) → (D → Disk) → (D → ℕ) → (ℕ → D → D → Type 0) → VolumeWork → D → D → Type 0
+StaysWithin is_honest disk sectors_on goes_on (work.Format sectors slots large new) device left = FormatsWithin is_honest sectors_on goes_on sectors device left
+StaysWithin is_honest disk sectors_on goes_on (work.Task task) device left = KeepsWithin is_honest disk sectors_on goes_on device left
+StaysWithin is_honest disk sectors_on goes_on (work.Import path) device left = KeepsWithin is_honest disk sectors_on goes_on device left
+StaysWithin is_honest disk sectors_on goes_on (work.Export path) device left = KeepsWithin is_honest disk sectors_on goes_on device left

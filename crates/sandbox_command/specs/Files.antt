@@ -26,7 +26,7 @@ use Rattle.sandbox_command.specs.declared.host_volume.HostVolume.{HostVolume}
 use Rattle.sandbox_command.specs.declared.streams.Streams.{Streams}
 use Rattle.sandbox_command.specs.Alone.{RunsAlone}
 use Rattle.sandbox_command.specs.Around.{Around, EndsGiven}
-use Rattle.sandbox_command.specs.Execution.{Executes}
+use Rattle.sandbox_command.specs.Execution.{StaysWithin, Executes}
 use Rattle.sandbox_command.specs.Inspecting.{Inspects}
 use Rattle.sandbox_command.specs.Places.{Access, Gave, Lengthens, Locks, Reads, Took, WasEnded, WasHandedOut, WasRefused}
 use Rattle.sandbox_command.specs.Status.{command_line_status, file_status, words_status}
@@ -54,6 +54,7 @@ module _ {P I O V R W1 W2 : Type 0} (on : Around P I O V R W1 W2) where
     pub left : Executed V R W1 W2
     pub executes : Executes on.volume.honest on.volume.disk on.volume.size on.volume.failures on.volume.goes_on on.input.remaining on.out.contents on.err.contents
         does device given.input given.out given.err left
+    pub stays_within : StaysWithin on.volume.honest on.volume.disk on.volume.size on.volume.goes_on does device left.device
     pub ends : status ≡ left.status
     pub ended : on.places.ended left p q
 

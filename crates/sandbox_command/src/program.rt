@@ -17,7 +17,7 @@ ghost use Rattle.sandbox_command.specs.Running.{Launches, returned_device};
 ghost use Rattle.sandbox_command.specs.Supplies.{AreSettings};
 ghost use Rattle.sandbox_command.specs.internal.Seeds.{with_seed};
 ghost use Rattle.sandbox_command.specs.internal.Supplies.{AreSupplies};
-ghost use Rattle.sandbox_command.specs.Execution.{RunsOn, Runs, Executes};
+ghost use Rattle.sandbox_command.specs.Execution.{RunsOn, Runs, Executes, StaysWithin};
 
 use crate::checking::ended_task;
 use crate::ending::ended;
@@ -561,6 +561,7 @@ pub fn execute<D: Device + Drop, R: Read + Drop, W1: Write + Drop, W2: Write + D
 ) -> Executed<D, R, W1, W2>
     ensures tells { Executes D.honest D.disk D.size D.failures D.goes_on R.remaining W1.contents W2.contents
         work.entry device given.input given.out given.err result }
+    ensures stays_within { StaysWithin D.honest D.disk D.size D.goes_on work.entry device result.device }
     ensures within { result.status ≤ 124 }
 {
     let mut given = given;

@@ -10,7 +10,7 @@ use Rattle.vol_sector.specs.declared.fault.Damage.{Damage}
 use Rattle.vol_sector.specs.declared.fault.VolumeFault.{VolumeFault}
 use Rattle.vol_sector.specs.declared.fault.VolumeFault.TheVariants as faults
 use Rattle.vol_tree.specs.declared.superblock.Superblock.{Superblock}
-use Rattle.vol_tree.specs.Superblock.{superblock, version_number, IsNoVersion}
+use Rattle.vol_tree.specs.Superblock.{HasRanges, superblock, version_number, IsNoVersion}
 use Rattle.vol_tree.specs.Tree.{Tree}
 use Rattle.vol_tree.proofs.Refusals.{same_error}
 use Rattle.vol_tree.specs.Opening.{StandsOn, NoVolumeOn, HasNoVersion, BeginsRight, IsDamaged, IsPast}
@@ -81,6 +81,6 @@ not_the_numbers x named numbers =
     (λ other. ⊎_elim (λ device. ⊎_elim (λ geometry. cc) (λ small. cc) numbers) (λ memory. ⊎_elim (λ geometry. cc) (λ small. cc) numbers) other) named)
 
 -- past the volume that was found there are none of its sectors
-pub past_front : (size : ℕ) (honest : Type 0) (image : Image) (v : Superblock) (end : ℕ) → v.sectors ≤ size → (honest → image 0 ≡ superblock v) → IsPast size honest image end → v.sectors ≤ end
-past_front size honest image v end room front (inl past) = omega (arith, room, past)
-past_front size honest image v end room front (inr past) = past.1 v (front past.0)
+pub past_front : (size : ℕ) (honest : Type 0) (image : Image) (v : Superblock) (end : ℕ) → HasRanges v → v.sectors ≤ size → (honest → image 0 ≡ superblock v) → IsPast size honest image end → v.sectors ≤ end
+past_front size honest image v end ranges room front (inl past) = omega (arith, room, past)
+past_front size honest image v end ranges room front (inr past) = past.1 v ranges (front past.0)

@@ -49,4 +49,4 @@ pub record IsDamaged (size : ℕ) (image : Image) : Type 0 where
 -- Past this number there is no sector of the volume that opening finds, if it finds one: the device has none there, or what reads
 -- give of its first sector, where it keeps its model, is no volume's with more sectors.
 abbrev pub IsPast : ℕ → Type 0 → Image → ℕ → Type 0
-IsPast size honest image end = (size ≤ end) ⊎ (honest × ((v : Superblock) → image 0 ≡ superblock v → v.sectors ≤ end))
+IsPast size honest image end = (size ≤ end) ⊎ (honest × ((v : Superblock) → HasRanges v → image 0 ≡ superblock v → v.sectors ≤ end))

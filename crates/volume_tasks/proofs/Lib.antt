@@ -9,6 +9,7 @@ mod Filled
 mod Beginning
 mod Missing
 mod Opened
+mod Going
 mod FreshVolume
 mod Refusals
 mod Meant

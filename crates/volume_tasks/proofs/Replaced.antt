@@ -1,5 +1,5 @@
 -- A file that is put beside another one, and moved over it or taken away.
-use Rattle.std.proofs.Common.{◌≡◌, ◌⊎◌, ⊎_elim, inl, inr, ℕ, List, Option, Result, Ok, Err, IsErr, Bool, true, false, refl, sym, ◌∙◌, ap, subst}
+use Rattle.std.proofs.Common.{◌≡◌, ◌⊎◌, ⊎_elim, inl, inr, ℕ, List, Option, Result, Ok, Err, true, false, sym, ◌∙◌, ap, subst}
 use Rattle.std.specs.Borrow.{Bor}
 use Rattle.std.proofs.lemmas.Bool.{false≢true}
 use Rattle.vol_tree.specs.declared.superblock.Superblock.{Superblock}
@@ -8,14 +8,13 @@ use Rattle.vol_tree.specs.declared.errno.Errno.TheVariants as errno
 use Rattle.vol_tree.specs.Tree.{Tree}
 use Rattle.vol_tree.specs.Opened.{geometry, is_io}
 use Rattle.sandbox_words.specs.Request.{Text}
-use Rattle.sandbox_words.specs.declared.request.Change.{Change}
 use Rattle.sandbox_words.specs.declared.request.Change.TheVariants.{Move, Remove}
 use Rattle.volume_archive.proofs.Results.{consumed_begins}
 use Rattle.volume_tasks.specs.declared.failure.Failure.{Failure}
 use Rattle.volume_tasks.specs.declared.failure.Failure.TheVariants as failure
 use Rattle.volume_tasks.specs.Blame.{blames_device}
-use Rattle.volume_tasks.specs.Changes.{Changes, entry_moved, entry_removed}
-use Rattle.volume_tasks.specs.Replacing.{IsPartOfWhole, IsRemovalPart, Moves, Removes, TakesBack}
+use Rattle.volume_tasks.specs.Changes.{Changes, entry_moved}
+use Rattle.volume_tasks.specs.Replacing.{IsPartOfWhole, IsRemovalPart, Moves, Removes}
 use Rattle.volume_tasks.specs.Tasks.{Fills, HasBeginning, IsPartOfPut, Puts}
 
 -- a move, as a change

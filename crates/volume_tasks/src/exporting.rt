@@ -3,6 +3,7 @@
 ghost use Rattle.std.specs.Prelude.{◌≡◌};
 ghost use Rattle.path_walk.specs.Walk.{Asked};
 ghost use Rattle.volume_tasks.specs.declared.exporting.ExportFailure.TheVariants.{Path, Stopped};
+ghost use Rattle.volume_tasks.specs.Going.{KeepsWithin};
 ghost use Rattle.volume_tasks.specs.Exporting.{PerformsExport, PrintsDirectory, blames_export};
 ghost use Rattle.volume_tasks.specs.internal.Working.{IsWorking};
 
@@ -67,8 +68,9 @@ pub fn export_from<D: Device, W: Write>(
     path: &str,
     out: &mut W,
 ) -> (Result<(), ExportFailure>, D)
-    ensures { PerformsExport D.honest D.disk D.size D.failures path.now device
+    ensures performs { PerformsExport D.honest D.disk D.size D.failures path.now device
         (W.contents out.old) (W.contents out.new) result.1 result.0 }
+    ensures goes_on { KeepsWithin D.honest D.disk D.size D.goes_on device result.1 }
 {
     match Volume::open(alloc, device) {
         Ok(mut volume) => {

@@ -1,7 +1,9 @@
 //! Making a device an empty volume, of version 1 or of version 2.
 
-ghost use Rattle.std.specs.Prelude.{◌↔◌, IfOk, IsTrue, is_err};
+ghost use Rattle.std.specs.Prelude.{◌↔◌, ℕ, IfOk, IsTrue, is_err};
+ghost use Rattle.vol_sector.specs.Past.{StillGoesOn};
 ghost use Rattle.volume_tasks.specs.Formatting.{BeginsAsVolume, FormatsAs, FormatsLarge, FormatsNew, FormatsWhere, LooksAt};
+ghost use Rattle.volume_tasks.specs.Going.{FormatsWithin};
 
 use crate::failure::Failure;
 use crate::tasks::format;
@@ -19,7 +21,8 @@ fn format_large<D: Device>(
     sectors: u32,
     slots: u32,
 ) -> (Result<(), Failure>, D)
-    ensures { FormatsLarge D.honest D.disk D.size D.failures device sectors slots result.1 result.0 }
+    ensures formats { FormatsLarge D.honest D.disk D.size D.failures device sectors slots result.1 result.0 }
+    ensures goes_on { FormatsWithin D.honest D.size D.goes_on sectors device result.1 }
 {
     match large_volume::format_large(alloc, device, sectors, slots) {
         Ok(device) => (Ok(()), device),
@@ -36,7 +39,8 @@ pub fn format_as<D: Device>(
     slots: u32,
     large: bool,
 ) -> (Result<(), Failure>, D)
-    ensures { FormatsAs large D.honest D.disk D.size D.failures device sectors slots result.1 result.0 }
+    ensures formats { FormatsAs large D.honest D.disk D.size D.failures device sectors slots result.1 result.0 }
+    ensures goes_on { FormatsWithin D.honest D.size D.goes_on sectors device result.1 }
 {
     if large {
         format_large(alloc, device, sectors, slots)
@@ -48,6 +52,7 @@ pub fn format_as<D: Device>(
 /// Whether a device begins as a volume does, of whatever version; one without a sector doesn't.
 fn begins_as_volume<D: Device>(device: &mut D) -> Result<bool, DeviceFault>
     ensures looks { LooksAt D.honest D.disk D.size D.failures device.old device.new (is_err result) }
+    ensures goes_on { (end : ℕ) → StillGoesOn (D.goes_on end) device.old device.new }
     ensures begins { D.honest device.old
         → IfOk result (λ b. IsTrue b ↔ BeginsAsVolume (D.size device.old) (D.disk device.old).seen) }
 {
@@ -67,8 +72,9 @@ fn format_new<D: Device>(
     slots: u32,
     large: bool,
 ) -> (Result<(), Failure>, D)
-    ensures { FormatsNew D.honest D.disk D.size D.failures large device sectors slots result.1
-        result.0 }
+    ensures formats { FormatsNew D.honest D.disk D.size D.failures large device sectors slots
+        result.1 result.0 }
+    ensures goes_on { FormatsWithin D.honest D.size D.goes_on sectors device result.1 }
 {
     match begins_as_volume(&mut device) {
         Ok(false) => format_as(alloc, device, sectors, slots, large),
@@ -87,8 +93,9 @@ pub fn format_where<D: Device>(
     large: bool,
     only_new: bool,
 ) -> (Result<(), Failure>, D)
-    ensures { FormatsWhere only_new large D.honest D.disk D.size D.failures device sectors slots
-        result.1 result.0 }
+    ensures formats { FormatsWhere only_new large D.honest D.disk D.size D.failures device sectors
+        slots result.1 result.0 }
+    ensures goes_on { FormatsWithin D.honest D.size D.goes_on sectors device result.1 }
 {
     if only_new {
         format_new(alloc, device, sectors, slots, large)

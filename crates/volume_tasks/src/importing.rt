@@ -5,6 +5,7 @@ ghost use Rattle.vol_sector.specs.Disk.{Image, Leaves};
 ghost use Rattle.vol_tree.specs.Opened.{Keeps, GoesOn};
 ghost use Rattle.vol_tree.specs.Stands.{StandsAs};
 ghost use Rattle.volume_tasks.specs.declared.importing.ImportFailure.TheVariants.{Path, Halted};
+ghost use Rattle.volume_tasks.specs.Going.{KeepsWithin};
 ghost use Rattle.volume_tasks.specs.Importing.{Brings, IsPartOfBringing, PerformsImport, blames_import};
 ghost use Rattle.volume_tasks.specs.Tasks.{ReflectsAny};
 ghost use Rattle.volume_tasks.specs.internal.Working.{IsWorking};
@@ -78,8 +79,9 @@ pub fn import_into<D: Device, R: Read>(
     path: &str,
     input: &mut R,
 ) -> (Result<u64, ImportFailure>, D)
-    ensures { PerformsImport D.honest D.disk D.size D.failures path.now device
+    ensures performs { PerformsImport D.honest D.disk D.size D.failures path.now device
         (R.remaining input.old) (R.remaining input.new) result.1 result.0 }
+    ensures goes_on { KeepsWithin D.honest D.disk D.size D.goes_on device result.1 }
 {
     match Volume::open(alloc, device) {
         Ok(mut volume) => {

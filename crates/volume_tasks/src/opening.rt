@@ -1,6 +1,7 @@
 //! The volume of a run.
 
 ghost use Rattle.std.specs.Prelude.{IfOk, IfErr};
+ghost use Rattle.volume_tasks.specs.Going.{FormatsWithin, OpensWithin, device_of_opening};
 ghost use Rattle.volume_tasks.specs.Volumes.{IsFresh, IsOpenFor, IsFreshRefused, IsRefusedFor};
 
 use std::alloc::Global;
@@ -18,6 +19,8 @@ const FRESH_SLOTS: u32 = 16;
 fn open_fresh<D: Device>(alloc: Global, device: D) -> Result<Volume<D>, Refused<D>>
     ensures opens { IfOk result (IsFresh D.honest D.disk D.size D.failures device) }
     ensures refused { IfErr result (IsFreshRefused D.honest D.disk D.size D.failures device) }
+    ensures goes_on { FormatsWithin D.honest D.size D.goes_on FRESH_SECTORS device
+        (device_of_opening result) }
 {
     match Volume::format(device, FRESH_SECTORS, FRESH_SLOTS) {
         Ok(device) => Volume::open(alloc, device),
@@ -34,6 +37,8 @@ pub fn open_for_run<D: Device>(
 ) -> Result<Volume<D>, Refused<D>>
     ensures opens { IfOk result (IsOpenFor D.honest D.disk D.size D.failures file.entry device) }
     ensures refused { IfErr result (IsRefusedFor D.honest D.disk D.size D.failures file.entry device) }
+    ensures goes_on { OpensWithin D.honest D.disk D.size D.goes_on FRESH_SECTORS file.entry device
+        (device_of_opening result) }
 {
     match file {
         Some(_) => Volume::open(alloc, device),

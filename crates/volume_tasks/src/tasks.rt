@@ -5,7 +5,9 @@ ghost use Rattle.std.specs.Io.KnownBytes.{Keeps};
 ghost use Rattle.vol_sector.specs.Disk.{Leaves, counted};
 ghost use Rattle.volume_tasks.specs.Blame.{blames_device};
 ghost use Rattle.volume_tasks.specs.Tasks.{ReflectsAny};
+ghost use Rattle.vol_tree.specs.Opened.{GoesOn};
 ghost use Rattle.volume_tasks.specs.Formatting.{Formats};
+ghost use Rattle.volume_tasks.specs.Going.{FormatsWithin, KeepsWithin};
 ghost use Rattle.volume_tasks.specs.Doing.{Does, IsPartOf, Lasts, Performs, IsRaised};
 ghost use Rattle.volume_tasks.specs.Doing.{PrintsNothing, ReadsNothing};
 ghost use Rattle.volume_tasks.specs.internal.Working.{IsWorking};
@@ -30,7 +32,8 @@ const PLAIN: ListForm = ListForm {
 /// Makes the first sectors of a device an empty volume with these numbers of sectors and of slots
 /// for entries, and gives the device back.
 pub(crate) fn format<D: Device>(device: D, sectors: u32, slots: u32) -> (Result<(), Failure>, D)
-    ensures { Formats D.honest D.disk D.size D.failures device sectors slots result.1 result.0 }
+    ensures formats { Formats D.honest D.disk D.size D.failures device sectors slots result.1 result.0 }
+    ensures goes_on { FormatsWithin D.honest D.size D.goes_on sectors device result.1 }
 {
     match Volume::format(device, sectors, slots) {
         Ok(device) => (Ok(()), device),
@@ -61,6 +64,7 @@ fn done_with<D: Device, R: Read, W: Write>(
     ensures size { D.size volume.new.device ≡ D.size volume.old.device }
     ensures failures { D.failures volume.new.device
         ≡ counted (blames_device result) (D.failures volume.old.device) }
+    ensures goes_on { GoesOn D.goes_on volume.old volume.new }
     ensures reads_nothing { ReadsNothing task.entry
         → R.remaining input.new ≡ R.remaining input.old }
     ensures prints_nothing { PrintsNothing task.entry
@@ -88,8 +92,9 @@ pub fn perform<D: Device, R: Read, W: Write>(
     input: &mut R,
     out: &mut W,
 ) -> (Result<(), Failure>, D)
-    ensures { Performs D.honest D.disk D.size D.failures task.entry device (R.remaining input.old)
+    ensures performs { Performs D.honest D.disk D.size D.failures task.entry device (R.remaining input.old)
         (R.remaining input.new) (W.contents out.old) (W.contents out.new) result.1 result.0 }
+    ensures goes_on { KeepsWithin D.honest D.disk D.size D.goes_on device result.1 }
 {
     match Volume::open(alloc, device) {
         Ok(mut volume) => {

@@ -12,4 +12,4 @@ returns-in-Ok-clause-tells g c =
     let status = c.execute-left.result.status in
     subst (λ (r : Result _ Error). MatchResult r (λ device. HasExecuted on c.args.work device c.args.given c.args.places.now c.end.new.self status)
     (λ error. (status ≡ file_status (error_kind error)) × EndsGiven on c.args.given c.args.places.now c.end.new.self)) (sym c.in-Ok.is)
-    (record { left = c.execute-left.result; executes = c.execute-left.ensures.tells; ends = refl; ended = c.end.ensures })
+    (record { left = c.execute-left.result; executes = c.execute-left.ensures.tells; stays_within = c.execute-left.ensures.stays_within; ends = refl; ended = c.end.ensures })

@@ -1,8 +1,9 @@
 use Rattle.std.proofs.Common.{sym, subst}
 use Rattle.volume_tasks.specs.Doing.{Performs}
+use Rattle.volume_tasks.specs.Going.{FormatsWithin, KeepsWithin}
 use Rattle.volume_tasks.specs.Exporting.{PerformsExport}
 use Rattle.sandbox_command.specs.declared.work.VolumeWork.{VolumeWork}
-use Rattle.sandbox_command.specs.Execution.{Executes}
+use Rattle.sandbox_command.specs.Execution.{Executes, StaysWithin}
 use Rattle.volume_tasks.proofs.Flushed.{performs_flushed}
 use Rattle.sandbox_command.proofs.AfterFlush.{export_flushed}
 use Rattle.sandbox_command.proofs.program.execute.Goals as goal
@@ -22,7 +23,7 @@ returns-in-Task-clause-tells g c =
     let left = c.ended_task.result in
     let ended = c.ended_task.ensures in
     let flushed = performs_flushed honest disk size failures task c.args.device (remaining c.args.given.input) (remaining c.perform-done.new.input) (outs c.args.given.out) (outs c.perform-done.new.out) (outs left.out)
-    c.perform-done.result.1 done c.perform-done.ensures ended.out in
+    c.perform-done.result.1 done c.perform-done.ensures.performs ended.out in
     let at_input = subst (λ (r : g.row.R.Denot). Performs honest disk size failures task c.args.device (remaining c.args.given.input) (remaining r) (outs c.args.given.out) (outs left.out) c.perform-done.result.1 done) (sym ended.input) flushed in
     let performs = subst (λ (d : g.row.D.Denot). Performs honest disk size failures task c.args.device (remaining c.args.given.input) (remaining left.input) (outs c.args.given.out) (outs left.out) d done) (sym ended.device) at_input in
     subst (λ (it : VolumeWork). Executes honest disk size failures goes_on remaining outs g.W2.Write.contents it c.args.device c.args.given.input c.args.given.out c.args.given.err left) (sym c.in-Task.is)
@@ -41,7 +42,29 @@ returns-in-Export-clause-tells g c =
     let done = c.export_from-done.result.0 in
     let left = c.ended-in-Export.result in
     let ended = c.ended-in-Export.ensures in
-    let flushed = export_flushed honest disk size failures goes_on path c.args.device (outs c.args.given.out) (outs c.export_from-done.new.out) (outs left.out) c.export_from-done.result.1 done ended.out c.export_from-done.ensures in
+    let flushed = export_flushed honest disk size failures goes_on path c.args.device (outs c.args.given.out) (outs c.export_from-done.new.out) (outs left.out) c.export_from-done.result.1 done ended.out c.export_from-done.ensures.performs in
     let performs = subst (λ (d : g.row.D.Denot). PerformsExport honest disk size failures path c.args.device (outs c.args.given.out) (outs left.out) d done) (sym ended.device) flushed in
     subst (λ (it : VolumeWork). Executes honest disk size failures goes_on g.R.Read.remaining outs g.W2.Write.contents it c.args.device c.args.given.input c.args.given.out c.args.given.err left) (sym c.in-Export.is)
     (done, performs, ended.status, ended.summary, ended.input, ended.err)
+
+-- ---- the sectors past the volume
+
+pub returns-in-Format-clause-stays_within : goal.returns-in-Format-clause-stays_within
+returns-in-Format-clause-stays_within g c =
+    subst (λ (it : VolumeWork). StaysWithin g.D.Device.honest g.D.Device.disk g.D.Device.size g.D.Device.goes_on it c.args.device c.ended-in-Format.result.device) (sym c.in-Format.is)
+    (subst (λ (d : g.row.D.Denot). FormatsWithin g.D.Device.honest g.D.Device.size g.D.Device.goes_on c.in-Format.sectors c.args.device d) (sym c.ended-in-Format.ensures.device) c.format_where-done.ensures.goes_on)
+
+pub returns-in-Task-clause-stays_within : goal.returns-in-Task-clause-stays_within
+returns-in-Task-clause-stays_within g c =
+    subst (λ (it : VolumeWork). StaysWithin g.D.Device.honest g.D.Device.disk g.D.Device.size g.D.Device.goes_on it c.args.device c.ended_task.result.device) (sym c.in-Task.is)
+    (subst (λ (d : g.row.D.Denot). KeepsWithin g.D.Device.honest g.D.Device.disk g.D.Device.size g.D.Device.goes_on c.args.device d) (sym c.ended_task.ensures.device) c.perform-done.ensures.goes_on)
+
+pub returns-in-Import-clause-stays_within : goal.returns-in-Import-clause-stays_within
+returns-in-Import-clause-stays_within g c =
+    subst (λ (it : VolumeWork). StaysWithin g.D.Device.honest g.D.Device.disk g.D.Device.size g.D.Device.goes_on it c.args.device c.ended-in-Import.result.device) (sym c.in-Import.is)
+    (subst (λ (d : g.row.D.Denot). KeepsWithin g.D.Device.honest g.D.Device.disk g.D.Device.size g.D.Device.goes_on c.args.device d) (sym c.ended-in-Import.ensures.device) c.import_into-done.ensures.goes_on)
+
+pub returns-in-Export-clause-stays_within : goal.returns-in-Export-clause-stays_within
+returns-in-Export-clause-stays_within g c =
+    subst (λ (it : VolumeWork). StaysWithin g.D.Device.honest g.D.Device.disk g.D.Device.size g.D.Device.goes_on it c.args.device c.ended-in-Export.result.device) (sym c.in-Export.is)
+    (subst (λ (d : g.row.D.Denot). KeepsWithin g.D.Device.honest g.D.Device.disk g.D.Device.size g.D.Device.goes_on c.args.device d) (sym c.ended-in-Export.ensures.device) c.export_from-done.ensures.goes_on)

@@ -3,13 +3,14 @@ use Rattle.std.proofs.KnownBytes.{Keeps-refl}
 use Rattle.vol_sector.specs.Disk.{counted}
 use Rattle.vol_log.proofs.Moments.{leaves_quiet}
 use Rattle.vol_tree.specs.Stands.{StandsAs}
+use Rattle.large_volume.proofs.Going.{past_opened}
 use Rattle.volume_tasks.specs.Exporting.{PerformsExport, blames_export}
 use Rattle.volume_tasks.proofs.FreshVolume.{refused_open}
 use Rattle.volume_tasks.proofs.exporting.export_from.Goals as goal
 
 -- the volume was opened, and the directory printed
-pub returns-in-Ok : goal.returns-in-Ok
-returns-in-Ok g c =
+pub returns-in-Ok-clause-performs : goal.returns-in-Ok-clause-performs
+returns-in-Ok-clause-performs g c =
     let opened = c.in-Ok.ensures in
     let v = c.in-Ok.volume in
     let done = c.print_directory-done.ensures in
@@ -36,8 +37,8 @@ returns-in-Ok g c =
     (sym c.into_device.ensures) whole
 
 -- it was refused
-pub returns-in-Err : goal.returns-in-Err
-returns-in-Err g c =
+pub returns-in-Err-clause-performs : goal.returns-in-Err-clause-performs
+returns-in-Err-clause-performs g c =
     let refused = c.in-Err.ensures in
     record {
       ends = λ h. inr (record {
@@ -51,3 +52,14 @@ returns-in-Err g c =
       size = refused.kept_err.1;
       failed = refused.kept_err.2;
     }
+
+-- ---- the sectors past the volume
+
+pub returns-in-Ok-clause-goes_on : goal.returns-in-Ok-clause-goes_on
+returns-in-Ok-clause-goes_on g c end past first from =
+    let opened = c.in-Ok.ensures in
+    let le = past_opened _ _ (g.D.Device.disk c.args.device).seen c.in-Ok.volume.numbers end opened.ranges.0 opened.ranges.1 (λ h. (opened.stands h).stands.front) past in
+    subst (g.D.Device.goes_on end first) (sym c.into_device.ensures) (c.print_directory-done.ensures.asked.goes end le first (opened.goes_on_ok end le first from))
+
+pub returns-in-Err-clause-goes_on : goal.returns-in-Err-clause-goes_on
+returns-in-Err-clause-goes_on g c = c.in-Err.ensures.goes_on_err

@@ -1,7 +1,9 @@
 use Rattle.std.proofs.Common.{Option, IfErr, sym, subst, rules}
 use Rattle.std.specs.Borrow.{Bor}
 use Rattle.sandbox_words.specs.Request.{Text}
+use Rattle.volume_tasks.specs.Going.{OpensWithin, device_of_opening}
 use Rattle.volume_tasks.specs.Volumes.{IsRefusedFor}
+use Rattle.volume_tasks.proofs.Going.{opening_goes}
 use Rattle.volume_tasks.proofs.FreshVolume.{refused_open}
 use Rattle.volume_tasks.proofs.opening.open_for_run.Goals as goal
 
@@ -17,3 +19,15 @@ returns-in-None-clause-opens g c = search rules
 
 pub returns-in-None-clause-refused : goal.returns-in-None-clause-refused
 returns-in-None-clause-refused g c = search rules
+
+-- ---- the sectors past the volume
+
+pub returns-in-Some-clause-goes_on : goal.returns-in-Some-clause-goes_on
+returns-in-Some-clause-goes_on g c =
+    let told = c.open.ensures in
+    subst (λ (file : Option (Bor Text)). OpensWithin g.D.Device.honest g.D.Device.disk g.D.Device.size g.D.Device.goes_on 202 file c.args.device (device_of_opening c.open.result)) (sym c.in-Some.is)
+    (λ end past. opening_goes g.D.Device.honest g.D.Device.disk g.D.Device.size g.D.Device.goes_on c.args.device c.open.result end past told.ranges told.stands told.goes_on_ok (told.goes_on_err end past))
+
+pub returns-in-None-clause-goes_on : goal.returns-in-None-clause-goes_on
+returns-in-None-clause-goes_on g c =
+    subst (λ (file : Option (Bor Text)). OpensWithin g.D.Device.honest g.D.Device.disk g.D.Device.size g.D.Device.goes_on 202 file c.args.device (device_of_opening c.open_fresh.result)) (sym c.in-None.is) c.open_fresh.ensures.goes_on

@@ -1,5 +1,4 @@
 use Rattle.std.proofs.Common.{inl, refl}
-use Rattle.vol_tree.specs.Tree.{Tree}
 use Rattle.volume_archive.proofs.Moments.{any_after, any_same}
 use Rattle.volume_tasks.specs.Replacing.{IsPartOfWhole, IsRemovalPart}
 use Rattle.volume_tasks.specs.Tasks.{IsPartOfPut}

@@ -1,6 +1,7 @@
 use Rattle.std.proofs.Common.{inl, inr, refl, sym, ◌∙◌, ap, subst}
 use Rattle.std.proofs.KnownBytes.{Keeps-refl}
 use Rattle.vol_sector.specs.Disk.{counted}
+use Rattle.large_volume.proofs.Going.{past_opened}
 use Rattle.volume_tasks.specs.Blame.{blames_device}
 use Rattle.volume_tasks.specs.Doing.{IsPartOf, IsRaised, Performs}
 use Rattle.volume_tasks.proofs.Beginning.{task_after}
@@ -9,8 +10,8 @@ use Rattle.volume_tasks.proofs.Refusals.{holds_nothing}
 use Rattle.volume_tasks.proofs.tasks.perform.Goals as goal
 
 -- the volume was opened, and the task was done with it
-pub returns-in-Ok : goal.returns-in-Ok
-returns-in-Ok g c =
+pub returns-in-Ok-clause-performs : goal.returns-in-Ok-clause-performs
+returns-in-Ok-clause-performs g c =
     let opened = c.in-Ok.ensures in
     let v = c.in-Ok.volume in
     let done = c.done_with-done.ensures in
@@ -44,8 +45,8 @@ returns-in-Ok g c =
     (sym c.into_device.ensures) whole
 
 -- it was refused
-pub returns-in-Err : goal.returns-in-Err
-returns-in-Err g c =
+pub returns-in-Err-clause-performs : goal.returns-in-Err-clause-performs
+returns-in-Err-clause-performs g c =
     let refused = c.in-Err.ensures in
     record {
       ends = λ h. inr (record {
@@ -65,3 +66,14 @@ returns-in-Err g c =
       reads_nothing = λ quiet. refl;
       prints_nothing = λ quiet. Keeps-refl (g.W.Write.contents c.args.out.now);
     }
+
+-- ---- the sectors past the volume
+
+pub returns-in-Ok-clause-goes_on : goal.returns-in-Ok-clause-goes_on
+returns-in-Ok-clause-goes_on g c end past first from =
+    let opened = c.in-Ok.ensures in
+    let le = past_opened _ _ (g.D.Device.disk c.args.device).seen c.in-Ok.volume.numbers end opened.ranges.0 opened.ranges.1 (λ h. (opened.stands h).stands.front) past in
+    subst (g.D.Device.goes_on end first) (sym c.into_device.ensures) (c.done_with-done.ensures.goes_on end le first (opened.goes_on_ok end le first from))
+
+pub returns-in-Err-clause-goes_on : goal.returns-in-Err-clause-goes_on
+returns-in-Err-clause-goes_on g c = c.in-Err.ensures.goes_on_err

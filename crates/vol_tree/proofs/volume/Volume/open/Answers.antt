@@ -110,7 +110,7 @@ returns-in-Err-open g c =
       kept_ok = tt;
       kept_err = (both_then read.honest e.kept_err.0, e.kept_err.1 ∙ read.size, e.kept_err.2 ∙ ap (counted (is_device x)) read.failures);
       goes_on_ok = tt;
-      goes_on_err = λ end past first from. e.goes_on_err end (past_front _ _ d0.seen c.in-Ok.numbers end read.room read.front past) first (read.goes_on end first from);
+      goes_on_err = λ end past first from. e.goes_on_err end (past_front _ _ d0.seen c.in-Ok.numbers end read.ranges read.room read.front past) first (read.goes_on end first from);
     }
 
 -- ---- it was opened, and a rule is broken
@@ -194,7 +194,7 @@ returns-in-Err-read_parts g c =
           );
       goes_on_ok = tt;
       goes_on_err = λ end past first from.
-          let le = past_front _ _ d0.seen c.in-Ok.numbers end read.room read.front past in
+          let le = past_front _ _ d0.seen c.in-Ok.numbers end read.ranges read.room read.front past in
           subst (g.D.Device.goes_on end first) (sym c.into_device.ensures) (e.reads.goes_on end first (installed.goes_on_ok end le first (read.goes_on end first from)));
     }
 
