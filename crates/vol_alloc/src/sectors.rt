@@ -64,6 +64,13 @@ impl Alloc {
         })
     }
 
+    /// The first sector past the range.
+    pub fn end(&self) -> u32
+        ensures { result ≡ end_of self.now }
+    {
+        self.end
+    }
+
     /// How many sectors are free.
     pub fn free_count(&self) -> u32
         ensures { result ≡ free_of self.now }

@@ -6,9 +6,9 @@ use Rattle.vol_alloc.specs.declared.sectors.Alloc.{Alloc}
 use Rattle.vol_inode.specs.declared.entry.Entry.{Entry}
 use Rattle.vol_inode.specs.Space.{need_of}
 use Rattle.vol_body.specs.declared.pointer_sectors.PointerSectors.{PointerSectors}
-use Rattle.vol_body.specs.Body.{BlockPosition, data_block, double_indirect_block, named, block_bytes, NamesTaken, IsBody, SameSectors, IsSameFile}
+use Rattle.vol_body.specs.Body.{BlockPosition, data_block, double_indirect_block, triple_indirect_block, named, block_bytes, NamesTaken, IsBody, SameSectors, IsSameFile}
 use Rattle.vol_body.specs.Change.{used_of, OthersStay, TakesAndGives}
-use Rattle.vol_body.specs.internal.Writing.{Mirrors, MirrorsAll, IsReady, SameRange, ChangesPositions, HasBlocks, IsBlockIn, IsPointer, WriteLeaves, segment, segment_of, image_of}
+use Rattle.vol_body.specs.internal.Writing.{Mirrors, MirrorsAll, IsReady, SameRange, ChangesPositions, HasBlocks, IsBlockIn, IsPointer, WriteLeaves, segment, segment_of, double_of, image_of}
 use Rattle.vol_body.proofs.Same.{same_file, same_bytes}
 use Rattle.vol_body.proofs.Changes.{stays_by, takes_same, takes_twice}
 use Rattle.vol_body.proofs.OneMore.{naming_of, naming_by, body_of, names_by_pointers}
@@ -36,7 +36,9 @@ mirrors_by content e f p number image same mirror = record { names = mirror.name
 
 pub mirrors_all_by : (content : Image) (e f : Entry) (all : PointerSectors) (first last : ℕ) → f.pointers ≡ e.pointers → MirrorsAll content e all first last → MirrorsAll content f all first last
 mirrors_all_by content e f all first last same mirrors = record {
-  double_indirect_block = λ reaches. mirrors_by content e f double_indirect_block all.double_indirect_block.number all.double_indirect_block.image same (mirrors.double_indirect_block reaches);
+  triple = λ reaches. mirrors_by content e f triple_indirect_block all.triple.number all.triple.image same (mirrors.triple reaches);
+  double = λ reaches. mirrors_by content e f (double_indirect_block (double_of (segment_of first))) all.double.number all.double.image same (mirrors.double reaches);
+  next_double = λ differ reaches. mirrors_by content e f (double_indirect_block (double_of (segment_of first + 1))) all.next_double.number all.next_double.image same (mirrors.next_double differ reaches);
   early = λ reaches. mirrors_by content e f (segment (segment_of first)) all.early.number all.early.image same (mirrors.early reaches);
   late = λ reaches. mirrors_by content e f (segment (segment_of first + 1)) all.late.number all.late.image same (mirrors.late reaches);
 }
@@ -63,7 +65,7 @@ module _ (place offset : ℕ) (bytes first last spelled : List ℕ) (a b : Alloc
   same : IsSameFile between after changed
   same = same_file between after changed (entry_elsewhere b between after changed place spelled changes.ready.taken slot_now is)
 
-  part_stays : (j : ℕ) → j < 16570 → block_bytes after (named after changed (data_block j)) ≡ block_bytes between (named between changed (data_block j))
+  part_stays : (j : ℕ) → j < 2113722 → block_bytes after (named after changed (data_block j)) ≡ block_bytes between (named between changed (data_block j))
   part_stays j lt =
       ap (block_bytes after) (same.names (data_block j) lt)
       ∙ same_bytes between after (named between changed (data_block j)) (entry_elsewhere b between after changed place spelled changes.ready.taken slot_now is (data_block j) lt)
@@ -123,6 +125,5 @@ module _ (place offset : ℕ) (bytes first last spelled : List ℕ) (a b : Alloc
           (zeros_beyond content after e changed offset bytes first last write body changed_size);
       others = others_leave;
       taken = taken_leaves;
-      last = changes.last;
       count = count_leaves;
     }

@@ -6,7 +6,7 @@ use Rattle.vol_sector.specs.Disk.{Image, put}
 use Rattle.vol_alloc.specs.declared.sectors.Alloc.{Alloc}
 use Rattle.vol_alloc.specs.Alloc.{first_of, taken_of}
 use Rattle.vol_inode.specs.declared.entry.Entry.{Entry}
-use Rattle.vol_body.specs.Body.{BlockPosition, data_block, indirect_block, double_indirect_block, inner_block, IsPosition, named, bytes_of, IsBody, NamesTaken, NamesOthers, SameSectors}
+use Rattle.vol_body.specs.Body.{BlockPosition, data_block, indirect_block, inner_block, double_indirect_block, triple_indirect_block, IsPosition, named, bytes_of, IsBody, NamesTaken, NamesOthers, SameSectors}
 use Rattle.vol_body.specs.Bytes.{resized_bytes}
 use Rattle.vol_body.specs.Change.{OthersStay, TakesAndGives}
 use Rattle.vol_body.proofs.Parts.{length-bytes_of, get_or-bytes_of}
@@ -18,8 +18,9 @@ use Rattle.vol_inode.specs.declared.version.TheConstants.{LARGEST_SIZE}
 same_named : (content : Image) (e : Entry) (size : ℕ) (p : BlockPosition) → named content (record e { size = size }) p ≡ named content e p
 same_named content e size (data_block j) = refl
 same_named content e size indirect_block = refl
-same_named content e size double_indirect_block = refl
 same_named content e size (inner_block i) = refl
+same_named content e size (double_indirect_block d) = refl
+same_named content e size triple_indirect_block = refl
 
 pub grown_bytes : (content : Image) (e : Entry) (size : ℕ) → IsBody content e → e.size ≤ size → size ≤ LARGEST_SIZE
     → bytes_of content (record e { size = size }) ≡ bytes_of content e ++ replicate (size - e.size) 0

@@ -1,14 +1,32 @@
 -- The positions of a file are as many as it needs sectors.
-use Rattle.std.proofs.Common.{◌≡◌, ◌≢◌, inl, inr, ◌≤◌, ◌<◌, ◌+◌, ◌-◌, ℕ, List, [], ◌∷◌, ◌++◌, length, map, get_or, suc, nat_lt, nat_le, if◌then◌else◌, refl, sym, ◌∙◌, ap, subst, arith}
+use Rattle.std.proofs.Common.{◌≡◌, ◌≢◌, inl, inr, ◌≤◌, ◌<◌, ◌+◌, ◌-◌, ℕ, List, [], ◌∷◌, ◌++◌, length, map, get_or, nat_lt, nat_le, if◌then◌else◌, refl, sym, ◌∙◌, ap, subst, arith}
 use Rattle.std.proofs.lemmas.Bool.{cases_lt}
 use Rattle.std.proofs.lemmas.Bool.Decides.{nat_tests}
-use Rattle.std.proofs.lemmas.List.{length-append, length-map, get_or_append_left, get_or-append_right}
-use Rattle.std.proofs.lemmas.List.FromFn.{length-range_with_len, get_or-map-range_with_len}
+use Rattle.std.proofs.lemmas.List.{length-append}
+use Rattle.std.proofs.lemmas.List.Elements.{Contains-append_left, Contains-append_right}
+use Rattle.std.proofs.lemmas.List.FromFn.{length-map-range_with_len, get_or-map-range_with_len}
 use Rattle.std.specs.List.{range_with_len, Contains}
 use Rattle.vol_sector.specs.Disk.{Image}
 use Rattle.vol_inode.specs.declared.entry.Entry.{Entry}
-use Rattle.vol_inode.specs.Space.{blocks_for_size, inner_blocks_for, need_of}
-use Rattle.vol_body.specs.Body.{BlockPosition, data_block, indirect_block, double_indirect_block, inner_block, IsPosition, first_served, named, IsBody, positions_of}
+use Rattle.vol_inode.specs.Space.{blocks_for_size, inner_blocks_for, double_blocks_for, need_of}
+use Rattle.vol_body.specs.Body.{BlockPosition, data_block, indirect_block, inner_block, double_indirect_block, triple_indirect_block, IsPosition, first_served, named, IsBody, positions_of}
+
+-- ---- the list, in its parts
+
+abbrev pub parts_to : ℕ → List BlockPosition
+parts_to count = map data_block (range_with_len 0 count)
+
+abbrev pub indirect_to : ℕ → List BlockPosition
+indirect_to count = if nat_lt 58 count then indirect_block ∷ [] else []
+
+abbrev pub inner_to : ℕ → List BlockPosition
+inner_to count = map inner_block (range_with_len 0 (inner_blocks_for (count - 186)))
+
+abbrev pub double_to : ℕ → List BlockPosition
+double_to count = map double_indirect_block (range_with_len 0 (double_blocks_for (count - 186)))
+
+abbrev pub triple_to : ℕ → List BlockPosition
+triple_to count = if nat_lt 16570 count then triple_indirect_block ∷ [] else []
 
 take_it : (a b : ℕ) (x y : List BlockPosition) → a < b → (if nat_lt a b then x else y) ≡ x
 take_it a b x y lt = grind (arith, nat_tests)
@@ -16,44 +34,48 @@ take_it a b x y lt = grind (arith, nat_tests)
 leave_it : (a b : ℕ) (x y : List BlockPosition) → b ≤ a → (if nat_lt a b then x else y) ≡ y
 leave_it a b x y le = grind (arith, nat_tests)
 
-pub long_parts : (count : ℕ) → length (map data_block (range_with_len 0 count)) ≡ count
-long_parts count = length-map (range_with_len 0 count) data_block ∙ length-range_with_len 0 count
+pub long_parts : (count : ℕ) → length (parts_to count) ≡ count
+long_parts count = length-map-range_with_len data_block 0 count
 
-long_later : (n : ℕ) → length (map inner_block (range_with_len 0 n)) ≡ n
-long_later n = length-map (range_with_len 0 n) inner_block ∙ length-range_with_len 0 n
-
--- the list, by how many data blocks there are
-pub few : (count : ℕ) → count ≤ 58 → map data_block (range_with_len 0 count) ++ (if nat_lt 58 count then indirect_block ∷ [] else []) ++ (if nat_lt 186 count then double_indirect_block ∷ map inner_block (range_with_len 0 (inner_blocks_for (count - 186))) else []) ≡ map data_block (range_with_len 0 count) ++ [] ++ []
-few count le =
-    let a = leave_it 58 count (indirect_block ∷ []) [] le in
-    let b = leave_it 186 count (double_indirect_block ∷ map inner_block (range_with_len 0 (inner_blocks_for (count - 186)))) [] (omega arith) in
-    λ i. map data_block (range_with_len 0 count) ++ a i ++ b i
-
-pub some : (count : ℕ) → 58 < count → count ≤ 186 → map data_block (range_with_len 0 count) ++ (if nat_lt 58 count then indirect_block ∷ [] else []) ++ (if nat_lt 186 count then double_indirect_block ∷ map inner_block (range_with_len 0 (inner_blocks_for (count - 186))) else []) ≡ map data_block (range_with_len 0 count) ++ (indirect_block ∷ []) ++ []
-some count lt le =
-    let a = take_it 58 count (indirect_block ∷ []) [] lt in
-    let b = leave_it 186 count (double_indirect_block ∷ map inner_block (range_with_len 0 (inner_blocks_for (count - 186)))) [] le in
-    λ i. map data_block (range_with_len 0 count) ++ a i ++ b i
-
-pub many : (count : ℕ) → 186 < count → map data_block (range_with_len 0 count) ++ (if nat_lt 58 count then indirect_block ∷ [] else []) ++ (if nat_lt 186 count then double_indirect_block ∷ map inner_block (range_with_len 0 (inner_blocks_for (count - 186))) else []) ≡ map data_block (range_with_len 0 count) ++ (indirect_block ∷ []) ++ (double_indirect_block ∷ map inner_block (range_with_len 0 (inner_blocks_for (count - 186))))
-many count lt =
-    let a = take_it 58 count (indirect_block ∷ []) [] (omega arith) in
-    let b = take_it 186 count (double_indirect_block ∷ map inner_block (range_with_len 0 (inner_blocks_for (count - 186)))) [] lt in
-    λ i. map data_block (range_with_len 0 count) ++ a i ++ b i
+-- so many of one kind
+all_of_it : (count : ℕ) → length ((((parts_to count ++ indirect_to count) ++ inner_to count) ++ double_to count) ++ triple_to count)
+    ≡ count + length (indirect_to count) + inner_blocks_for (count - 186) + double_blocks_for (count - 186) + length (triple_to count)
+all_of_it count = omega (
+  arith,
+  length-append (parts_to count) (indirect_to count),
+  length-append (parts_to count ++ indirect_to count) (inner_to count),
+  length-append ((parts_to count ++ indirect_to count) ++ inner_to count) (double_to count),
+  length-append (((parts_to count ++ indirect_to count) ++ inner_to count) ++ double_to count) (triple_to count),
+  long_parts count,
+  length-map-range_with_len inner_block 0 (inner_blocks_for (count - 186)),
+  length-map-range_with_len double_indirect_block 0 (double_blocks_for (count - 186)),
+)
 
 pub length-positions_of : (size : ℕ) → length (positions_of size) ≡ need_of size
 length-positions_of size = by_count (blocks_for_size size)
   where
-    by_count : (count : ℕ) → length (map data_block (range_with_len 0 count) ++ (if nat_lt 58 count then indirect_block ∷ [] else []) ++ (if nat_lt 186 count then double_indirect_block ∷ map inner_block (range_with_len 0 (inner_blocks_for (count - 186))) else []))
-        ≡ (if nat_le count 58 then count else (if nat_le count 186 then count + 1 else count + 2 + inner_blocks_for (count - 186)))
-    by_count count = elim (cases_lt 58 count) [
-      | inr le ↦ ap length (few count le) ∙ (omega (arith, length-append (map data_block (range_with_len 0 count) ++ []) [], length-append (map data_block (range_with_len 0 count)) [], long_parts count)) ∙ sym (first count _ le)
-      | inl lt ↦ elim (cases_lt 186 count) [
-        | inr le ↦ ap length (some count lt le) ∙ (omega (arith, length-append (map data_block (range_with_len 0 count) ++ indirect_block ∷ []) [], length-append (map data_block (range_with_len 0 count)) (indirect_block ∷ []), long_parts count)) ∙ sym (second count _ _ lt le)
-        | inl more ↦ ap length (many count more)
-            ∙ (omega (arith, length-append (map data_block (range_with_len 0 count) ++ indirect_block ∷ []) (double_indirect_block ∷ map inner_block (range_with_len 0 (inner_blocks_for (count - 186)))), length-append (map data_block (range_with_len 0 count)) (indirect_block ∷ []), long_parts count, long_later (inner_blocks_for (count - 186))))
-            ∙ sym (third count (count + 2 + inner_blocks_for (count - 186)) more)
-      ]
+    by_count : (count : ℕ) → length ((((parts_to count ++ indirect_to count) ++ inner_to count) ++ double_to count) ++ triple_to count)
+        ≡ (if nat_le count 58 then count else (if nat_le count 186 then count + 1 else (if nat_le count 16570 then count + 2 + inner_blocks_for (count - 186) else count + 2 + inner_blocks_for (count - 186) + double_blocks_for (count - 186))))
+    by_count count = all_of_it count ∙ elim (cases_lt 58 count) [
+      | inr le ↦
+          let none : length (indirect_to count) ≡ 0 = ap length (leave_it 58 count (indirect_block ∷ []) [] le) in
+          let nor : length (triple_to count) ≡ 0 = ap length (leave_it 16570 count (triple_indirect_block ∷ []) [] (omega arith)) in
+          (omega (arith, none, nor, le)) ∙ sym (first count _ le)
+      | inl lt ↦
+          let one : length (indirect_to count) ≡ 1 = ap length (take_it 58 count (indirect_block ∷ []) [] lt) in
+          elim (cases_lt 186 count) [
+            | inr le ↦
+                let nor : length (triple_to count) ≡ 0 = ap length (leave_it 16570 count (triple_indirect_block ∷ []) [] (omega arith)) in
+                (omega (arith, one, nor, le)) ∙ sym (second count _ _ lt le)
+            | inl more ↦ elim (cases_lt 16570 count) [
+              | inr le ↦
+                  let nor : length (triple_to count) ≡ 0 = ap length (leave_it 16570 count (triple_indirect_block ∷ []) [] le) in
+                  (omega (arith, one, nor, more, le)) ∙ sym (third count _ _ _ more le)
+              | inl most ↦
+                  let two : length (triple_to count) ≡ 1 = ap length (take_it 16570 count (triple_indirect_block ∷ []) [] most) in
+                  (omega (arith, one, two)) ∙ sym (fourth count _ _ _ most)
+            ]
+          ]
     ]
       where
         first : (count y : ℕ) → count ≤ 58 → (if nat_le count 58 then count else y) ≡ count
@@ -62,65 +84,53 @@ length-positions_of size = by_count (blocks_for_size size)
         second : (count y z : ℕ) → 58 < count → count ≤ 186 → (if nat_le count 58 then y else (if nat_le count 186 then count + 1 else z)) ≡ count + 1
         second count y z lt le = grind (arith, nat_tests)
 
-        third : (count z : ℕ) → 186 < count → (if nat_le count 58 then count else (if nat_le count 186 then count + 1 else z)) ≡ z
-        third count z lt = grind (arith, nat_tests)
+        third : (count x z w : ℕ) → 186 < count → count ≤ 16570 → (if nat_le count 58 then count else (if nat_le count 186 then x else (if nat_le count 16570 then z else w))) ≡ z
+        third count x z w lt le = grind (arith, nat_tests)
 
--- a position that names a sector serves a data block of the file
+        fourth : (count x z w : ℕ) → 16570 < count → (if nat_le count 58 then count else (if nat_le count 186 then x else (if nat_le count 16570 then z else w))) ≡ w
+        fourth count x z w lt = grind (arith, nat_tests)
+
+-- ---- each position that serves a data block of the file is among them
+
+-- a position that serves a data block of the file
 serves : (content : Image) (e : Entry) (p : BlockPosition) → IsBody content e → IsPosition p → named content e p ≢ 0 → first_served p < blocks_for_size e.size
 serves content e p body there names = elim (cases_lt (first_served p) (blocks_for_size e.size)) [
   | inl lt ↦ lt
   | inr past ↦ absurd (names (body.past p there past))
 ]
 
-at_part : (count j : ℕ) (rest last : List BlockPosition) → j < count → Contains (map data_block (range_with_len 0 count) ++ rest ++ last) (data_block j)
-at_part count j rest last lt =
-    let front = map data_block (range_with_len 0 count) in
-    let short : j < length front = omega (arith, long_parts count) in
-    let longer : j < length (front ++ rest) = omega (arith, length-append front rest) in (
-      j,
-      omega (arith, length-append (front ++ rest) last),
-      get_or_append_left (front ++ rest) last (data_block j) j longer
-          ∙ get_or_append_left front rest (data_block j) j short ∙ get_or-map-range_with_len data_block 0 count j j (data_block j) lt (omega arith),
-    )
+made_there : (make : ℕ → BlockPosition) (n i : ℕ) → i < n → Contains (map make (range_with_len 0 n)) (make i)
+made_there make n i lt = (i, omega (arith, lt, length-map-range_with_len make 0 n), get_or-map-range_with_len make 0 n i i (make i) lt (omega arith))
 
-at_list : (count : ℕ) (last : List BlockPosition) → Contains (map data_block (range_with_len 0 count) ++ (indirect_block ∷ []) ++ last) indirect_block
-at_list count last =
-    let front = map data_block (range_with_len 0 count) in
-    let longer : count < length (front ++ indirect_block ∷ []) = omega (arith, length-append front (indirect_block ∷ []), long_parts count) in
-    let none : count - count ≡ 0 = omega arith in (
-      count,
-      omega (arith, length-append (front ++ indirect_block ∷ []) last),
-      get_or_append_left (front ++ indirect_block ∷ []) last indirect_block count longer
-          ∙ get_or-append_right front (indirect_block ∷ []) count count indirect_block (long_parts count) (omega arith) ∙ ap (λ (k : ℕ). get_or (indirect_block ∷ []) k indirect_block) none,
-    )
-
-at_last : (count k : ℕ) (last : List BlockPosition) (p : BlockPosition) → k < length last → get_or last k p ≡ p → Contains (map data_block (range_with_len 0 count) ++ (indirect_block ∷ []) ++ last) p
-at_last count k last p lt is =
-    let front = map data_block (range_with_len 0 count) in
-    let long : length (front ++ indirect_block ∷ []) ≡ count + 1 = omega (arith, length-append front (indirect_block ∷ []), long_parts count) in
-    let back : count + 1 + k - (count + 1) ≡ k = omega arith in (
-      count + 1 + k,
-      omega (arith, length-append (front ++ indirect_block ∷ []) last),
-      get_or-append_right (front ++ indirect_block ∷ []) last (count + 1) (count + 1 + k) p long (omega arith)
-          ∙ ap (λ (i : ℕ). get_or last i p) back ∙ is,
-    )
+one_there : (p : BlockPosition) → Contains (p ∷ []) p
+one_there p = (0, omega arith, refl)
 
 -- a position that serves a data block of a file is among those of a file of the size
 pub place_there : (size : ℕ) (p : BlockPosition) → first_served p < blocks_for_size size → Contains (positions_of size) p
-place_there size (data_block j) lt = at_part (blocks_for_size size) j _ _ lt
-place_there size indirect_block lt =
-    let count = blocks_for_size size in
-    let B = λ (l : List BlockPosition). Contains (map data_block (range_with_len 0 count) ++ l ++ (if nat_lt 186 count then double_indirect_block ∷ map inner_block (range_with_len 0 (inner_blocks_for (count - 186))) else [])) indirect_block in
-    subst B (sym (take_it 58 count (indirect_block ∷ []) [] lt)) (at_list count _)
-place_there size double_indirect_block lt =
-    let count = blocks_for_size size in
-    subst (λ (l : List BlockPosition). Contains l double_indirect_block) (sym (many count lt)) (at_last count 0 (double_indirect_block ∷ map inner_block (range_with_len 0 (inner_blocks_for (count - 186)))) double_indirect_block (omega arith) refl)
-place_there size (inner_block i) lt =
-    let count = blocks_for_size size in
-    let n = inner_blocks_for (count - 186) in
-    let below : i < n = omega arith in
-    subst (λ (l : List BlockPosition). Contains l (inner_block i)) (sym (many count (omega arith)))
-    (at_last count (suc i) (double_indirect_block ∷ map inner_block (range_with_len 0 n)) (inner_block i) (omega (arith, long_later n)) (get_or-map-range_with_len inner_block 0 n i i (inner_block i) below (omega arith)))
+place_there size p lt = by_count (blocks_for_size size) p lt
+  where
+    by_count : (count : ℕ) (p : BlockPosition) → first_served p < count → Contains ((((parts_to count ++ indirect_to count) ++ inner_to count) ++ double_to count) ++ triple_to count) p
+    by_count count (data_block j) lt =
+        Contains-append_left (((parts_to count ++ indirect_to count) ++ inner_to count) ++ double_to count) (triple_to count) (data_block j)
+        (Contains-append_left ((parts_to count ++ indirect_to count) ++ inner_to count) (double_to count) (data_block j)
+        (Contains-append_left (parts_to count ++ indirect_to count) (inner_to count) (data_block j)
+        (Contains-append_left (parts_to count) (indirect_to count) (data_block j) (made_there data_block count j lt))))
+    by_count count indirect_block lt =
+        let here : Contains (indirect_to count) indirect_block = subst (λ (l : List BlockPosition). Contains l indirect_block) (sym (take_it 58 count (indirect_block ∷ []) [] lt)) (one_there indirect_block) in
+        Contains-append_left (((parts_to count ++ indirect_to count) ++ inner_to count) ++ double_to count) (triple_to count) indirect_block
+        (Contains-append_left ((parts_to count ++ indirect_to count) ++ inner_to count) (double_to count) indirect_block
+        (Contains-append_left (parts_to count ++ indirect_to count) (inner_to count) indirect_block
+        (Contains-append_right (parts_to count) (indirect_to count) indirect_block here)))
+    by_count count (inner_block i) lt =
+        Contains-append_left (((parts_to count ++ indirect_to count) ++ inner_to count) ++ double_to count) (triple_to count) (inner_block i)
+        (Contains-append_left ((parts_to count ++ indirect_to count) ++ inner_to count) (double_to count) (inner_block i)
+        (Contains-append_right (parts_to count ++ indirect_to count) (inner_to count) (inner_block i) (made_there inner_block (inner_blocks_for (count - 186)) i (omega (arith, lt)))))
+    by_count count (double_indirect_block d) lt =
+        Contains-append_left (((parts_to count ++ indirect_to count) ++ inner_to count) ++ double_to count) (triple_to count) (double_indirect_block d)
+        (Contains-append_right ((parts_to count ++ indirect_to count) ++ inner_to count) (double_to count) (double_indirect_block d) (made_there double_indirect_block (double_blocks_for (count - 186)) d (omega (arith, lt))))
+    by_count count triple_indirect_block lt =
+        let here : Contains (triple_to count) triple_indirect_block = subst (λ (l : List BlockPosition). Contains l triple_indirect_block) (sym (take_it 16570 count (triple_indirect_block ∷ []) [] lt)) (one_there triple_indirect_block) in
+        Contains-append_right (((parts_to count ++ indirect_to count) ++ inner_to count) ++ double_to count) (triple_to count) triple_indirect_block here
 
 pub place_is_there : (content : Image) (e : Entry) (p : BlockPosition) → IsBody content e → IsPosition p → named content e p ≢ 0 → Contains (positions_of e.size) p
 place_is_there content e p body there names = place_there e.size p (serves content e p body there names)

@@ -14,11 +14,11 @@ use Rattle.vol_alloc.specs.declared.sectors.Alloc.{Alloc}
 use Rattle.vol_alloc.proofs.Free.{flag_there, taken_there, cleared}
 use Rattle.vol_inode.specs.declared.entry.Entry.{Entry}
 use Rattle.vol_inode.specs.declared.version.TheConstants.{LARGEST_SIZE}
-use Rattle.vol_inode.specs.Space.{blocks_for_size, inner_blocks_for}
-use Rattle.vol_body.specs.Body.{BlockPosition, data_block, indirect_block, double_indirect_block, inner_block, IsPosition, named, positions_of, IsBody, NamesTaken, NamesOthers}
+use Rattle.vol_inode.specs.Space.{blocks_for_size, inner_blocks_for, double_blocks_for}
+use Rattle.vol_body.specs.Body.{BlockPosition, data_block, indirect_block, inner_block, double_indirect_block, triple_indirect_block, IsPosition, named, positions_of, IsBody, NamesTaken, NamesOthers}
 use Rattle.vol_body.specs.Change.{NamesSector, TakesAndGives, LosesNoSector, used_of}
 use Rattle.vol_body.specs.Survey.{nonzero}
-use Rattle.vol_body.proofs.Needed.{few, some, many, long_parts, place_is_there}
+use Rattle.vol_body.proofs.Needed.{parts_to, indirect_to, inner_to, double_to, triple_to, long_parts, place_is_there}
 use Rattle.vol_body.proofs.Repeats.{Numbered, numbered_append, numbered_made, numbered_one, names_distinct}
 use Rattle.vol_body.proofs.Space.{are_places}
 use Rattle.vol_body.proofs.Surveyed.{in_nonzero, in_map, was_there}
@@ -120,38 +120,30 @@ length-numbers_of content e =
 place_of : ℕ → BlockPosition → ℕ
 place_of count (data_block j) = j
 place_of count indirect_block = count
-place_of count double_indirect_block = count + 1
-place_of count (inner_block i) = count + 2 + i
+place_of count (inner_block i) = length (parts_to count ++ indirect_to count) + i
+place_of count (double_indirect_block d) = length ((parts_to count ++ indirect_to count) ++ inner_to count) + d
+place_of count triple_indirect_block = length (((parts_to count ++ indirect_to count) ++ inner_to count) ++ double_to count)
 
-none_numbered : (number : BlockPosition → ℕ) (a : ℕ) → Numbered number a []
+numbered_either : (number : BlockPosition → ℕ) (a : ℕ) (b : Bool) (p : BlockPosition) → number p ≡ a → Numbered number a (if b then p ∷ [] else [])
 unfolding Numbered
-none_numbered number a k lt = absurd (omega (arith, lt))
+numbered_either number a true p is k lt = numbered_one number a p is k lt
+numbered_either number a false p is k lt = absurd (omega (arith, lt))
 
-numbered_parts : (count : ℕ) → Numbered (place_of count) 0 (map data_block (range_with_len 0 count))
+numbered_by_count : (count : ℕ) → Numbered (place_of count) 0 ((((parts_to count ++ indirect_to count) ++ inner_to count) ++ double_to count) ++ triple_to count)
 unfolding place_of
-numbered_parts count = numbered_made (place_of count) data_block 0 0 count (λ i lt. refl)
+numbered_by_count count =
+    let place = place_of count in
+    let front = parts_to count ++ indirect_to count in
+    let inner = front ++ inner_to count in
+    let all = inner ++ double_to count in
+    let parts = numbered_made place data_block 0 0 count (λ i lt. refl) in
+    let one = numbered_append place 0 count (parts_to count) (indirect_to count) (long_parts count) parts (numbered_either place (0 + count) (nat_lt 58 count) indirect_block (omega arith)) in
+    let two = numbered_append place 0 (length front) front (inner_to count) refl one (numbered_made place inner_block (0 + length front) 0 (inner_blocks_for (count - 186)) (λ i lt. omega arith)) in
+    let three = numbered_append place 0 (length inner) inner (double_to count) refl two (numbered_made place double_indirect_block (0 + length inner) 0 (double_blocks_for (count - 186)) (λ i lt. omega arith)) in
+    numbered_append place 0 (length all) all (triple_to count) refl three (numbered_either place (0 + length all) (nat_lt 16570 count) triple_indirect_block (omega arith))
 
 numbered_positions : (size : ℕ) → Numbered (place_of (blocks_for_size size)) 0 (positions_of size)
-unfolding place_of
-numbered_positions size =
-    let count = blocks_for_size size in
-    let place = place_of count in
-    let parts = map data_block (range_with_len 0 count) in
-    let first = indirect_block ∷ [] in
-    elim (cases_lt 58 count) [
-      | inr le ↦ subst (Numbered place 0) (sym (few count le))
-          (numbered_append place 0 (length (parts ++ [])) (parts ++ []) [] refl (numbered_append place 0 count parts [] (long_parts count) (numbered_parts count) (none_numbered place (0 + count))) (none_numbered place (0 + length (parts ++ []))))
-      | inl lt ↦
-          let two = numbered_append place 0 count parts first (long_parts count) (numbered_parts count) (numbered_one place (0 + count) indirect_block (omega arith)) in
-          let long : length (parts ++ first) ≡ count + 1 = omega (arith, length-append parts first, long_parts count) in
-          elim (cases_lt 186 count) [
-            | inr le ↦ subst (Numbered place 0) (sym (some count lt le)) (numbered_append place 0 (count + 1) (parts ++ first) [] long two (none_numbered place (0 + (count + 1))))
-            | inl more ↦
-                let n = inner_blocks_for (count - 186) in
-                let last = numbered_append place (0 + (count + 1)) 1 (double_indirect_block ∷ []) (map inner_block (range_with_len 0 n)) refl (numbered_one place (0 + (count + 1)) double_indirect_block (omega arith)) (numbered_made place inner_block (0 + (count + 1) + 1) 0 n (λ i below. omega arith)) in
-                subst (Numbered place 0) (sym (many count more)) (numbered_append place 0 (count + 1) (parts ++ first) (double_indirect_block ∷ map inner_block (range_with_len 0 n)) long two last)
-          ]
-    ]
+numbered_positions size = numbered_by_count (blocks_for_size size)
 
 numbers_distinct : (content : Image) (e : Entry) → e.size ≤ LARGEST_SIZE → IsBody content e → AreDistinct (numbers_of content e)
 unfolding numbers_of

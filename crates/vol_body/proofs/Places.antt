@@ -1,11 +1,11 @@
 -- What a file names at a position.
-use Rattle.std.proofs.Common.{◌≡◌, ◌≢◌, inl, inr, ◌≤◌, ◌<◌, ◌-◌, ◌*◌, ◌/◌, ◌%◌, ◌==◌, ℕ, Bool, true, false, if◌then◌else◌, nat_lt, List, drop, replicate, get_or, refl, sym, ◌∙◌, ap, arith}
+use Rattle.std.proofs.Common.{◌≡◌, ◌≢◌, inl, inr, ◌≤◌, ◌<◌, ◌+◌, ◌-◌, ◌*◌, ◌/◌, ◌%◌, ◌==◌, ℕ, zero, suc, Bool, true, false, if◌then◌else◌, nat_lt, List, drop, replicate, get_or, refl, sym, ◌∙◌, ap, arith}
 use Rattle.std.proofs.lemmas.Bool.{cases_eq, cond-true}
 use Rattle.std.proofs.lemmas.Bool.Decides.{nat_tests}
 use Rattle.byteorder.specs.Endian.{little_number}
 use Rattle.vol_sector.specs.Disk.{Image}
 use Rattle.vol_inode.specs.declared.entry.Entry.{Entry}
-use Rattle.vol_body.specs.Body.{BlockPosition, data_block, indirect_block, inner_block, IsPosition, named, number_in, block_bytes, NamesTaken}
+use Rattle.vol_body.specs.Body.{BlockPosition, data_block, indirect_block, inner_block, double_indirect_block, triple_indirect_block, IsPosition, named, number_in, block_bytes, NamesTaken}
 
 pub number_there : (content : Image) (n i : ℕ) → n ≢ 0 → number_in content n i ≡ little_number 4 (drop (4 * i) (content n))
 number_there content n i there = pick n (little_number 4 (drop (4 * i) (content n))) there
@@ -36,6 +36,25 @@ part_later content e j le = pick j (get_or e.pointers j 0) (number_in content (n
   where
     pick : (j x y z : ℕ) → 186 ≤ j → (if nat_lt j 58 then x else (if nat_lt j 186 then y else z)) ≡ z
     pick j x y z le = grind (arith, nat_tests)
+
+-- the number of an inner block that a double-indirect block has
+pub inner_in : (content : Image) (e : Entry) (d r : ℕ) → r < 128 → named content e (inner_block (128 * d + r)) ≡ number_in content (named content e (double_indirect_block d)) r
+inner_in content e d r lt =
+    let which : (128 * d + r) / 128 ≡ d = omega (arith, lt) in
+    let place : (128 * d + r) % 128 ≡ r = omega (arith, lt) in
+    ap (λ (k : ℕ). number_in content (named content e (double_indirect_block k)) ((128 * d + r) % 128)) which ∙ ap (number_in content (named content e (double_indirect_block d))) place
+
+-- the first double-indirect block names the first inner blocks
+pub inner_of_first : (content : Image) (e : Entry) (i : ℕ) → i < 128 → named content e (inner_block i) ≡ number_in content (named content e (double_indirect_block 0)) i
+inner_of_first content e i lt =
+    let which : i / 128 ≡ 0 = omega (arith, lt) in
+    let place : i % 128 ≡ i = omega (arith, lt) in
+    ap (λ (k : ℕ). number_in content (named content e (double_indirect_block k)) (i % 128)) which ∙ ap (number_in content (named content e (double_indirect_block 0))) place
+
+-- the triple-indirect block names the other double-indirect blocks
+pub double_later : (content : Image) (e : Entry) (d : ℕ) → 1 ≤ d → named content e (double_indirect_block d) ≡ number_in content (named content e triple_indirect_block) (d - 1)
+double_later content e zero le = absurd (omega (arith, le))
+double_later content e (suc m) le = let is : m ≡ suc m - 1 = omega arith in ap (number_in content (named content e triple_indirect_block)) is
 
 same_either : (b : Bool) (n : ℕ) → n ≡ 0 → (if b then n else 0) ≡ n
 same_either true n none = refl

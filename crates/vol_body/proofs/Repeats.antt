@@ -11,21 +11,43 @@ use Rattle.std.proofs.lemmas.Map.Steps.{length-le_from_distinct_below}
 use Rattle.vol_sector.specs.Disk.{Image}
 use Rattle.vol_alloc.specs.Numbers.{AreDistinct}
 use Rattle.vol_inode.specs.declared.entry.Entry.{Entry}
-use Rattle.vol_body.specs.Body.{BlockPosition, data_block, indirect_block, double_indirect_block, inner_block, IsPosition, named, IsBody}
-use Rattle.vol_body.specs.Survey.{data_blocks_from, inner_positions, all_inner_positions, every_position, nonzero, sectors_named}
+use Rattle.vol_body.specs.Body.{BlockPosition, data_block, indirect_block, inner_block, double_indirect_block, triple_indirect_block, IsPosition, named, IsBody}
+use Rattle.vol_body.specs.Survey.{data_blocks_from, inner_positions, double_positions, later_double_positions, every_position, nonzero, sectors_named}
 use Rattle.vol_body.proofs.SurveyExits.{nonzero-append, one_number}
 use Rattle.vol_body.proofs.Surveyed.{every_is, was_there}
 
 -- ---- each position has a number, at which it stands in the list
 
+double_place : ℕ → ℕ
+double_place d = if nat_lt d 1 then 187 else 188 + 16513 * d
+
+inner_place : ℕ → ℕ
+inner_place i = double_place (i / 128) + (1 + 129 * (i % 128))
+
 part_number : ℕ → ℕ
-part_number j = if nat_lt j 58 then j else (if nat_lt j 186 then j + 1 else 189 + 129 * ((j - 186) / 128) + (j - 186) % 128)
+part_number j = if nat_lt j 58 then j else (if nat_lt j 186 then j + 1 else inner_place ((j - 186) / 128) + (1 + (j - 186) % 128))
 
 number_of : BlockPosition → ℕ
 number_of (data_block j) = part_number j
 number_of indirect_block = 58
-number_of double_indirect_block = 187
-number_of (inner_block i) = 188 + 129 * i
+number_of (inner_block i) = inner_place i
+number_of (double_indirect_block d) = double_place d
+number_of triple_indirect_block = 16700
+
+first_double : double_place 0 ≡ 187
+unfolding double_place
+first_double = refl
+
+next_double : (d : ℕ) → 1 ≤ d → double_place d ≡ 188 + 16513 * d
+unfolding double_place
+next_double d le = grind (arith, nat_tests)
+
+inner_at : (d r : ℕ) → r < 128 → inner_place (128 * d + r) ≡ double_place d + (1 + 129 * r)
+unfolding inner_place
+inner_at d r lt =
+    let which : (128 * d + r) / 128 ≡ d = omega (arith, lt) in
+    let rest : (128 * d + r) % 128 ≡ r = omega (arith, lt) in
+    (λ i. double_place (which i) + (1 + 129 * rest i))
 
 direct_number : (j : ℕ) → j < 58 → part_number j ≡ j
 unfolding part_number
@@ -35,9 +57,12 @@ listed_number : (j : ℕ) → 58 ≤ j → j < 186 → part_number j ≡ j + 1
 unfolding part_number
 listed_number j le lt = grind (arith, nat_tests)
 
-later_number : (j : ℕ) → 186 ≤ j → part_number j ≡ 189 + 129 * ((j - 186) / 128) + (j - 186) % 128
+later_number : (j : ℕ) → 186 ≤ j → part_number j ≡ inner_place ((j - 186) / 128) + (1 + (j - 186) % 128)
 unfolding part_number
-later_number j le = grind (arith, nat_tests)
+later_number j le = pick j (inner_place ((j - 186) / 128) + (1 + (j - 186) % 128)) le
+  where
+    pick : (j x : ℕ) → 186 ≤ j → (if nat_lt j 58 then j else (if nat_lt j 186 then j + 1 else x)) ≡ x
+    pick j x le = grind (arith, nat_tests)
 
 -- the positions of a list have these numbers, one after another
 unfoldable pub Numbered : (BlockPosition → ℕ) → ℕ → List BlockPosition → Type 0
@@ -73,36 +98,79 @@ unfolding Numbered
 numbered_one number a p is zero lt = omega (arith, is)
 numbered_one number a p is (suc k) lt = absurd (omega (arith, lt))
 
-numbered_later : (i : ℕ) → Numbered number_of (188 + 129 * i) (inner_positions i)
+numbered_later : (i : ℕ) → Numbered number_of (inner_place i) (inner_positions i)
 unfolding number_of
-numbered_later i = numbered_append number_of (188 + 129 * i) 1 (inner_block i ∷ []) (data_blocks_from (186 + 128 * i) 128) refl (numbered_one number_of (188 + 129 * i) (inner_block i) refl)
-    (numbered_parts (188 + 129 * i + 1) (186 + 128 * i) 128 (λ k lt.
+numbered_later i = numbered_append number_of (inner_place i) 1 (inner_block i ∷ []) (data_blocks_from (186 + 128 * i) 128) refl (numbered_one number_of (inner_place i) (inner_block i) refl)
+    (numbered_parts (inner_place i + 1) (186 + 128 * i) 128 (λ k lt.
     let j = 186 + 128 * i + k in
-    let is = later_number j (omega arith) in
     let group : (j - 186) / 128 ≡ i = omega (arith, lt) in
     let rest : (j - 186) % 128 ≡ k = omega (arith, lt) in
-    omega (arith, is, group, rest)))
+    later_number j (omega arith) ∙ (λ x. inner_place (group x) + (1 + rest x)) ∙ (omega arith)))
 
 long_later : (i : ℕ) → length (inner_positions i) ≡ 129
 long_later i = omega (arith, long_parts (186 + 128 * i) 128)
 
-numbered_flat : (b n : ℕ) → Numbered number_of (188 + 129 * b) (flat_map inner_positions (range_with_len b n))
-unfolding Numbered
-numbered_flat b zero k lt = absurd (omega (arith, lt))
-numbered_flat b (suc n) k lt =
-    let next : 188 + 129 * (b + 1) ≡ 188 + 129 * b + 129 = omega arith in
-    numbered_append number_of (188 + 129 * b) 129 (inner_positions b) (flat_map inner_positions (range_with_len (b + 1) n)) (long_later b) (numbered_later b)
-    (subst (λ (a : ℕ). Numbered number_of a (flat_map inner_positions (range_with_len (b + 1) n))) next (numbered_flat (b + 1) n)) k lt
+long_flat : (b n : ℕ) → length (flat_map inner_positions (range_with_len b n)) ≡ 129 * n
+long_flat b zero = refl
+long_flat b (suc n) = omega (arith, length-append (inner_positions b) (flat_map inner_positions (range_with_len (b + 1) n)), long_later b, long_flat (b + 1) n)
 
-numbered_places : Numbered number_of 0 every_position
-unfolding all_inner_positions number_of
-numbered_places =
-    numbered_append number_of 0 187 (data_blocks_from 0 58 ++ (indirect_block ∷ data_blocks_from 58 128)) (double_indirect_block ∷ all_inner_positions) (omega (arith, length-append (data_blocks_from 0 58) (indirect_block ∷ data_blocks_from 58 128), long_parts 0 58, long_parts 58 128))
-    (numbered_append number_of 0 58 (data_blocks_from 0 58) (indirect_block ∷ data_blocks_from 58 128) (long_parts 0 58)
+numbered_flat : (d r n : ℕ) → r + n ≤ 128 → Numbered number_of (double_place d + (1 + 129 * r)) (flat_map inner_positions (range_with_len (128 * d + r) n))
+unfolding Numbered
+numbered_flat d r zero le k lt = absurd (omega (arith, lt))
+numbered_flat d r (suc n) le k lt =
+    let start = double_place d + (1 + 129 * r) in
+    let b = 128 * d + r in
+    let here : inner_place b ≡ start = inner_at d r (omega (arith, le)) in
+    let further : 128 * d + (r + 1) ≡ b + 1 = omega arith in
+    let next : double_place d + (1 + 129 * (r + 1)) ≡ start + 129 = omega arith in
+    numbered_append number_of start 129 (inner_positions b) (flat_map inner_positions (range_with_len (b + 1) n)) (long_later b)
+    (subst (λ (a : ℕ). Numbered number_of a (inner_positions b)) here (numbered_later b))
+    (subst (λ (a : ℕ). Numbered number_of a (flat_map inner_positions (range_with_len (b + 1) n))) next
+    (subst (λ (x : ℕ). Numbered number_of (double_place d + (1 + 129 * (r + 1))) (flat_map inner_positions (range_with_len x n))) further (numbered_flat d (r + 1) n (omega (arith, le))))) k lt
+
+numbered_double : (d : ℕ) → Numbered number_of (double_place d) (double_positions d)
+unfolding double_positions number_of
+numbered_double d =
+    let start : 128 * d + 0 ≡ 128 * d = omega arith in
+    let first : double_place d + (1 + 129 * 0) ≡ double_place d + 1 = omega arith in
+    numbered_append number_of (double_place d) 1 (double_indirect_block d ∷ []) (flat_map inner_positions (range_with_len (128 * d) 128)) refl (numbered_one number_of (double_place d) (double_indirect_block d) refl)
+    (subst (λ (a : ℕ). Numbered number_of a (flat_map inner_positions (range_with_len (128 * d) 128))) first
+    (subst (λ (x : ℕ). Numbered number_of (double_place d + (1 + 129 * 0)) (flat_map inner_positions (range_with_len x 128))) start (numbered_flat d 0 128 (omega arith))))
+
+long_double : (d : ℕ) → length (double_positions d) ≡ 16513
+unfolding double_positions
+long_double d = omega (arith, long_flat (128 * d) 128)
+
+numbered_doubles : (b n : ℕ) → 1 ≤ b → Numbered number_of (188 + 16513 * b) (flat_map double_positions (range_with_len b n))
+unfolding Numbered
+numbered_doubles b zero some k lt = absurd (omega (arith, lt))
+numbered_doubles b (suc n) some k lt =
+    let next : 188 + 16513 * (b + 1) ≡ 188 + 16513 * b + 16513 = omega arith in
+    numbered_append number_of (188 + 16513 * b) 16513 (double_positions b) (flat_map double_positions (range_with_len (b + 1) n)) (long_double b)
+    (subst (λ (a : ℕ). Numbered number_of a (double_positions b)) (next_double b some) (numbered_double b))
+    (subst (λ (a : ℕ). Numbered number_of a (flat_map double_positions (range_with_len (b + 1) n))) next (numbered_doubles (b + 1) n (omega arith))) k lt
+
+first_two : List BlockPosition
+first_two = data_blocks_from 0 58 ++ (indirect_block ∷ data_blocks_from 58 128)
+
+long_two : length first_two ≡ 187
+unfolding first_two
+long_two = omega (arith, length-append (data_blocks_from 0 58) (indirect_block ∷ data_blocks_from 58 128), long_parts 0 58, long_parts 58 128)
+
+numbered_two : Numbered number_of 0 first_two
+unfolding first_two number_of
+numbered_two =
+    numbered_append number_of 0 58 (data_blocks_from 0 58) (indirect_block ∷ data_blocks_from 58 128) (long_parts 0 58)
     (numbered_parts 0 0 58 (λ i lt. let is = direct_number (0 + i) (omega (arith, lt)) in omega (arith, is)))
     (numbered_append number_of 58 1 (indirect_block ∷ []) (data_blocks_from 58 128) refl (numbered_one number_of 58 indirect_block refl)
-    (numbered_parts 59 58 128 (λ i lt. let is = listed_number (58 + i) (omega arith) (omega (arith, lt)) in omega (arith, is)))))
-    (numbered_append number_of 187 1 (double_indirect_block ∷ []) all_inner_positions refl (numbered_one number_of 187 double_indirect_block refl) (numbered_flat 0 128))
+    (numbered_parts 59 58 128 (λ i lt. let is = listed_number (58 + i) (omega arith) (omega (arith, lt)) in omega (arith, is))))
+
+numbered_places : Numbered number_of 0 every_position
+unfolding first_two later_double_positions number_of
+numbered_places =
+    numbered_append number_of 0 16700 (first_two ++ double_positions 0) (triple_indirect_block ∷ later_double_positions) (omega (arith, length-append first_two (double_positions 0), long_two, long_double 0))
+    (numbered_append number_of 0 187 first_two (double_positions 0) long_two numbered_two (subst (λ (a : ℕ). Numbered number_of a (double_positions 0)) first_double (numbered_double 0)))
+    (numbered_append number_of 16700 1 (triple_indirect_block ∷ []) later_double_positions refl (numbered_one number_of 16700 triple_indirect_block refl) (numbered_doubles 1 128 (omega arith)))
 
 -- ---- numbers without the zeros
 

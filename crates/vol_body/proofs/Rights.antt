@@ -1,5 +1,5 @@
 -- A changed file's entry keeps the rules that its own sector shows.
-use Rattle.std.proofs.Common.{◌≡◌, inl, inr, refl, ℕ, ◌≤◌, ◌<◌, max, get_or, Bool, true, false, if◌then◌else◌, sym, ◌∙◌, ap, subst, arith, Result, Ok, Err, OnOk}
+use Rattle.std.proofs.Common.{◌≡◌, inl, inr, ℕ, ◌≤◌, ◌<◌, max, get_or, sym, ◌∙◌, ap, subst, arith, Result, Ok, Err, OnOk}
 use Rattle.std.proofs.lemmas.Bool.{cases_lt, cases_eq}
 use Rattle.std.proofs.lemmas.Bool.Decides.{nat_tests}
 use Rattle.vol_sector.specs.Disk.{Image}
@@ -10,8 +10,7 @@ use Rattle.vol_inode.specs.declared.version.Version.{Version}
 use Rattle.vol_inode.specs.declared.version.Version.TheVariants.{One, Two}
 use Rattle.vol_inode.specs.Entry.{IsEntry, HasWidths, first_block_of_pointer}
 use Rattle.vol_inode.specs.Space.{size_limit, blocks_for_size}
-use Rattle.vol_inode.proofs.LastPointer.{few_blocks}
-use Rattle.vol_body.specs.Body.{data_block, indirect_block, double_indirect_block, IsBody}
+use Rattle.vol_body.specs.Body.{data_block, indirect_block, double_indirect_block, triple_indirect_block, IsBody}
 use Rattle.vol_body.proofs.Places.{part_direct}
 use Rattle.vol_inode.specs.declared.version.TheConstants.{LARGEST_SIZE}
 
@@ -23,31 +22,28 @@ first_direct : (k : ℕ) → k < 59 → first_block_of_pointer k ≡ k
 first_direct k lt = grind (arith, nat_tests)
 
 -- a pointer past the size is zero
-pointer_past : (content : Image) (e : Entry) → IsBody content e → get_or e.pointers 60 0 ≡ 0 → (k : ℕ) → k < 61 → blocks_for_size e.size ≤ first_block_of_pointer k → get_or e.pointers k 0 ≡ 0
-pointer_past content e body none k lt le = elim (cases_lt k 58) [
+pointer_past : (content : Image) (e : Entry) → IsBody content e → (k : ℕ) → k < 61 → blocks_for_size e.size ≤ first_block_of_pointer k → get_or e.pointers k 0 ≡ 0
+pointer_past content e body k lt le = elim (cases_lt k 58) [
   | inl direct ↦ sym (part_direct content e k direct) ∙ body.past (data_block k) (omega arith) (omega (arith, first_direct k (omega arith)))
   | inr past ↦ elim (cases_eq k 58) [
     | inl is ↦ ap (λ (j : ℕ). get_or e.pointers j 0) is ∙ body.past indirect_block tt (let one : first_block_of_pointer k ≡ 58 = ap first_block_of_pointer is in omega arith)
     | inr other ↦ elim (cases_eq k 59) [
-      | inl is ↦ ap (λ (j : ℕ). get_or e.pointers j 0) is ∙ body.past double_indirect_block tt (let one : first_block_of_pointer k ≡ 186 = ap first_block_of_pointer is in omega arith)
-      | inr rest ↦ let last : k ≡ 60 = omega arith in ap (λ (j : ℕ). get_or e.pointers j 0) last ∙ none
+      | inl is ↦ ap (λ (j : ℕ). get_or e.pointers j 0) is ∙ body.past (double_indirect_block 0) (omega arith) (let one : first_block_of_pointer k ≡ 186 = ap first_block_of_pointer is in omega arith)
+      | inr rest ↦
+          let last : k ≡ 60 = omega arith in
+          ap (λ (j : ℕ). get_or e.pointers j 0) last ∙ body.past triple_indirect_block tt (let one : first_block_of_pointer k ≡ 16570 = ap first_block_of_pointer last in omega arith)
     ]
   ]
 ]
-
--- a pointer that is kept or not, and was zero
-pub zero_or_kept : (b : Bool) (n : ℕ) → n ≡ 0 → (if b then n else 0) ≡ 0
-zero_or_kept true n none = none
-zero_or_kept false n none = refl
 
 pub not_both : (e : Entry) → e.kind ≡ File → e.kind ≡ Directory → ⊥
 not_both e file directory = let same : File ≡ Directory = sym file ∙ directory in cc
 
 pub right_file : (version : Version) (content : Image) (e changed : Entry) (size : ℕ) → IsEntry version e → (e.kind ≡ Directory → size ≡ 0) → size ≤ size_limit version
-    → changed ≡ record e { size = size; pointers = changed.pointers } → HasWidths changed → IsBody content changed → (get_or e.pointers 60 0 ≡ 0 → get_or changed.pointers 60 0 ≡ 0) → IsEntry version changed
-right_file version content e changed size right none small is widths body last =
+    → changed ≡ record e { size = size; pointers = changed.pointers } → HasWidths changed → IsBody content changed → IsEntry version changed
+right_file version content e changed size right none small is widths body =
     let pasts : (k : ℕ) → k < 61 → blocks_for_size size ≤ first_block_of_pointer k → get_or changed.pointers k 0 ≡ 0 = λ k lt le.
-    pointer_past content changed body (last (right.rules.pointers 60 (omega arith) (few_blocks version e.size right.rules.size.small))) k lt (subst (λ (x : Entry). blocks_for_size x.size ≤ first_block_of_pointer k) (sym is) le) in
+    pointer_past content changed body k lt (subst (λ (x : Entry). blocks_for_size x.size ≤ first_block_of_pointer k) (sym is) le) in
     subst (IsEntry version) (sym is) (record {
       widths = record {
         parent = right.widths.parent;

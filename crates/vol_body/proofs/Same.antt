@@ -1,11 +1,11 @@
 -- A file whose sectors stay is the same file.
-use Rattle.std.proofs.Common.{◌≡◌, ◌≢◌, inl, inr, ◌≤◌, ◌<◌, ◌-◌, ◌*◌, ◌/◌, ◌%◌, ℕ, List, drop, get_or, refl, sym, ◌∙◌, ap, arith}
+use Rattle.std.proofs.Common.{◌≡◌, ◌≢◌, inl, inr, ◌≤◌, ◌<◌, ◌-◌, ◌*◌, ◌/◌, ◌%◌, ℕ, zero, suc, List, drop, get_or, refl, sym, ◌∙◌, ap, arith}
 use Rattle.std.proofs.lemmas.Bool.{cases_eq, cases_lt}
 use Rattle.std.proofs.lemmas.List.{ext_get_or}
 use Rattle.byteorder.specs.Endian.{little_number}
 use Rattle.vol_sector.specs.Disk.{Image}
 use Rattle.vol_inode.specs.declared.entry.Entry.{Entry}
-use Rattle.vol_body.specs.Body.{BlockPosition, data_block, indirect_block, double_indirect_block, inner_block, IsPosition, named, number_in, block_bytes, byte_at, bytes_of, IsBody, SameSectors, IsSameFile}
+use Rattle.vol_body.specs.Body.{BlockPosition, data_block, indirect_block, inner_block, double_indirect_block, triple_indirect_block, IsPosition, named, number_in, block_bytes, byte_at, bytes_of, IsBody, SameSectors, IsSameFile}
 use Rattle.vol_body.proofs.Places.{number_there, bytes_there, part_direct, part_listed, part_later}
 use Rattle.vol_body.proofs.Parts.{length-bytes_of, get_or-bytes_of}
 use Rattle.vol_inode.specs.declared.version.TheConstants.{LARGEST_SIZE}
@@ -27,17 +27,25 @@ same_bytes one other n stays = elim (cases_eq n 0) [
 ]
 
 module _ (one other : Image) (e : Entry) (stays : SameSectors one other e) where
-  same_later : (i : ℕ) → i < 128 → named other e (inner_block i) ≡ named one e (inner_block i)
-  same_later i lt = same_number one other (named one e double_indirect_block) i (stays double_indirect_block tt)
+  same_double : (d : ℕ) → d < 129 → named other e (double_indirect_block d) ≡ named one e (double_indirect_block d)
+  same_double zero lt = refl
+  same_double (suc m) lt = same_number one other (named one e triple_indirect_block) m (stays triple_indirect_block tt)
 
-  same_part : (j : ℕ) → j < 16570 → named other e (data_block j) ≡ named one e (data_block j)
+  same_later : (i : ℕ) → i < 16512 → named other e (inner_block i) ≡ named one e (inner_block i)
+  same_later i lt =
+      let d = i / 128 in
+      let below : d < 129 = omega arith in
+      ap (λ (n : ℕ). number_in other n (i % 128)) (same_double d below)
+      ∙ same_number one other (named one e (double_indirect_block d)) (i % 128) (stays (double_indirect_block d) below)
+
+  same_part : (j : ℕ) → j < 2113722 → named other e (data_block j) ≡ named one e (data_block j)
   same_part j lt = elim (cases_lt j 58) [
     | inl direct ↦ part_direct other e j direct ∙ sym (part_direct one e j direct)
     | inr le ↦ elim (cases_lt j 186) [
       | inl listed ↦ part_listed other e j le listed ∙ same_number one other (named one e indirect_block) (j - 58) (stays indirect_block tt) ∙ sym (part_listed one e j le listed)
       | inr later ↦
           let q = (j - 186) / 128 in
-          let below : q < 128 = omega arith in
+          let below : q < 16512 = omega arith in
           part_later other e j later
           ∙ ap (λ (n : ℕ). number_in other n ((j - 186) % 128)) (same_later q below)
           ∙ same_number one other (named one e (inner_block q)) ((j - 186) % 128) (stays (inner_block q) below)
@@ -48,13 +56,14 @@ module _ (one other : Image) (e : Entry) (stays : SameSectors one other e) where
   same_names : (p : BlockPosition) → IsPosition p → named other e p ≡ named one e p
   same_names (data_block j) there = same_part j there
   same_names indirect_block there = refl
-  same_names double_indirect_block there = refl
   same_names (inner_block i) there = same_later i there
+  same_names (double_indirect_block d) there = same_double d there
+  same_names triple_indirect_block there = refl
 
   same_byte : (k : ℕ) → k < LARGEST_SIZE → byte_at other e k ≡ byte_at one e k
   same_byte k lt =
       let j = k / 512 in
-      let there : j < 16570 = omega arith in
+      let there : j < 2113722 = omega arith in
       let n = named one e (data_block j) in
       ap (λ (m : ℕ). get_or (block_bytes other m) (k % 512) 0) (same_part j there)
       ∙ ap (λ (bytes : List ℕ). get_or bytes (k % 512) 0) (same_bytes one other n (stays (data_block j) there))

@@ -7,11 +7,11 @@ use Rattle.vol_inode.specs.declared.entry.Entry.{Entry}
 use Rattle.vol_inode.specs.Space.{blocks_for_size}
 use Rattle.vol_body.specs.declared.truncation.Cut.{Cut}
 use Rattle.vol_body.specs.declared.truncation.Truncation.{Truncation}
-use Rattle.vol_body.specs.Body.{BlockPosition, data_block, indirect_block, double_indirect_block, inner_block, IsPosition, first_served, named, bytes_of, IsBody, NamesTaken}
+use Rattle.vol_body.specs.Body.{BlockPosition, data_block, indirect_block, inner_block, double_indirect_block, triple_indirect_block, IsPosition, first_served, named, bytes_of, IsBody, NamesTaken}
 use Rattle.vol_body.specs.Bytes.{resized_bytes}
 use Rattle.vol_body.specs.Change.{OthersStay, TakesAndGives}
-use Rattle.vol_body.specs.internal.Truncated.{kept_bytes, cut_data_block, cut_segment, zeroed_from, IsCut, IsTruncation, AreWithin, with_cut, with_truncation, Frees, IsFreed}
-use Rattle.vol_body.specs.internal.Writing.{segment, segment_of}
+use Rattle.vol_body.specs.internal.Truncated.{kept_bytes, cut_data_block, cut_segment, cut_double, zeroed_from, IsCut, IsTruncation, AreWithin, with_cut, with_truncation, Frees, IsFreed}
+use Rattle.vol_body.specs.internal.Writing.{segment, segment_of, double_of}
 use Rattle.vol_inode.specs.Entry.{first_block_of_pointer}
 use Rattle.vol_body.proofs.Parts.{length-bytes_of, get_or-bytes_of}
 use Rattle.vol_body.proofs.CutSectors.{put_past, cut_elsewhere, cut_there}
@@ -32,24 +32,35 @@ pub record Shrinks (size place first end : ℕ) (content : Image) (e changed : E
   pub slot : (n : ℕ) → was n ≡ true → n ≢ place
 
 -- a position of which only a beginning is kept
-one_of_three : (size : ℕ) (p : BlockPosition) → 0 < kept_bytes size p → kept_bytes size p < 512 → (p ≡ cut_data_block size) ⊎ ((p ≡ cut_segment size) ⊎ (p ≡ double_indirect_block))
-one_of_three size (data_block j) some short = inl (let at : j ≡ size / 512 = omega arith in ap data_block at)
-one_of_three size indirect_block some short = inr (inl (let at : 0 ≡ segment_of (size / 512) = omega arith in ap segment at))
-one_of_three size double_indirect_block some short = inr (inr refl)
-one_of_three size (inner_block i) some short = inr (inl (let at : suc i ≡ segment_of (size / 512) = omega arith in ap segment at))
+one_of_four : (size : ℕ) (p : BlockPosition) → 0 < kept_bytes size p → kept_bytes size p < 512 → (p ≡ cut_data_block size) ⊎ ((p ≡ cut_segment size) ⊎ ((p ≡ cut_double size) ⊎ (p ≡ triple_indirect_block)))
+one_of_four size (data_block j) some short = inl (let at : j ≡ size / 512 = omega arith in ap data_block at)
+one_of_four size indirect_block some short = inr (inl (let at : 0 ≡ segment_of (size / 512) = omega arith in ap segment at))
+one_of_four size (inner_block i) some short = inr (inl (let at : suc i ≡ segment_of (size / 512) = omega arith in ap segment at))
+one_of_four size (double_indirect_block d) some short = inr (inr (inl (let at : d ≡ double_of (segment_of (size / 512)) = omega arith in ap double_indirect_block at)))
+one_of_four size triple_indirect_block some short = inr (inr (inr refl))
 
 part_no_segment : (g j : ℕ) → data_block j ≡ segment g → ⊥
 part_no_segment zero j is = cc
 part_no_segment (suc i) j is = cc
 
-top_no_segment : (g : ℕ) → double_indirect_block ≡ segment g → ⊥
-top_no_segment zero is = cc
-top_no_segment (suc i) is = cc
+double_no_segment : (d g : ℕ) → double_indirect_block d ≡ segment g → ⊥
+double_no_segment d zero is = cc
+double_no_segment d (suc i) is = cc
 
-part_no_top : (j : ℕ) → data_block j ≡ double_indirect_block → ⊥
-part_no_top j is = cc
+triple_no_segment : (g : ℕ) → triple_indirect_block ≡ segment g → ⊥
+triple_no_segment zero is = cc
+triple_no_segment (suc i) is = cc
 
-segment_there : (g : ℕ) → g < 129 → IsPosition (segment g)
+part_no_double : (j d : ℕ) → data_block j ≡ double_indirect_block d → ⊥
+part_no_double j d is = cc
+
+part_no_triple : (j : ℕ) → data_block j ≡ triple_indirect_block → ⊥
+part_no_triple j is = cc
+
+double_no_triple : (d : ℕ) → double_indirect_block d ≡ triple_indirect_block → ⊥
+double_no_triple d is = cc
+
+segment_there : (g : ℕ) → g < 16513 → IsPosition (segment g)
 segment_there zero lt = tt
 segment_there (suc i) lt = omega (arith, lt)
 
@@ -75,9 +86,15 @@ module _ (size place first end : ℕ) (content : Image) (e changed : Entry) (tru
   apart : (p q : BlockPosition) (kept : ℕ) (c : Cut) → IsPosition p → IsPosition q → (p ≡ q → ⊥) → named content e p ≢ 0 → IsCut content (named content e q) kept c → c.sector ≢ 0 → c.sector ≢ named content e p
   apart p q kept c a b other some is set same = other (s.body.distinct p q a b some (sym same ∙ is.sector set))
 
-  untouched : (n : ℕ) → (truncation.data_block.sector ≢ 0 → truncation.data_block.sector ≢ n) → (truncation.above.sector ≢ 0 → truncation.above.sector ≢ n) → (truncation.top.sector ≢ 0 → truncation.top.sector ≢ n) → with_truncation truncation content n ≡ content n
-  untouched n a b c =
-      cut_elsewhere truncation.top (with_cut truncation.above (with_cut truncation.data_block content)) n c ∙ cut_elsewhere truncation.above (with_cut truncation.data_block content) n b ∙ cut_elsewhere truncation.data_block content n a
+  double_there : IsPosition (cut_double size)
+  double_there = omega (arith, s.shorter, s.small)
+
+  untouched : (n : ℕ) → (truncation.data_block.sector ≢ 0 → truncation.data_block.sector ≢ n) → (truncation.above.sector ≢ 0 → truncation.above.sector ≢ n)
+      → (truncation.double.sector ≢ 0 → truncation.double.sector ≢ n) → (truncation.triple.sector ≢ 0 → truncation.triple.sector ≢ n) → with_truncation truncation content n ≡ content n
+  untouched n a b c d =
+      cut_elsewhere truncation.triple (with_cut truncation.double (with_cut truncation.above (with_cut truncation.data_block content))) n d
+      ∙ cut_elsewhere truncation.double (with_cut truncation.above (with_cut truncation.data_block content)) n c
+      ∙ cut_elsewhere truncation.above (with_cut truncation.data_block content) n b ∙ cut_elsewhere truncation.data_block content n a
 
   elsewhere : (n : ℕ) → n ≢ place → after n ≡ with_truncation truncation content n
   elsewhere n other = put_past place n bytes (with_truncation truncation content) other
@@ -93,44 +110,77 @@ module _ (size place first end : ℕ) (content : Image) (e changed : Entry) (tru
       ∙ untouched (named content e p)
       (λ set. apart p (cut_data_block size) (kept_bytes size (cut_data_block size)) truncation.data_block there part_there (long (cut_data_block size) truncation.data_block s.are_cut.data_block set) some s.are_cut.data_block set)
       (λ set. apart p (cut_segment size) (kept_bytes size (cut_segment size)) truncation.above there above_there (long (cut_segment size) truncation.above s.are_cut.above set) some s.are_cut.above set)
-      (λ set. apart p double_indirect_block (kept_bytes size double_indirect_block) truncation.top there tt (long double_indirect_block truncation.top s.are_cut.top set) some s.are_cut.top set)
+      (λ set. apart p (cut_double size) (kept_bytes size (cut_double size)) truncation.double there double_there (long (cut_double size) truncation.double s.are_cut.double set) some s.are_cut.double set)
+      (λ set. apart p triple_indirect_block (kept_bytes size triple_indirect_block) truncation.triple there tt (long triple_indirect_block truncation.triple s.are_cut.triple set) some s.are_cut.triple set)
 
-  -- each of the three sectors is cut
+  -- each of the four sectors is cut
   abbrev IsCutAt : BlockPosition → Type 0
   IsCutAt p = named content e p ≢ 0 → 0 < kept_bytes size p → kept_bytes size p < 512 → with_truncation truncation content (named content e p) ≡ zeroed_from (kept_bytes size p) (content (named content e p))
+
+  -- what is written for one of them isn't another position's sector
+  not_part : (p : BlockPosition) → IsPosition p → (p ≡ cut_data_block size → ⊥) → named content e p ≢ 0 → truncation.data_block.sector ≢ 0 → truncation.data_block.sector ≢ named content e p
+  not_part p there other some set = apart p (cut_data_block size) (kept_bytes size (cut_data_block size)) truncation.data_block there part_there other some s.are_cut.data_block set
+
+  not_above : (p : BlockPosition) → IsPosition p → (p ≡ cut_segment size → ⊥) → named content e p ≢ 0 → truncation.above.sector ≢ 0 → truncation.above.sector ≢ named content e p
+  not_above p there other some set = apart p (cut_segment size) (kept_bytes size (cut_segment size)) truncation.above there above_there other some s.are_cut.above set
+
+  not_double : (p : BlockPosition) → IsPosition p → (p ≡ cut_double size → ⊥) → named content e p ≢ 0 → truncation.double.sector ≢ 0 → truncation.double.sector ≢ named content e p
+  not_double p there other some set = apart p (cut_double size) (kept_bytes size (cut_double size)) truncation.double there double_there other some s.are_cut.double set
+
+  not_triple : (p : BlockPosition) → IsPosition p → (p ≡ triple_indirect_block → ⊥) → named content e p ≢ 0 → truncation.triple.sector ≢ 0 → truncation.triple.sector ≢ named content e p
+  not_triple p there other some set = apart p triple_indirect_block (kept_bytes size triple_indirect_block) truncation.triple there tt other some s.are_cut.triple set
+
+  abbrev with_one : Image
+  with_one = with_cut truncation.data_block content
+
+  abbrev with_two : Image
+  with_two = with_cut truncation.above with_one
+
+  abbrev with_three : Image
+  with_three = with_cut truncation.double with_two
 
   cuts_part : IsCutAt (cut_data_block size)
   cuts_part some kept short =
       let p = cut_data_block size in
       let n = named content e p in
-      let two = λ (set : truncation.above.sector ≢ 0). apart p (cut_segment size) (kept_bytes size (cut_segment size)) truncation.above part_there above_there (part_no_segment (segment_of (size / 512)) (size / 512)) some s.are_cut.above set in
-      let three = λ (set : truncation.top.sector ≢ 0). apart p double_indirect_block (kept_bytes size double_indirect_block) truncation.top part_there tt (part_no_top (size / 512)) some s.are_cut.top set in
-      cut_elsewhere truncation.top (with_cut truncation.above (with_cut truncation.data_block content)) n three
-      ∙ cut_elsewhere truncation.above (with_cut truncation.data_block content) n two
+      cut_elsewhere truncation.triple with_three n (not_triple p part_there (part_no_triple (size / 512)) some)
+      ∙ cut_elsewhere truncation.double with_two n (not_double p part_there (part_no_double (size / 512) (double_of (segment_of (size / 512)))) some)
+      ∙ cut_elsewhere truncation.above with_one n (not_above p part_there (part_no_segment (segment_of (size / 512)) (size / 512)) some)
       ∙ cut_there content n (kept_bytes size p) truncation.data_block content s.are_cut.data_block some kept short refl
 
   cuts_above : IsCutAt (cut_segment size)
   cuts_above some kept short =
       let p = cut_segment size in
       let n = named content e p in
-      let there = above_there in
-      let one = λ (set : truncation.data_block.sector ≢ 0). apart p (cut_data_block size) (kept_bytes size (cut_data_block size)) truncation.data_block there part_there (λ is. part_no_segment (segment_of (size / 512)) (size / 512) (sym is)) some s.are_cut.data_block set in
-      let three = λ (set : truncation.top.sector ≢ 0). apart p double_indirect_block (kept_bytes size double_indirect_block) truncation.top there tt (λ is. top_no_segment (segment_of (size / 512)) (sym is)) some s.are_cut.top set in
-      cut_elsewhere truncation.top (with_cut truncation.above (with_cut truncation.data_block content)) n three
-      ∙ cut_there content n (kept_bytes size p) truncation.above (with_cut truncation.data_block content) s.are_cut.above some kept short (cut_elsewhere truncation.data_block content n one)
+      cut_elsewhere truncation.triple with_three n (not_triple p above_there (λ is. triple_no_segment (segment_of (size / 512)) (sym is)) some)
+      ∙ cut_elsewhere truncation.double with_two n (not_double p above_there (λ is. double_no_segment (double_of (segment_of (size / 512))) (segment_of (size / 512)) (sym is)) some)
+      ∙ cut_there content n (kept_bytes size p) truncation.above with_one s.are_cut.above some kept short
+      (cut_elsewhere truncation.data_block content n (not_part p above_there (λ is. part_no_segment (segment_of (size / 512)) (size / 512) (sym is)) some))
 
-  cuts_top : IsCutAt double_indirect_block
-  cuts_top some kept short =
-      let p = double_indirect_block in
+  cuts_double : IsCutAt (cut_double size)
+  cuts_double some kept short =
+      let p = cut_double size in
       let n = named content e p in
-      let one = λ (set : truncation.data_block.sector ≢ 0). apart p (cut_data_block size) (kept_bytes size (cut_data_block size)) truncation.data_block tt part_there (λ is. part_no_top (size / 512) (sym is)) some s.are_cut.data_block set in
-      let two = λ (set : truncation.above.sector ≢ 0). apart p (cut_segment size) (kept_bytes size (cut_segment size)) truncation.above tt above_there (top_no_segment (segment_of (size / 512))) some s.are_cut.above set in
-      cut_there content n (kept_bytes size p) truncation.top (with_cut truncation.above (with_cut truncation.data_block content)) s.are_cut.top some kept short (cut_elsewhere truncation.above (with_cut truncation.data_block content) n two ∙ cut_elsewhere truncation.data_block content n one)
+      let d = double_of (segment_of (size / 512)) in
+      cut_elsewhere truncation.triple with_three n (not_triple p double_there (double_no_triple d) some)
+      ∙ cut_there content n (kept_bytes size p) truncation.double with_two s.are_cut.double some kept short
+      (cut_elsewhere truncation.above with_one n (not_above p double_there (double_no_segment d (segment_of (size / 512))) some)
+      ∙ cut_elsewhere truncation.data_block content n (not_part p double_there (λ is. part_no_double (size / 512) d (sym is)) some))
+
+  cuts_triple : IsCutAt triple_indirect_block
+  cuts_triple some kept short =
+      let p = triple_indirect_block in
+      let n = named content e p in
+      cut_there content n (kept_bytes size p) truncation.triple with_three s.are_cut.triple some kept short
+      (cut_elsewhere truncation.double with_two n (not_double p tt (λ is. double_no_triple (double_of (segment_of (size / 512))) (sym is)) some)
+      ∙ cut_elsewhere truncation.above with_one n (not_above p tt (triple_no_segment (segment_of (size / 512))) some)
+      ∙ cut_elsewhere truncation.data_block content n (not_part p tt (λ is. part_no_triple (size / 512) (sym is)) some))
 
   cuts_place : (p : BlockPosition) → IsCutAt p
   cuts_place p some kept short = ⊎_elim (λ is. subst IsCutAt (sym is) cuts_part some kept short)
-      (λ either. ⊎_elim (λ is. subst IsCutAt (sym is) cuts_above some kept short) (λ is. subst IsCutAt (sym is) cuts_top some kept short) either)
-      (one_of_three size p kept short)
+      (λ either. ⊎_elim (λ is. subst IsCutAt (sym is) cuts_above some kept short)
+      (λ rest. ⊎_elim (λ is. subst IsCutAt (sym is) cuts_double some kept short) (λ is. subst IsCutAt (sym is) cuts_triple some kept short) rest) either)
+      (one_of_four size p kept short)
 
   shorter : IsTruncated size content after e changed
   shorter = record {
@@ -143,11 +193,12 @@ module _ (size place first end : ℕ) (content : Image) (e changed : Entry) (tru
   shrunk_others = record {
     outside = λ n other out.
         let out_of = out_of_range first end n out in
-        elsewhere n other ∙ untouched n (λ set. out_of truncation.data_block.sector (s.within.data_block set)) (λ set. out_of truncation.above.sector (s.within.above set)) (λ set. out_of truncation.top.sector (s.within.top set));
+        elsewhere n other ∙ untouched n (λ set. out_of truncation.data_block.sector (s.within.data_block set)) (λ set. out_of truncation.above.sector (s.within.above set)) (λ set. out_of truncation.double.sector (s.within.double set)) (λ set. out_of truncation.triple.sector (s.within.triple set));
     taken = λ n other is_taken foreign. elsewhere n other ∙ untouched n
         (λ set is. foreign (cut_data_block size) part_there (sym (s.are_cut.data_block.sector set) ∙ is))
         (λ set is. foreign (cut_segment size) above_there (sym (s.are_cut.above.sector set) ∙ is))
-        (λ set is. foreign double_indirect_block tt (sym (s.are_cut.top.sector set) ∙ is));
+        (λ set is. foreign (cut_double size) double_there (sym (s.are_cut.double.sector set) ∙ is))
+        (λ set is. foreign triple_indirect_block tt (sym (s.are_cut.triple.sector set) ∙ is));
   }
 
   -- what the file names now it named before, at a position that is kept

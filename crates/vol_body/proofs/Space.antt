@@ -9,11 +9,11 @@ use Rattle.std.proofs.lemmas.List.Sums.{sum_by-cons, sum_by-append, sum_by-take-
 use Rattle.std.proofs.lemmas.List.FromFn.{take-map-range_with_len, length-range_with_len, get_or-range_with_len}
 use Rattle.vol_sector.specs.Disk.{Image}
 use Rattle.vol_inode.specs.declared.entry.Entry.{Entry}
-use Rattle.vol_inode.specs.Space.{blocks_for_size, inner_blocks_for, need_of}
-use Rattle.vol_body.specs.Body.{BlockPosition, data_block, indirect_block, double_indirect_block, inner_block, IsPosition, first_served, named, positions_of}
+use Rattle.vol_inode.specs.Space.{blocks_for_size, inner_blocks_for, double_blocks_for, need_of}
+use Rattle.vol_body.specs.Body.{BlockPosition, data_block, indirect_block, inner_block, double_indirect_block, triple_indirect_block, IsPosition, first_served, named, positions_of}
 use Rattle.vol_body.specs.Change.{used_of}
 use Rattle.vol_body.specs.internal.Naming.{NamesOneMore}
-use Rattle.vol_body.proofs.Needed.{place_there, length-positions_of}
+use Rattle.vol_body.proofs.Needed.{parts_to, indirect_to, inner_to, double_to, triple_to, place_there, length-positions_of}
 use Rattle.vol_body.proofs.OneMore.{named_now, names_by_pointers}
 use Rattle.vol_inode.specs.declared.version.TheConstants.{LARGEST_SIZE}
 
@@ -55,18 +55,23 @@ range_below count bound le = All-from_get_or (λ (j : ℕ). j < bound) (range_wi
     omega (arith, get_or-range_with_len 0 count i 0 short))
 
 pub are_places : (size : ℕ) → size ≤ LARGEST_SIZE → All IsPosition (positions_of size)
-are_places size small =
-    let count = blocks_for_size size in
-    let n = inner_blocks_for (count - 186) in
-    let parts : All IsPosition (map data_block (range_with_len 0 count)) = All-map IsPosition data_block (range_with_len 0 count) (range_below count 16570 (omega arith)) in
-    let later : All IsPosition (map inner_block (range_with_len 0 n)) = All-map IsPosition inner_block (range_with_len 0 n) (range_below n 128 (omega arith)) in
-    let first : All IsPosition (if nat_lt 58 count then indirect_block ∷ [] else []) = either (nat_lt 58 count) (indirect_block ∷ []) (All-cons IsPosition indirect_block [] tt (All-nil IsPosition)) in
-    let second : All IsPosition (if nat_lt 186 count then double_indirect_block ∷ map inner_block (range_with_len 0 n) else []) = either (nat_lt 186 count) (double_indirect_block ∷ map inner_block (range_with_len 0 n)) (All-cons IsPosition double_indirect_block (map inner_block (range_with_len 0 n)) tt later) in
-    All-append IsPosition (map data_block (range_with_len 0 count) ++ (if nat_lt 58 count then indirect_block ∷ [] else [])) (if nat_lt 186 count then double_indirect_block ∷ map inner_block (range_with_len 0 n) else []) (All-append IsPosition (map data_block (range_with_len 0 count)) (if nat_lt 58 count then indirect_block ∷ [] else []) parts first) second
+are_places size small = by_count (blocks_for_size size) (omega (arith, small))
   where
-    either : (b : Bool) (xs : List BlockPosition) → All IsPosition xs → All IsPosition (if b then xs else [])
-    either true xs all = all
-    either false xs all = All-nil IsPosition
+    either : (b : Bool) (p : BlockPosition) → IsPosition p → All IsPosition (if b then p ∷ [] else [])
+    either true p there = All-cons IsPosition p [] there (All-nil IsPosition)
+    either false p there = All-nil IsPosition
+
+    by_count : (count : ℕ) → count ≤ 2113722 → All IsPosition ((((parts_to count ++ indirect_to count) ++ inner_to count) ++ double_to count) ++ triple_to count)
+    by_count count le =
+        let n = inner_blocks_for (count - 186) in
+        let m = double_blocks_for (count - 186) in
+        let parts : All IsPosition (parts_to count) = All-map IsPosition data_block (range_with_len 0 count) (range_below count 2113722 le) in
+        let inner : All IsPosition (inner_to count) = All-map IsPosition inner_block (range_with_len 0 n) (range_below n 16512 (omega (arith, le))) in
+        let double : All IsPosition (double_to count) = All-map IsPosition double_indirect_block (range_with_len 0 m) (range_below m 129 (omega (arith, le))) in
+        All-append IsPosition (((parts_to count ++ indirect_to count) ++ inner_to count) ++ double_to count) (triple_to count)
+        (All-append IsPosition ((parts_to count ++ indirect_to count) ++ inner_to count) (double_to count)
+        (All-append IsPosition (parts_to count ++ indirect_to count) (inner_to count)
+        (All-append IsPosition (parts_to count) (indirect_to count) parts (either (nat_lt 58 count) indirect_block tt)) inner) double) (either (nat_lt 16570 count) triple_indirect_block tt)
 
 -- the test of `used_of`
 names_one : (n : ℕ) → n ≢ 0 → not (n == 0) ≡ true
@@ -116,27 +121,33 @@ count_append : {X : Type 0} (f : X → Bool) (xs ys : List X) → count_by f (xs
 count_append f xs ys = sum_by-append (λ x. cond (f x) 1 0) xs ys
 
 pub count_grown : (f : BlockPosition → Bool) (a b : ℕ) → a ≤ b
-    → count_by f (map data_block (range_with_len 0 a) ++ (if nat_lt 58 a then indirect_block ∷ [] else []) ++ (if nat_lt 186 a then double_indirect_block ∷ map inner_block (range_with_len 0 (inner_blocks_for (a - 186))) else []))
-    ≤ count_by f (map data_block (range_with_len 0 b) ++ (if nat_lt 58 b then indirect_block ∷ [] else []) ++ (if nat_lt 186 b then double_indirect_block ∷ map inner_block (range_with_len 0 (inner_blocks_for (b - 186))) else []))
+    → count_by f ((((parts_to a ++ indirect_to a) ++ inner_to a) ++ double_to a) ++ triple_to a) ≤ count_by f ((((parts_to b ++ indirect_to b) ++ inner_to b) ++ double_to b) ++ triple_to b)
 count_grown f a b le =
-    let parts = λ (c : ℕ). map data_block (range_with_len 0 c) in
-    let first = λ (c : ℕ). if nat_lt 58 c then indirect_block ∷ [] else [] in
-    let later = λ (c : ℕ). double_indirect_block ∷ map inner_block (range_with_len 0 (inner_blocks_for (c - 186))) in
-    let second = λ (c : ℕ). if nat_lt 186 c then later c else [] in
     let in_parts = count_part f data_block a b le in
-    let in_first : count_by f (first a) ≤ count_by f (first b) = either f 58 a b (indirect_block ∷ []) (indirect_block ∷ []) le (omega arith) in
-    let in_later : count_by f (later a) ≤ count_by f (later b) = omega (arith, count_cons f double_indirect_block (map inner_block (range_with_len 0 (inner_blocks_for (a - 186)))), count_cons f double_indirect_block (map inner_block (range_with_len 0 (inner_blocks_for (b - 186)))), count_part f inner_block (inner_blocks_for (a - 186)) (inner_blocks_for (b - 186)) (omega arith)) in
-    let in_second : count_by f (second a) ≤ count_by f (second b) = either f 186 a b (later a) (later b) le in_later in
-    omega (arith, in_parts, in_first, in_second, count_append f (parts a ++ first a) (second a), count_append f (parts a) (first a), count_append f (parts b ++ first b) (second b), count_append f (parts b) (first b))
+    let in_indirect = either f 58 a b indirect_block le in
+    let in_inner = count_part f inner_block (inner_blocks_for (a - 186)) (inner_blocks_for (b - 186)) (omega (arith, le)) in
+    let in_double = count_part f double_indirect_block (double_blocks_for (a - 186)) (double_blocks_for (b - 186)) (omega (arith, le)) in
+    let in_triple = either f 16570 a b triple_indirect_block le in
+    omega (arith, in_parts, in_indirect, in_inner, in_double, in_triple, parted a, parted b)
   where
-    either : (f : BlockPosition → Bool) (n a b : ℕ) (xs ys : List BlockPosition) → a ≤ b → count_by f xs ≤ count_by f ys → count_by f (if nat_lt n a then xs else []) ≤ count_by f (if nat_lt n b then ys else [])
-    either f n a b xs ys le fewer = elim (cases_lt n a) [
+    parted : (c : ℕ) → count_by f ((((parts_to c ++ indirect_to c) ++ inner_to c) ++ double_to c) ++ triple_to c)
+        ≡ count_by f (parts_to c) + count_by f (indirect_to c) + count_by f (inner_to c) + count_by f (double_to c) + count_by f (triple_to c)
+    parted c = omega (
+      arith,
+      count_append f (((parts_to c ++ indirect_to c) ++ inner_to c) ++ double_to c) (triple_to c),
+      count_append f ((parts_to c ++ indirect_to c) ++ inner_to c) (double_to c),
+      count_append f (parts_to c ++ indirect_to c) (inner_to c),
+      count_append f (parts_to c) (indirect_to c),
+    )
+
+    either : (f : BlockPosition → Bool) (n a b : ℕ) (p : BlockPosition) → a ≤ b → count_by f (if nat_lt n a then p ∷ [] else []) ≤ count_by f (if nat_lt n b then p ∷ [] else [])
+    either f n a b p le = elim (cases_lt n a) [
       | inl lt ↦
-          let e : count_by f (if nat_lt n a then xs else []) ≡ count_by f xs = ap (count_by f) (taken n a xs lt) in
-          let g : count_by f (if nat_lt n b then ys else []) ≡ count_by f ys = ap (count_by f) (taken n b ys (omega arith)) in
+          let e : count_by f (if nat_lt n a then p ∷ [] else []) ≡ count_by f (p ∷ []) = ap (count_by f) (taken n a (p ∷ []) lt) in
+          let g : count_by f (if nat_lt n b then p ∷ [] else []) ≡ count_by f (p ∷ []) = ap (count_by f) (taken n b (p ∷ []) (omega arith)) in
           omega (arith, e, g)
       | inr short ↦
-          let e : count_by f (if nat_lt n a then xs else []) ≡ count_by f [] = ap (count_by f) (left n a xs short) in
+          let e : count_by f (if nat_lt n a then p ∷ [] else []) ≡ count_by f [] = ap (count_by f) (left n a (p ∷ []) short) in
           omega (arith, e)
     ]
       where

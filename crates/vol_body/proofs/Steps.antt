@@ -11,7 +11,7 @@ use Rattle.vol_log.specs.declared.log.Log.{Log}
 use Rattle.vol_alloc.specs.Alloc.{first_of, end_of, taken_of}
 use Rattle.vol_alloc.specs.declared.sectors.Alloc.{Alloc}
 use Rattle.vol_inode.specs.declared.entry.Entry.{Entry}
-use Rattle.vol_body.specs.Body.{BlockPosition, data_block, indirect_block, double_indirect_block, inner_block, IsPosition, named, number_in, block_bytes}
+use Rattle.vol_body.specs.Body.{BlockPosition, data_block, indirect_block, inner_block, double_indirect_block, triple_indirect_block, IsPosition, named, number_in, block_bytes}
 use Rattle.vol_body.specs.internal.Writing.{ListedAt, IsBlank, Mirrors, IsReady, SamePlace, ChangesPositions, IsBlockIn, IsPointer, HasBlocks, OnlyPuts, SameRange, segment, staged_count}
 use Rattle.vol_body.proofs.Listed.{number_of_bytes}
 use Rattle.vol_body.proofs.Changes.{takes_same, stays_same}
@@ -51,23 +51,42 @@ taken_range a n is = elim (cases_lt n a.first) [
     second_one : (n m : ℕ) (b : Bool) → m ≤ n → (if nat_lt n m then false else b) ≡ b
     second_one n m b le = grind (arith, nat_tests)
 
+-- what a sector lists that isn't touched
+same_numbers : (a b : Alloc) (content after : Image) (e : Entry) (Touched : BlockPosition → Type 0) (h : BlockPosition) (i : ℕ) → ChangesPositions a b content after e e Touched → IsPosition h → (Touched h → ⊥) → named after e h ≡ named content e h
+    → number_in after (named after e h) i ≡ number_in content (named content e h) i
+same_numbers a b content after e Touched h i changes there not same =
+    ap (λ (n : ℕ). number_in after n i) same
+    ∙ number_of_bytes after (named content e h) i
+    ∙ ap (λ (l : List ℕ). little_number 4 (drop (4 * i) l)) (ap (block_bytes after) (sym same) ∙ (changes.stays h there not).bytes)
+    ∙ sym (number_of_bytes content (named content e h) i)
+
 -- the sector that another position is listed in keeps its position
-pub holder_stays : (a b : Alloc) (content after : Image) (e : Entry) (q p : BlockPosition) (i : ℕ) → ListedAt q i p → ChangesPositions a b content after e e (λ x. (x ≡ p) ⊎ (x ≡ q)) → named after e q ≡ named content e q
-holder_stays a b content after e indirect_block p i at changes = refl
-holder_stays a b content after e double_indirect_block p i at changes = refl
-holder_stays a b content after e (data_block j) p i at changes = absurd at
-holder_stays a b content after e (inner_block k) indirect_block i at changes = absurd at
-holder_stays a b content after e (inner_block k) double_indirect_block i at changes = absurd at
-holder_stays a b content after e (inner_block k) (inner_block j) i at changes = absurd at
-holder_stays a b content after e (inner_block k) (data_block j) i at changes =
-    let top : SamePlace content after e e double_indirect_block = changes.stays double_indirect_block tt (λ touched. not_these touched) in
-    number_of_bytes after (named content e double_indirect_block) k
-    ∙ ap (λ (l : List ℕ). little_number 4 (drop (4 * k) l)) top.bytes
-    ∙ sym (number_of_bytes content (named content e double_indirect_block) k)
+pub holder_stays : (a b : Alloc) (content after : Image) (e : Entry) (q p : BlockPosition) (i : ℕ) → ListedAt q i p → IsPosition q → ChangesPositions a b content after e e (λ x. (x ≡ p) ⊎ (x ≡ q)) → named after e q ≡ named content e q
+holder_stays a b content after e indirect_block p i at there changes = refl
+holder_stays a b content after e triple_indirect_block p i at there changes = refl
+holder_stays a b content after e (data_block j) p i at there changes = absurd at
+holder_stays a b content after e (double_indirect_block zero) p i at there changes = refl
+holder_stays a b content after e (double_indirect_block (suc m)) p i at there changes = same_numbers a b content after e (λ x. (x ≡ p) ⊎ (x ≡ double_indirect_block (suc m))) triple_indirect_block m changes tt (λ touched. apart p at touched) refl
   where
-    not_these : (double_indirect_block ≡ data_block j) ⊎ (double_indirect_block ≡ inner_block k) → ⊥
-    not_these (inl is) = cc
-    not_these (inr is) = cc
+    apart : (p : BlockPosition) → ListedAt (double_indirect_block (suc m)) i p → (triple_indirect_block ≡ p) ⊎ (triple_indirect_block ≡ double_indirect_block (suc m)) → ⊥
+    apart (inner_block k) at (inl is) = cc
+    apart (data_block j) at (inl is) = at
+    apart indirect_block at (inl is) = at
+    apart (double_indirect_block d) at (inl is) = at
+    apart triple_indirect_block at (inl is) = at
+    apart p at (inr is) = cc
+holder_stays a b content after e (inner_block k) p i at there changes =
+    let below : k / 128 < 129 = omega (arith, there) in
+    let top : named after e (double_indirect_block (k / 128)) ≡ named content e (double_indirect_block (k / 128)) = (changes.stays (double_indirect_block (k / 128)) below (λ touched. apart p at (k / 128) touched)).name in
+    same_numbers a b content after e (λ x. (x ≡ p) ⊎ (x ≡ inner_block k)) (double_indirect_block (k / 128)) (k % 128) changes below (λ touched. apart p at (k / 128) touched) top
+  where
+    apart : (p : BlockPosition) → ListedAt (inner_block k) i p → (d : ℕ) → (double_indirect_block d ≡ p) ⊎ (double_indirect_block d ≡ inner_block k) → ⊥
+    apart (data_block j) at d (inl is) = cc
+    apart indirect_block at d (inl is) = at
+    apart (inner_block j) at d (inl is) = at
+    apart (double_indirect_block j) at d (inl is) = at
+    apart triple_indirect_block at d (inl is) = at
+    apart p at d (inr is) = cc
 
 pub staged_here : (n : ℕ) (old new : ℕ → Bool) → ((k : ℕ) → new k ≡ (if k == n then true else old k)) → new n ≡ true
 staged_here n old new is = is n ∙ pick n (old n)
@@ -139,14 +158,14 @@ changes_wider a b content after e changed One Other inside changes = record {
   takes = changes.takes;
   stays = λ p there not. changes.stays p there (λ touched. not (inside p touched));
   size = changes.size;
-  last = changes.last;
   count = changes.count;
 }
 
 -- a pointer sector that lists data blocks
 pub not_a_part : (q : BlockPosition) (i j k : ℕ) → ListedAt q i (data_block j) → q ≡ data_block k → ⊥
 not_a_part indirect_block i j k at is = cc
-not_a_part double_indirect_block i j k at is = at
+not_a_part (double_indirect_block d) i j k at is = at
+not_a_part triple_indirect_block i j k at is = at
 not_a_part (inner_block l) i j k at is = cc
 not_a_part (data_block l) i j k at is = at
 
@@ -166,11 +185,12 @@ part_mirrored content e q i j number image at lt mirror =
         part_later content e j (omega arith)
         ∙ ap (λ (x : ℕ). number_in content (named content e (inner_block x)) ((j - 186) % 128)) group
         ∙ ap (number_in content (named content e (inner_block k))) place
-    by_place double_indirect_block at = absurd at
+    by_place (double_indirect_block d) at = absurd at
+    by_place triple_indirect_block at = absurd at
     by_place (data_block k) at = absurd at
 
 -- a data block's sector is written over
-pub part_over : (a : Alloc) (content after : Image) (e : Entry) (j n : ℕ) (image : List ℕ) → IsReady a content e → j < 16570 → n ≡ named content e (data_block j) → n ≢ 0 → taken_of a n ≡ true → after ≡ put n image content
+pub part_over : (a : Alloc) (content after : Image) (e : Entry) (j n : ℕ) (image : List ℕ) → IsReady a content e → j < 2113722 → n ≡ named content e (data_block j) → n ≢ 0 → taken_of a n ≡ true → after ≡ put n image content
     → ChangesPositions a a content after e e (λ q. q ≡ data_block j) × (block_bytes after (named after e (data_block j)) ≡ image)
 part_over a content after e j n image ready lt is some taken writes =
     let stays = λ (x : ℕ) (other : x ≢ n). ap (λ (m : Image). m x) writes ∙ put_other n x image content other in
@@ -190,8 +210,9 @@ none_taken a after_log = elim (cases_Bool (taken_of a 0)) [
 pub part_in_more : (from to : ℕ) (p : BlockPosition) → IsBlockIn from to p → IsBlockIn from (to + 1) p
 part_in_more from to (data_block j) there = (there.0, omega (arith, there.1))
 part_in_more from to indirect_block there = there
-part_in_more from to double_indirect_block there = there
 part_in_more from to (inner_block i) there = there
+part_in_more from to (double_indirect_block d) there = there
+part_in_more from to triple_indirect_block there = there
 
 pub part_in_here : (from j : ℕ) (p : BlockPosition) → from ≤ j → p ≡ data_block j → IsBlockIn from (j + 1) p
 part_in_here from j p le is = let here : IsBlockIn from (j + 1) (data_block j) = (le, omega arith) in subst (IsBlockIn from (j + 1)) (sym is) here
@@ -200,11 +221,12 @@ part_in_here from j p le is = let here : IsBlockIn from (j + 1) (data_block j) =
 pub part_in_all : (from to j : ℕ) (p : BlockPosition) → j - from ≤ to - from → IsBlockIn from j p → IsBlockIn from to p
 part_in_all from to j (data_block k) few there = (there.0, omega (arith, there.0, there.1))
 part_in_all from to j indirect_block few there = there
-part_in_all from to j double_indirect_block few there = there
 part_in_all from to j (inner_block i) few there = there
+part_in_all from to j (double_indirect_block d) few there = there
+part_in_all from to j triple_indirect_block few there = there
 
 -- one more data block has its bytes
-pub parts_more : (b c : Alloc) (c1 c2 : Image) (e1 e2 : Entry) (Touched : BlockPosition → Type 0) (from j : ℕ) (image : ℕ → List ℕ) → ChangesPositions b c c1 c2 e1 e2 Touched → ((k : ℕ) → k < j → Touched (data_block k) → ⊥) → j < 16570
+pub parts_more : (b c : Alloc) (c1 c2 : Image) (e1 e2 : Entry) (Touched : BlockPosition → Type 0) (from j : ℕ) (image : ℕ → List ℕ) → ChangesPositions b c c1 c2 e1 e2 Touched → ((k : ℕ) → k < j → Touched (data_block k) → ⊥) → j < 2113722
     → HasBlocks c1 e1 from j image → block_bytes c2 (named c2 e2 (data_block j)) ≡ image j → HasBlocks c2 e2 from (j + 1) image
 parts_more b c c1 c2 e1 e2 Touched from j image changes apart small so_far here k le lt = elim (cases_lt k j) [
   | inl before ↦ (changes.stays (data_block k) (omega arith) (apart k before)).bytes ∙ so_far k le before
@@ -221,7 +243,7 @@ pub segment_lists : (g start j : ℕ) → start ≡ 58 + 128 * g → start ≤ j
 segment_lists zero start j is le = omega arith
 segment_lists (suc k) start j is le = omega arith
 
-pub segment_place : (g start to j : ℕ) → start ≡ 58 + 128 * g → start ≤ j → j < 16570 → IsPosition (segment g)
+pub segment_place : (g start to j : ℕ) → start ≡ 58 + 128 * g → start ≤ j → j < 2113722 → IsPosition (segment g)
 segment_place zero start to j is le lt = tt
 segment_place (suc k) start to j is le lt = omega arith
 
@@ -247,15 +269,15 @@ changes_none a content e Touched ready = record {
   takes = takes_same (taken_of a) content content e e ready.taken (λ p there. refl);
   stays = λ p there not. record { name = refl; bytes = refl };
   size = refl;
-  last = refl;
   count = omega arith;
 }
 
 pub blank_zeros : (p : BlockPosition) → IsBlank p (replicate 512 0)
 blank_zeros (data_block j) = tt
 blank_zeros indirect_block = refl
-blank_zeros double_indirect_block = refl
 blank_zeros (inner_block i) = refl
+blank_zeros (double_indirect_block d) = refl
+blank_zeros triple_indirect_block = refl
 
 -- of a position that names none zeros are held
 pub held_zeros : (content : Image) (e : Entry) (p : BlockPosition) (number : ℕ) (image : List ℕ) → Mirrors content e p number image → number ≡ 0 → image ≡ replicate 512 0
@@ -266,9 +288,13 @@ pub segment_no_part : (from to g : ℕ) → IsBlockIn from to (segment g) → �
 segment_no_part from to zero there = there
 segment_no_part from to (suc k) there = there
 
-pub segment_not_lists : (g : ℕ) → double_indirect_block ≡ segment g → ⊥
-segment_not_lists zero is = cc
-segment_not_lists (suc k) is = cc
+pub segment_not_lists : (d g : ℕ) → double_indirect_block d ≡ segment g → ⊥
+segment_not_lists d zero is = cc
+segment_not_lists d (suc k) is = cc
+
+pub segment_not_triple : (g : ℕ) → triple_indirect_block ≡ segment g → ⊥
+segment_not_triple zero is = cc
+segment_not_triple (suc k) is = cc
 
 pub segments_differ : (g : ℕ) → segment (g + 1) ≡ segment g → ⊥
 segments_differ zero is = let one : 0 + 1 ≡ suc 0 = omega arith in clash (sym (ap segment one) ∙ is)
@@ -280,7 +306,7 @@ segments_differ (suc k) is = let one : suc k + 1 ≡ suc (suc k) = omega arith i
     clash : (k : ℕ) → inner_block (suc k) ≡ inner_block k → ⊥
     clash k is = let same : suc k ≡ k = cc in omega arith
 
-pub segment_is_place : (g last : ℕ) → 58 + 128 * g ≤ last → last < 16570 → IsPosition (segment g)
+pub segment_is_place : (g last : ℕ) → 58 + 128 * g ≤ last → last < 2113722 → IsPosition (segment g)
 segment_is_place zero last le lt = tt
 segment_is_place (suc k) last le lt = omega arith
 
@@ -288,14 +314,18 @@ pub segment_is_pointer : (g : ℕ) (p : BlockPosition) → p ≡ segment g → I
 segment_is_pointer zero p is = subst IsPointer (sym is) tt
 segment_is_pointer (suc k) p is = subst IsPointer (sym is) tt
 
-pub lists_is_pointer : (p : BlockPosition) → p ≡ double_indirect_block → IsPointer p
-lists_is_pointer p is = subst IsPointer (sym is) tt
+pub lists_is_pointer : (d : ℕ) (p : BlockPosition) → p ≡ double_indirect_block d → IsPointer p
+lists_is_pointer d p is = subst IsPointer (sym is) tt
+
+pub triple_is_pointer : (p : BlockPosition) → p ≡ triple_indirect_block → IsPointer p
+triple_is_pointer p is = subst IsPointer (sym is) tt
 
 pub part_in_span : (from to first last : ℕ) (p : BlockPosition) → first ≤ from → to ≤ last + 1 → IsBlockIn from to p → IsBlockIn first (last + 1) p
 part_in_span from to first last (data_block j) starts ends there = (omega (arith, there.0), omega (arith, there.1))
 part_in_span from to first last indirect_block starts ends there = there
-part_in_span from to first last double_indirect_block starts ends there = there
 part_in_span from to first last (inner_block i) starts ends there = there
+part_in_span from to first last (double_indirect_block d) starts ends there = there
+part_in_span from to first last triple_indirect_block starts ends there = there
 
 pub room_left : (staged : Bool) (room now : ℕ) → now ≡ (if staged then room else room - 1) → room ≤ now + 1
 room_left true room now is = omega arith

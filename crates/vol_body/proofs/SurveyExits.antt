@@ -20,8 +20,8 @@ use Rattle.vol_log.specs.declared.log.Log.{Log}
 use Rattle.vol_log.proofs.Readings.{reads_same, reads_then}
 use Rattle.vol_body.specs.Body.{number_in}
 use Rattle.vol_body.specs.Survey.{nonzero, AreInside}
-use Rattle.vol_inode.specs.Space.{inner_blocks_for}
-use Rattle.vol_body.specs.internal.Surveying.{listed, with_listed, all_listed, Pushes, Overflows, Surveys, ListsNoneFrom, LaterNone}
+use Rattle.vol_inode.specs.Space.{inner_blocks_for, double_blocks_for}
+use Rattle.vol_body.specs.internal.Surveying.{listed, with_listed, all_listed, with_all_listed, all_with_all_listed, Pushes, Overflows, Surveys, ListsNoneFrom, LaterNone, TripleNone}
 use Rattle.vol_body.proofs.Places.{number_there}
 
 -- a beginning of numbers that are inside
@@ -155,6 +155,21 @@ overflows_list content first end a b xs i lt one over =
     ∙ sym (flat_map-append (with_listed content) (take (i + 1) xs) (drop (i + 1) xs)) ∙ ap (all_listed content) (take-append-drop (i + 1) xs))
     (overflows_before first end a (so_far ++ this) rest (overflows_then first end a b so_far this one over))
 
+-- the same of double-indirect blocks
+pub doubles_more : (content : Image) (xs : List ℕ) (i : ℕ) → i < length xs → all_with_all_listed content (take i xs) ++ with_all_listed content (get_or xs i 0) ≡ all_with_all_listed content (take (i + 1) xs)
+doubles_more content xs i lt = flat_map_more (with_all_listed content) [] (take i xs) (get_or xs i 0) ∙ ap (all_with_all_listed content) (sym (take_more xs i 0 lt))
+
+pub overflows_double : (content : Image) (first end : ℕ) (a b xs : List ℕ) (i : ℕ) → i < length xs → Pushes first end a b (all_with_all_listed content (take i xs)) → Overflows first end b (with_all_listed content (get_or xs i 0))
+    → Overflows first end a (all_with_all_listed content xs)
+overflows_double content first end a b xs i lt one over =
+    let so_far = all_with_all_listed content (take i xs) in
+    let this = with_all_listed content (get_or xs i 0) in
+    let rest = all_with_all_listed content (drop (i + 1) xs) in
+    subst (Overflows first end a)
+    (ap (λ (l : List ℕ). l ++ rest) (doubles_more content xs i lt)
+    ∙ sym (flat_map-append (with_all_listed content) (take (i + 1) xs) (drop (i + 1) xs)) ∙ ap (all_with_all_listed content) (take-append-drop (i + 1) xs))
+    (overflows_before first end a (so_far ++ this) rest (overflows_then first end a b so_far this one over))
+
 -- ---- sector 0 stands for no list
 
 zeros_none : (k : ℕ) → nonzero (replicate k 0) ≡ []
@@ -172,16 +187,30 @@ none_of_all content (suc k) =
 pub none_later : (content : Image) (n : ℕ) → n ≡ 0 → nonzero (n ∷ all_listed content (listed content n)) ≡ []
 none_later content n none = (λ i. nonzero (none i ∷ all_listed content (sym (listed_none content n none) i))) ∙ none_of_all content 128
 
+none_of_doubles : (content : Image) (k : ℕ) → nonzero (all_with_all_listed content (replicate k 0)) ≡ []
+none_of_doubles content zero = refl
+none_of_doubles content (suc k) =
+    nonzero-append (with_all_listed content 0) (all_with_all_listed content (replicate k 0)) ∙ (λ i. none_later content 0 refl i ++ none_of_doubles content k i)
+
+pub none_of_triple : (content : Image) (n : ℕ) → n ≡ 0 → nonzero (n ∷ all_with_all_listed content (listed content n)) ≡ []
+none_of_triple content n none = (λ i. nonzero (none i ∷ all_with_all_listed content (sym (listed_none content n none) i))) ∙ none_of_doubles content 128
+
 pushes_zeros : (first end : ℕ) (old numbers : List ℕ) → AreInside first end old → nonzero numbers ≡ [] → Pushes first end old old numbers
 pushes_zeros first end old numbers all none = record { named = sym (append-nil old) ∙ ap (λ (l : List ℕ). old ++ l) (sym none); inside = all }
 
 pub lists_none : (content : Image) (n from : ℕ) → n ≡ 0 → ListsNoneFrom content n from
 lists_none content n from none i le lt = ap (λ (m : ℕ). number_in content m i) none
 
-pub later_list_none : (content : Image) (n count : ℕ) → n ≡ 0 → LaterNone content n count
-later_list_none content n count none = record {
-  own = lists_none content n (inner_blocks_for (count - 186)) none;
-  later = λ i lt. lists_none content (get_or (listed content n) i 0) (count - (186 + 128 * i)) (number_listed content n i lt ∙ ap (λ (m : ℕ). number_in content m i) none);
+pub later_list_none : (content : Image) (n start count : ℕ) → n ≡ 0 → LaterNone content n start count
+later_list_none content n start count none = record {
+  own = lists_none content n (inner_blocks_for (count - start)) none;
+  later = λ i lt. lists_none content (get_or (listed content n) i 0) (count - (start + 128 * i)) (number_listed content n i lt ∙ ap (λ (m : ℕ). number_in content m i) none);
+}
+
+pub triple_none : (content : Image) (n count : ℕ) → n ≡ 0 → TripleNone content n count
+triple_none content n count none = record {
+  own = lists_none content n (double_blocks_for (count - 16570)) none;
+  doubles = λ m lt. later_list_none content (get_or (listed content n) m 0) (16570 + 16384 * m) count (number_listed content n m lt ∙ ap (λ (x : ℕ). number_in content x m) none);
 }
 
 -- ---- what a step of a survey answers

@@ -11,11 +11,11 @@ use Rattle.vol_alloc.specs.Numbers.{AreDistinct}
 use Rattle.vol_inode.specs.declared.entry.Entry.{Entry}
 use Rattle.vol_inode.specs.Entry.{UnusedPointersAreZero}
 use Rattle.vol_inode.specs.Space.{blocks_for_size}
-use Rattle.vol_body.specs.Body.{BlockPosition, data_block, indirect_block, double_indirect_block, inner_block, IsPosition, named, number_in, block_bytes, byte_at, IsBody}
+use Rattle.vol_body.specs.Body.{BlockPosition, data_block, indirect_block, inner_block, double_indirect_block, triple_indirect_block, IsPosition, named, number_in, block_bytes, byte_at, IsBody}
 use Rattle.vol_body.specs.Change.{NamesSector}
-use Rattle.vol_body.specs.Survey.{data_blocks_from, inner_positions, all_inner_positions, every_position, nonzero, sectors_named, AreInside, IsTrimmed}
-use Rattle.vol_body.specs.internal.Surveying.{listed, with_listed, all_listed, ListsNoneFrom, LaterNone, NamesNonePast, NamesBelow, EndsInZeros}
-use Rattle.vol_body.proofs.Places.{part_direct, part_listed, part_later}
+use Rattle.vol_body.specs.Survey.{data_blocks_from, inner_positions, double_positions, later_double_positions, every_position, nonzero, sectors_named, AreInside, IsTrimmed}
+use Rattle.vol_body.specs.internal.Surveying.{listed, with_listed, all_listed, with_all_listed, all_with_all_listed, ListsNoneFrom, LaterNone, TripleNone, NamesNonePast, NamesBelow, EndsInZeros}
+use Rattle.vol_body.proofs.Places.{part_direct, part_listed, part_later, inner_in}
 use Rattle.vol_body.proofs.SurveyExits.{nonzero-append, one_number, number_listed, length-listed}
 use Rattle.vol_inode.specs.declared.version.TheConstants.{LARGEST_SIZE}
 
@@ -36,28 +36,47 @@ in_flat f a (suc n) i p le lt has = elim (cases_eq a i) [
   | inr other ↦ Contains-append_right (f a) (flat_map f (range_with_len (a + 1) n)) p (in_flat f (a + 1) n i p (omega (arith, le, other)) (omega (arith, lt)) has)
 ]
 
-in_later : (i : ℕ) (p : BlockPosition) → i < 128 → Contains (inner_positions i) p → Contains all_inner_positions p
-unfolding all_inner_positions
-in_later i p lt has = in_flat inner_positions 0 128 i p (omega arith) (omega (arith, lt)) has
+in_double : (d i : ℕ) (p : BlockPosition) → 128 * d ≤ i → i < 128 * d + 128 → Contains (inner_positions i) p → Contains (double_positions d) p
+unfolding double_positions
+in_double d i p le lt has = Contains-append_right (double_indirect_block d ∷ []) (flat_map inner_positions (range_with_len (128 * d) 128)) p (in_flat inner_positions (128 * d) 128 i p le lt has)
+
+double_there : (d : ℕ) → Contains (double_positions d) (double_indirect_block d)
+unfolding double_positions
+double_there d = (0, omega arith, refl)
 
 first_two : List BlockPosition
 first_two = data_blocks_from 0 58 ++ (indirect_block ∷ data_blocks_from 58 128)
 
+in_first_two : (p : BlockPosition) → Contains first_two p → Contains every_position p
+unfolding first_two
+in_first_two p has = Contains-append_left (first_two ++ double_positions 0) (triple_indirect_block ∷ later_double_positions) p (Contains-append_left first_two (double_positions 0) p has)
+
+in_doubles : (d : ℕ) (p : BlockPosition) → d < 129 → Contains (double_positions d) p → Contains every_position p
+unfolding first_two later_double_positions
+in_doubles d p lt has = elim (cases_eq d 0) [
+  | inl none ↦ Contains-append_left (first_two ++ double_positions 0) (triple_indirect_block ∷ later_double_positions) p (Contains-append_right first_two (double_positions 0) p (subst (λ (k : ℕ). Contains (double_positions k) p) none has))
+  | inr some ↦ Contains-append_right (first_two ++ double_positions 0) (triple_indirect_block ∷ later_double_positions) p
+      (Contains-append_right (triple_indirect_block ∷ []) later_double_positions p (in_flat double_positions 1 128 d p (omega (arith, some)) (omega (arith, lt)) has))
+]
+
+in_inner : (i : ℕ) (p : BlockPosition) → i < 16512 → Contains (inner_positions i) p → Contains every_position p
+in_inner i p lt has = in_doubles (i / 128) p (omega (arith, lt)) (in_double (i / 128) i p (omega arith) (omega arith) has)
+
 pub in_every : (p : BlockPosition) → IsPosition p → Contains every_position p
 unfolding first_two
 in_every (data_block j) there = elim (cases_lt j 58) [
-  | inl lt ↦ Contains-append_left first_two (double_indirect_block ∷ all_inner_positions) (data_block j) (Contains-append_left (data_blocks_from 0 58) (indirect_block ∷ data_blocks_from 58 128) (data_block j) (in_parts 0 58 j (omega arith) lt))
+  | inl lt ↦ in_first_two (data_block j) (Contains-append_left (data_blocks_from 0 58) (indirect_block ∷ data_blocks_from 58 128) (data_block j) (in_parts 0 58 j (omega arith) lt))
   | inr le ↦ elim (cases_lt j 186) [
-    | inl below ↦ Contains-append_left first_two (double_indirect_block ∷ all_inner_positions) (data_block j) (Contains-append_right (data_blocks_from 0 58) (indirect_block ∷ data_blocks_from 58 128) (data_block j) (Contains-append_right (indirect_block ∷ []) (data_blocks_from 58 128) (data_block j) (in_parts 58 128 j le (omega (arith, below)))))
+    | inl below ↦ in_first_two (data_block j) (Contains-append_right (data_blocks_from 0 58) (indirect_block ∷ data_blocks_from 58 128) (data_block j) (Contains-append_right (indirect_block ∷ []) (data_blocks_from 58 128) (data_block j) (in_parts 58 128 j le (omega (arith, below)))))
     | inr past ↦
         let i = (j - 186) / 128 in
-        Contains-append_right first_two (double_indirect_block ∷ all_inner_positions) (data_block j) (Contains-append_right (double_indirect_block ∷ []) all_inner_positions (data_block j)
-        (in_later i (data_block j) (omega (arith, there)) (Contains-append_right (inner_block i ∷ []) (data_blocks_from (186 + 128 * i) 128) (data_block j) (in_parts (186 + 128 * i) 128 j (omega (arith, past)) (omega (arith, past))))))
+        in_inner i (data_block j) (omega (arith, there)) (Contains-append_right (inner_block i ∷ []) (data_blocks_from (186 + 128 * i) 128) (data_block j) (in_parts (186 + 128 * i) 128 j (omega (arith, past)) (omega (arith, past))))
   ]
 ]
-in_every indirect_block there = Contains-append_left first_two (double_indirect_block ∷ all_inner_positions) indirect_block (Contains-append_right (data_blocks_from 0 58) (indirect_block ∷ data_blocks_from 58 128) indirect_block (0, omega arith, refl))
-in_every double_indirect_block there = Contains-append_right first_two (double_indirect_block ∷ all_inner_positions) double_indirect_block (0, omega arith, refl)
-in_every (inner_block i) there = Contains-append_right first_two (double_indirect_block ∷ all_inner_positions) (inner_block i) (Contains-append_right (double_indirect_block ∷ []) all_inner_positions (inner_block i) (in_later i (inner_block i) there (0, omega arith, refl)))
+in_every indirect_block there = in_first_two indirect_block (Contains-append_right (data_blocks_from 0 58) (indirect_block ∷ data_blocks_from 58 128) indirect_block (0, omega arith, refl))
+in_every (inner_block i) there = in_inner i (inner_block i) there (0, omega arith, refl)
+in_every (double_indirect_block d) there = in_doubles d (double_indirect_block d) there (double_there d)
+in_every triple_indirect_block there = Contains-append_right (first_two ++ double_positions 0) (triple_indirect_block ∷ later_double_positions) triple_indirect_block (0, omega arith, refl)
 
 pub in_map : (g : BlockPosition → ℕ) (xs : List BlockPosition) (p : BlockPosition) → Contains xs p → Contains (map g xs) (g p)
 in_map g xs p has = (has.0, omega (arith, has.1, length-map xs g), get_or-map g xs has.0 p (g p) has.1 ∙ ap g has.2)
@@ -119,9 +138,37 @@ at_later content e q =
     let n = named content e (inner_block q) in
     ap (λ (l : List ℕ). n ∷ l) (at_parts (named content e) (186 + 128 * q) 128 (listed content n) (length-listed content n) (λ i lt. number_listed content n i lt ∙ sym (later_part content e q i lt)))
 
-at_all_later : (content : Image) (e : Entry) → map (named content e) all_inner_positions ≡ all_listed content (listed content (named content e double_indirect_block))
-unfolding all_inner_positions listed
-at_all_later content e = at_flat (named content e) inner_positions (with_listed content) (number_in content (named content e double_indirect_block)) 0 128 (λ i le lt. at_later content e i)
+inner_listed : (content : Image) (e : Entry) (d : ℕ) → map (λ (i : ℕ). named content e (inner_block i)) (range_with_len (128 * d) 128) ≡ listed content (named content e (double_indirect_block d))
+inner_listed content e d =
+    let g = λ (i : ℕ). named content e (inner_block i) in
+    let n = named content e (double_indirect_block d) in
+    let long = length-map-range_with_len g (128 * d) 128 in
+    ext_get_or 0 (map g (range_with_len (128 * d) 128)) (listed content n) (long ∙ sym (length-listed content n)) (λ r lt.
+    let within : r < 128 = omega (arith, lt, long) in
+    get_or-map-range_with_len g (128 * d) 128 r (128 * d + r) 0 within (omega arith) ∙ inner_in content e d r within ∙ sym (number_listed content n r within))
+
+at_double : (content : Image) (e : Entry) (d : ℕ) → map (named content e) (double_positions d) ≡ with_all_listed content (named content e (double_indirect_block d))
+unfolding double_positions
+at_double content e d =
+    let n = named content e (double_indirect_block d) in
+    ap (λ (l : List ℕ). n ∷ l) (at_flat (named content e) inner_positions (with_listed content) (λ (i : ℕ). named content e (inner_block i)) (128 * d) 128 (λ i le lt. at_later content e i) ∙ ap (all_listed content) (inner_listed content e d))
+
+-- the number of a double-indirect block that the triple-indirect block has
+double_in : (content : Image) (e : Entry) (m : ℕ) → named content e (double_indirect_block (1 + m)) ≡ number_in content (named content e triple_indirect_block) m
+double_in content e m = let is : 1 + m ≡ suc m = omega arith in ap (λ (k : ℕ). named content e (double_indirect_block k)) is
+
+double_listed : (content : Image) (e : Entry) → map (λ (d : ℕ). named content e (double_indirect_block d)) (range_with_len 1 128) ≡ listed content (named content e triple_indirect_block)
+double_listed content e =
+    let g = λ (d : ℕ). named content e (double_indirect_block d) in
+    let n = named content e triple_indirect_block in
+    let long = length-map-range_with_len g 1 128 in
+    ext_get_or 0 (map g (range_with_len 1 128)) (listed content n) (long ∙ sym (length-listed content n)) (λ m lt.
+    let within : m < 128 = omega (arith, lt, long) in
+    get_or-map-range_with_len g 1 128 m (1 + m) 0 within (omega arith) ∙ double_in content e m ∙ sym (number_listed content n m within))
+
+at_later_doubles : (content : Image) (e : Entry) → map (named content e) later_double_positions ≡ all_with_all_listed content (listed content (named content e triple_indirect_block))
+unfolding later_double_positions
+at_later_doubles content e = at_flat (named content e) double_positions (with_all_listed content) (λ (d : ℕ). named content e (double_indirect_block d)) 1 128 (λ d le lt. at_double content e d) ∙ ap (all_with_all_listed content) (double_listed content e)
 
 at_direct : (content : Image) (e : Entry) → length e.pointers ≡ 61 → map (named content e) (data_blocks_from 0 58) ≡ take 58 e.pointers
 at_direct content e long = at_parts (named content e) 0 58 (take 58 e.pointers) (length-take-le 58 e.pointers (omega (arith, long))) (λ i lt.
@@ -129,46 +176,82 @@ at_direct content e long = at_parts (named content e) 0 58 (take 58 e.pointers) 
     get_or-take 58 e.pointers i 0 lt ∙ sym (part_direct content e i lt) ∙ ap (λ (j : ℕ). named content e (data_block j)) same)
 
 pub at_every : (content : Image) (e : Entry) → length e.pointers ≡ 61
-    → (take 58 e.pointers ++ with_listed content (named content e indirect_block)) ++ (named content e double_indirect_block ∷ all_listed content (listed content (named content e double_indirect_block))) ≡ map (named content e) every_position
+    → ((take 58 e.pointers ++ with_listed content (named content e indirect_block)) ++ with_all_listed content (named content e (double_indirect_block 0)))
+    ++ (named content e triple_indirect_block ∷ all_with_all_listed content (listed content (named content e triple_indirect_block))) ≡ map (named content e) every_position
+unfolding first_two
 at_every content e long =
     let g = named content e in
     let a = sym (at_direct content e long) in
     let b = sym (at_list content e) in
-    let c = sym (at_all_later content e) in
-    (λ i. (a i ++ (g indirect_block ∷ b i)) ++ (g double_indirect_block ∷ c i))
-    ∙ sym (map-append g (data_blocks_from 0 58 ++ (indirect_block ∷ data_blocks_from 58 128)) (double_indirect_block ∷ all_inner_positions) ∙ ap (λ (l : List ℕ). l ++ map g (double_indirect_block ∷ all_inner_positions)) (map-append g (data_blocks_from 0 58) (indirect_block ∷ data_blocks_from 58 128)))
+    let c = sym (at_double content e 0) in
+    let d = sym (at_later_doubles content e) in
+    (λ i. ((a i ++ (g indirect_block ∷ b i)) ++ c i) ++ (g triple_indirect_block ∷ d i))
+    ∙ sym (map-append g (first_two ++ double_positions 0) (triple_indirect_block ∷ later_double_positions)
+    ∙ ap (λ (l : List ℕ). l ++ map g (triple_indirect_block ∷ later_double_positions)) (map-append g first_two (double_positions 0)
+    ∙ ap (λ (l : List ℕ). l ++ map g (double_positions 0)) (map-append g (data_blocks_from 0 58) (indirect_block ∷ data_blocks_from 58 128))))
 
 -- ---- no number stands for a data block at or past the size
 
 serves_first : (k : ℕ) → k < 59 → (if nat_lt k 59 then k else (if nat_lt k 60 then 186 else 16570)) ≡ k
 serves_first k lt = grind (arith, nat_tests)
 
-pub none_past : (content : Image) (e : Entry) → UnusedPointersAreZero e → ListsNoneFrom content (named content e indirect_block) (blocks_for_size e.size - 58) → LaterNone content (named content e double_indirect_block) (blocks_for_size e.size) → NamesNonePast content e
-none_past content e pointers own none (data_block j) there le = elim (cases_lt j 58) [
-  | inl lt ↦ part_direct content e j lt ∙ pointers j (omega (arith, lt)) (subst (λ (k : ℕ). blocks_for_size e.size ≤ k) (sym (serves_first j (omega (arith, lt)))) le)
-  | inr past ↦ elim (cases_lt j 186) [
-    | inl lt ↦ part_listed content e j past lt ∙ own (j - 58) (omega (arith, le)) (omega (arith, lt))
-    | inr later ↦
-        let q = (j - 186) / 128 in
-        let i = (j - 186) % 128 in
-        let below : q < 128 = omega (arith, there) in
-        part_later content e j later ∙ ap (λ (n : ℕ). number_in content n i) (sym (number_listed content (named content e double_indirect_block) q below)) ∙ none.later q below i (omega (arith, le, later)) (omega arith)
+module _ (content : Image) (e : Entry) where
+  -- each double-indirect block names none past the size
+  doubles_none : LaterNone content (named content e (double_indirect_block 0)) 186 (blocks_for_size e.size) → TripleNone content (named content e triple_indirect_block) (blocks_for_size e.size)
+      → (d : ℕ) → d < 129 → LaterNone content (named content e (double_indirect_block d)) (186 + 16384 * d) (blocks_for_size e.size)
+  doubles_none first rest zero lt = first
+  doubles_none first rest (suc m) lt =
+      let start : 16570 + 16384 * m ≡ 186 + 16384 * suc m = omega arith in
+      subst (λ (k : ℕ). LaterNone content (named content e (double_indirect_block (suc m))) k (blocks_for_size e.size)) start
+      (subst (λ (n : ℕ). LaterNone content n (16570 + 16384 * m) (blocks_for_size e.size)) (number_listed content (named content e triple_indirect_block) m (omega (arith, lt))) (rest.doubles m (omega (arith, lt))))
+
+  pub none_past : UnusedPointersAreZero e → ListsNoneFrom content (named content e indirect_block) (blocks_for_size e.size - 58) → LaterNone content (named content e (double_indirect_block 0)) 186 (blocks_for_size e.size)
+      → TripleNone content (named content e triple_indirect_block) (blocks_for_size e.size) → NamesNonePast content e
+  none_past pointers own first rest (data_block j) there le = elim (cases_lt j 58) [
+    | inl lt ↦ part_direct content e j lt ∙ pointers j (omega (arith, lt)) (subst (λ (k : ℕ). blocks_for_size e.size ≤ k) (sym (serves_first j (omega (arith, lt)))) le)
+    | inr past ↦ elim (cases_lt j 186) [
+      | inl lt ↦ part_listed content e j past lt ∙ own (j - 58) (omega (arith, le)) (omega (arith, lt))
+      | inr later ↦
+          let q = (j - 186) / 128 in
+          let i = (j - 186) % 128 in
+          let d = q / 128 in
+          let r = q % 128 in
+          let below : d < 129 = omega (arith, there) in
+          part_later content e j later ∙ ap (λ (n : ℕ). number_in content n i) (sym (number_listed content (named content e (double_indirect_block d)) r (omega arith)))
+          ∙ (doubles_none first rest d below).later r (omega arith) i (omega (arith, le, later)) (omega arith)
+    ]
   ]
-]
-none_past content e pointers own none indirect_block there le = pointers 58 (omega arith) le
-none_past content e pointers own none double_indirect_block there le = pointers 59 (omega arith) le
-none_past content e pointers own none (inner_block i) there le = none.own i (omega (arith, le)) there
+  none_past pointers own first rest indirect_block there le = pointers 58 (omega arith) le
+  none_past pointers own first rest (inner_block i) there le = (doubles_none first rest (i / 128) (omega (arith, there))).own (i % 128) (omega (arith, le)) (omega arith)
+  none_past pointers own first rest (double_indirect_block zero) there le = pointers 59 (omega arith) (omega (arith, le))
+  none_past pointers own first rest (double_indirect_block (suc m)) there le = rest.own m (omega (arith, le)) (omega (arith, there))
+  none_past pointers own first rest triple_indirect_block there le = pointers 60 (omega arith) le
 
-pub past_list : (content : Image) (e : Entry) → NamesNonePast content e → ListsNoneFrom content (named content e indirect_block) (blocks_for_size e.size - 58)
-past_list content e past i le lt =
-    let same : i ≡ 58 + i - 58 = omega arith in
-    ap (number_in content (named content e indirect_block)) same ∙ sym (part_listed content e (58 + i) (omega arith) (omega (arith, lt))) ∙ past (data_block (58 + i)) (omega (arith, lt)) (omega (arith, le))
+  pub past_list : NamesNonePast content e → ListsNoneFrom content (named content e indirect_block) (blocks_for_size e.size - 58)
+  past_list past i le lt =
+      let same : i ≡ 58 + i - 58 = omega arith in
+      ap (number_in content (named content e indirect_block)) same ∙ sym (part_listed content e (58 + i) (omega arith) (omega (arith, lt))) ∙ past (data_block (58 + i)) (omega (arith, lt)) (omega (arith, le))
 
-pub past_later : (content : Image) (e : Entry) → NamesNonePast content e → LaterNone content (named content e double_indirect_block) (blocks_for_size e.size)
-past_later content e past = record {
-  own = λ i le lt. past (inner_block i) lt (omega (arith, le));
-  later = λ q below i le lt. ap (λ (n : ℕ). number_in content n i) (number_listed content (named content e double_indirect_block) q below) ∙ sym (later_part content e q i lt) ∙ past (data_block (186 + 128 * q + i)) (omega (arith, below, lt)) (omega (arith, le));
-}
+  past_double : NamesNonePast content e → (d : ℕ) → d < 129 → LaterNone content (named content e (double_indirect_block d)) (186 + 16384 * d) (blocks_for_size e.size)
+  past_double past d there = record {
+    own = λ r le lt. sym (inner_in content e d r lt) ∙ past (inner_block (128 * d + r)) (omega (arith, there, lt)) (omega (arith, le));
+    later = λ r below i le lt.
+        let q = 128 * d + r in
+        ap (λ (n : ℕ). number_in content n i) (number_listed content (named content e (double_indirect_block d)) r below ∙ sym (inner_in content e d r below))
+        ∙ sym (later_part content e q i lt) ∙ past (data_block (186 + 128 * q + i)) (omega (arith, there, below, lt)) (omega (arith, le));
+  }
+
+  pub past_later : NamesNonePast content e → LaterNone content (named content e (double_indirect_block 0)) 186 (blocks_for_size e.size)
+  past_later past = past_double past 0 (omega arith)
+
+  pub past_triple : NamesNonePast content e → TripleNone content (named content e triple_indirect_block) (blocks_for_size e.size)
+  past_triple past = record {
+    own = λ m le lt. past (double_indirect_block (suc m)) (omega (arith, lt)) (omega (arith, le));
+    doubles = λ m lt.
+        let start : 186 + 16384 * suc m ≡ 16570 + 16384 * m = omega arith in
+        subst (λ (n : ℕ). LaterNone content n (16570 + 16384 * m) (blocks_for_size e.size)) (sym (number_listed content (named content e triple_indirect_block) m lt))
+        (subst (λ (k : ℕ). LaterNone content (named content e (double_indirect_block (suc m))) k (blocks_for_size e.size)) start (past_double past (suc m) (omega (arith, lt))));
+  }
 
 -- ---- the bytes past the size
 
@@ -197,7 +280,7 @@ flat_are f a (suc n) m le each p has = elim (Contains-append_cases (f a) (flat_m
   | inr rest ↦ flat_are f (a + 1) n m (omega (arith, le)) each p rest
 ]
 
-parts_are : (first count : ℕ) → first + count ≤ 16570 → (p : BlockPosition) → Contains (data_blocks_from first count) p → IsPosition p
+parts_are : (first count : ℕ) → first + count ≤ 2113722 → (p : BlockPosition) → Contains (data_blocks_from first count) p → IsPosition p
 unfolding data_blocks_from
 parts_are first count le p has =
     let many : has.0 < count = omega (arith, has.1, length-map-range_with_len data_block first count) in
@@ -213,17 +296,26 @@ head_or x p xs there rest has = elim (Contains-append_cases (x ∷ []) xs p has)
     sole x p zero lt is = is
     sole x p (suc k) lt is = absurd (omega (arith, lt))
 
-later_are : (p : BlockPosition) → Contains all_inner_positions p → IsPosition p
-unfolding all_inner_positions
-later_are p has = flat_are inner_positions 0 128 128 (omega arith) (λ i lt q stands. head_or (inner_block i) q (data_blocks_from (186 + 128 * i) 128) lt (parts_are (186 + 128 * i) 128 (omega (arith, lt))) stands) p has
+double_are : (d : ℕ) → d < 129 → (p : BlockPosition) → Contains (double_positions d) p → IsPosition p
+unfolding double_positions
+double_are d below p has = head_or (double_indirect_block d) p (flat_map inner_positions (range_with_len (128 * d) 128)) below
+    (λ q stands. flat_are inner_positions (128 * d) 128 16512 (omega (arith, below)) (λ i lt r here. head_or (inner_block i) r (data_blocks_from (186 + 128 * i) 128) lt (parts_are (186 + 128 * i) 128 (omega (arith, lt))) here) q stands) has
+
+later_are : (p : BlockPosition) → Contains later_double_positions p → IsPosition p
+unfolding later_double_positions
+later_are p has = flat_are double_positions 1 128 129 (omega arith) double_are p has
 
 pub every_is : (p : BlockPosition) → Contains every_position p → IsPosition p
-every_is p has = elim (Contains-append_cases (data_blocks_from 0 58 ++ (indirect_block ∷ data_blocks_from 58 128)) (double_indirect_block ∷ all_inner_positions) p has) [
-  | inl front ↦ elim (Contains-append_cases (data_blocks_from 0 58) (indirect_block ∷ data_blocks_from 58 128) p front) [
-    | inl direct ↦ parts_are 0 58 (omega arith) p direct
-    | inr next ↦ head_or indirect_block p (data_blocks_from 58 128) tt (parts_are 58 128 (omega arith)) next
+unfolding first_two
+every_is p has = elim (Contains-append_cases (first_two ++ double_positions 0) (triple_indirect_block ∷ later_double_positions) p has) [
+  | inl front ↦ elim (Contains-append_cases first_two (double_positions 0) p front) [
+    | inl both ↦ elim (Contains-append_cases (data_blocks_from 0 58) (indirect_block ∷ data_blocks_from 58 128) p both) [
+      | inl direct ↦ parts_are 0 58 (omega arith) p direct
+      | inr next ↦ head_or indirect_block p (data_blocks_from 58 128) tt (parts_are 58 128 (omega arith)) next
+    ]
+    | inr double ↦ double_are 0 (omega arith) p double
   ]
-  | inr later ↦ head_or double_indirect_block p all_inner_positions tt later_are later
+  | inr later ↦ head_or triple_indirect_block p later_double_positions tt later_are later
 ]
 
 -- what is left of numbers stood among them, and isn't 0

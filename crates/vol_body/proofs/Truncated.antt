@@ -1,12 +1,12 @@
 -- A file whose sectors are cut names what it keeps, and has its first bytes.
-use Rattle.std.proofs.Common.{◌≡◌, ◌≢◌, inl, inr, ◌≤◌, ◌<◌, ◌+◌, ◌-◌, ◌*◌, ◌/◌, ◌%◌, ℕ, List, min, drop, get_or, nat_lt, if◌then◌else◌, refl, sym, ◌∙◌, ap, arith}
+use Rattle.std.proofs.Common.{◌≡◌, ◌≢◌, inl, inr, ◌≤◌, ◌<◌, ◌+◌, ◌-◌, ◌*◌, ◌/◌, ◌%◌, ℕ, zero, suc, List, min, drop, get_or, nat_lt, if◌then◌else◌, refl, sym, ◌∙◌, ap, arith}
 use Rattle.std.proofs.lemmas.Bool.{cases_lt, cases_eq}
 use Rattle.std.proofs.lemmas.Bool.Decides.{nat_tests}
 use Rattle.byteorder.specs.Endian.{little_number}
 use Rattle.vol_sector.specs.Disk.{Image}
 use Rattle.vol_inode.specs.declared.entry.Entry.{Entry}
-use Rattle.vol_inode.specs.Space.{blocks_for_size, inner_blocks_for}
-use Rattle.vol_body.specs.Body.{BlockPosition, data_block, indirect_block, double_indirect_block, inner_block, IsPosition, first_served, named, number_in, block_bytes, byte_at}
+use Rattle.vol_inode.specs.Space.{blocks_for_size, inner_blocks_for, double_blocks_for}
+use Rattle.vol_body.specs.Body.{BlockPosition, data_block, indirect_block, inner_block, double_indirect_block, triple_indirect_block, IsPosition, first_served, named, number_in, block_bytes, byte_at}
 use Rattle.vol_body.specs.internal.Truncated.{kept_bytes, zeroed_from}
 use Rattle.vol_inode.specs.Entry.{first_block_of_pointer}
 use Rattle.vol_body.proofs.Places.{number_there, bytes_there, part_direct, part_listed, part_later}
@@ -59,19 +59,38 @@ module _ (size : ℕ) (content after : Image) (e changed : Entry) (s : IsTruncat
             ∙ number-cut_past (kept_bytes size p) (content n) i (omega (arith, keeps))
       ]
 
-  keeps_later : (i : ℕ) → i < 128 → 186 + 128 * i < blocks_for_size size → named after changed (inner_block i) ≡ named content e (inner_block i)
-  keeps_later i lt kept =
-      ap (λ (n : ℕ). number_in after n i) (pointer_kept 59 186 (omega arith) refl (omega arith))
-      ∙ kept_number double_indirect_block (inner_blocks_for (blocks_for_size size - 186)) i tt refl lt (omega arith)
+  keeps_double : (d : ℕ) → d < 129 → 186 + 16384 * d < blocks_for_size size → named after changed (double_indirect_block d) ≡ named content e (double_indirect_block d)
+  keeps_double zero lt kept = pointer_kept 59 186 (omega arith) refl (omega (arith, kept))
+  keeps_double (suc m) lt kept =
+      ap (λ (n : ℕ). number_in after n m) (pointer_kept 60 16570 (omega arith) refl (omega (arith, kept)))
+      ∙ kept_number triple_indirect_block (double_blocks_for (blocks_for_size size - 16570)) m tt refl (omega (arith, lt)) (omega (arith, kept))
 
-  loses_later : (i : ℕ) → i < 128 → blocks_for_size size ≤ 186 + 128 * i → named after changed (inner_block i) ≡ 0
-  loses_later i lt past = elim (cases_lt 186 (blocks_for_size size)) [
-    | inl more ↦ ap (λ (n : ℕ). number_in after n i) (pointer_kept 59 186 (omega arith) refl more)
-        ∙ lost_number double_indirect_block (inner_blocks_for (blocks_for_size size - 186)) i tt refl lt (omega arith) (omega arith)
-    | inr few ↦ ap (λ (n : ℕ). number_in after n i) (pointer_lost 59 186 (omega arith) refl few)
+  loses_double : (d : ℕ) → d < 129 → blocks_for_size size ≤ 186 + 16384 * d → named after changed (double_indirect_block d) ≡ 0
+  loses_double zero lt past = pointer_lost 59 186 (omega arith) refl (omega (arith, past))
+  loses_double (suc m) lt past = elim (cases_lt 16570 (blocks_for_size size)) [
+    | inl more ↦ ap (λ (n : ℕ). number_in after n m) (pointer_kept 60 16570 (omega arith) refl more)
+        ∙ lost_number triple_indirect_block (double_blocks_for (blocks_for_size size - 16570)) m tt refl (omega (arith, lt)) (omega (arith, more)) (omega (arith, past))
+    | inr few ↦ ap (λ (n : ℕ). number_in after n m) (pointer_lost 60 16570 (omega arith) refl few)
   ]
 
-  keeps_part : (j : ℕ) → j < 16570 → j < blocks_for_size size → named after changed (data_block j) ≡ named content e (data_block j)
+  keeps_later : (i : ℕ) → i < 16512 → 186 + 128 * i < blocks_for_size size → named after changed (inner_block i) ≡ named content e (inner_block i)
+  keeps_later i lt kept =
+      let d = i / 128 in
+      let below : d < 129 = omega arith in
+      ap (λ (n : ℕ). number_in after n (i % 128)) (keeps_double d below (omega arith))
+      ∙ kept_number (double_indirect_block d) (inner_blocks_for (blocks_for_size size - (186 + 16384 * d))) (i % 128) below refl (omega arith) (omega arith)
+
+  loses_later : (i : ℕ) → i < 16512 → blocks_for_size size ≤ 186 + 128 * i → named after changed (inner_block i) ≡ 0
+  loses_later i lt past =
+      let d = i / 128 in
+      let below : d < 129 = omega arith in
+      elim (cases_lt (186 + 16384 * d) (blocks_for_size size)) [
+        | inl more ↦ ap (λ (n : ℕ). number_in after n (i % 128)) (keeps_double d below more)
+            ∙ lost_number (double_indirect_block d) (inner_blocks_for (blocks_for_size size - (186 + 16384 * d))) (i % 128) below refl (omega arith) (omega arith) (omega arith)
+        | inr few ↦ ap (λ (n : ℕ). number_in after n (i % 128)) (loses_double d below few)
+      ]
+
+  keeps_part : (j : ℕ) → j < 2113722 → j < blocks_for_size size → named after changed (data_block j) ≡ named content e (data_block j)
   keeps_part j there kept = elim (cases_lt j 58) [
     | inl direct ↦ part_direct after changed j direct ∙ pointer_kept j j (omega arith) (direct_first j direct) kept ∙ sym (part_direct content e j direct)
     | inr past ↦ elim (cases_lt j 186) [
@@ -81,7 +100,7 @@ module _ (size : ℕ) (content after : Image) (e changed : Entry) (s : IsTruncat
           ∙ sym (part_listed content e j past listed)
       | inr later ↦
           let q = (j - 186) / 128 in
-          let below : q < 128 = omega arith in
+          let below : q < 16512 = omega arith in
           part_later after changed j later
           ∙ ap (λ (n : ℕ). number_in after n ((j - 186) % 128)) (keeps_later q below (omega arith))
           ∙ kept_number (inner_block q) (blocks_for_size size - (186 + 128 * q)) ((j - 186) % 128) below refl (omega arith) (omega arith)
@@ -89,7 +108,7 @@ module _ (size : ℕ) (content after : Image) (e changed : Entry) (s : IsTruncat
     ]
   ]
 
-  loses_part : (j : ℕ) → j < 16570 → blocks_for_size size ≤ j → named after changed (data_block j) ≡ 0
+  loses_part : (j : ℕ) → j < 2113722 → blocks_for_size size ≤ j → named after changed (data_block j) ≡ 0
   loses_part j there lost = elim (cases_lt j 58) [
     | inl direct ↦ part_direct after changed j direct ∙ pointer_lost j j (omega arith) (direct_first j direct) lost
     | inr past ↦ elim (cases_lt j 186) [
@@ -102,10 +121,10 @@ module _ (size : ℕ) (content after : Image) (e changed : Entry) (s : IsTruncat
     ]
   ]
     where
-      loses_later_part : (j : ℕ) → j < 16570 → 186 ≤ j → blocks_for_size size ≤ j → named after changed (data_block j) ≡ 0
+      loses_later_part : (j : ℕ) → j < 2113722 → 186 ≤ j → blocks_for_size size ≤ j → named after changed (data_block j) ≡ 0
       loses_later_part j there later lost =
           let q = (j - 186) / 128 in
-          let below : q < 128 = omega arith in
+          let below : q < 16512 = omega arith in
           part_later after changed j later ∙ elim (cases_lt (186 + 128 * q) (blocks_for_size size)) [
             | inl kept ↦ ap (λ (n : ℕ). number_in after n ((j - 186) % 128)) (keeps_later q below kept)
                 ∙ lost_number (inner_block q) (blocks_for_size size - (186 + 128 * q)) ((j - 186) % 128) below refl (omega arith) (omega arith) (omega arith)
@@ -115,17 +134,19 @@ module _ (size : ℕ) (content after : Image) (e changed : Entry) (s : IsTruncat
   pub keeps : (p : BlockPosition) → IsPosition p → first_served p < blocks_for_size size → named after changed p ≡ named content e p
   keeps (data_block j) there kept = keeps_part j there kept
   keeps indirect_block there kept = pointer_kept 58 58 (omega arith) refl kept
-  keeps double_indirect_block there kept = pointer_kept 59 186 (omega arith) refl kept
   keeps (inner_block i) there kept = keeps_later i there kept
+  keeps (double_indirect_block d) there kept = keeps_double d there kept
+  keeps triple_indirect_block there kept = pointer_kept 60 16570 (omega arith) refl kept
 
   pub loses : (p : BlockPosition) → IsPosition p → blocks_for_size size ≤ first_served p → named after changed p ≡ 0
   loses (data_block j) there lost = loses_part j there lost
   loses indirect_block there lost = pointer_lost 58 58 (omega arith) refl lost
-  loses double_indirect_block there lost = pointer_lost 59 186 (omega arith) refl lost
   loses (inner_block i) there lost = loses_later i there lost
+  loses (double_indirect_block d) there lost = loses_double d there lost
+  loses triple_indirect_block there lost = pointer_lost 60 16570 (omega arith) refl lost
 
   -- a data block that is there has its first bytes, and then zeros
-  kept_byte : (j i : ℕ) → j < 16570 → i < 512 → 512 * j + i < size → get_or (block_bytes after (named content e (data_block j))) i 0 ≡ get_or (block_bytes content (named content e (data_block j))) i 0
+  kept_byte : (j i : ℕ) → j < 2113722 → i < 512 → 512 * j + i < size → get_or (block_bytes after (named content e (data_block j))) i 0 ≡ get_or (block_bytes content (named content e (data_block j))) i 0
   kept_byte j i there small lt =
       let n = named content e (data_block j) in
       elim (cases_eq n 0) [
@@ -137,7 +158,7 @@ module _ (size : ℕ) (content after : Image) (e changed : Entry) (s : IsTruncat
         ] ∙ sym (ap (λ (bytes : List ℕ). get_or bytes i 0) (bytes_there content n some))
       ]
 
-  lost_byte : (j i : ℕ) → j < 16570 → i < 512 → j < blocks_for_size size → size ≤ 512 * j + i → get_or (block_bytes after (named content e (data_block j))) i 0 ≡ 0
+  lost_byte : (j i : ℕ) → j < 2113722 → i < 512 → j < blocks_for_size size → size ≤ 512 * j + i → get_or (block_bytes after (named content e (data_block j))) i 0 ≡ 0
   lost_byte j i there small kept le =
       let n = named content e (data_block j) in
       elim (cases_eq n 0) [
@@ -149,13 +170,13 @@ module _ (size : ℕ) (content after : Image) (e changed : Entry) (s : IsTruncat
   pub kept_byte_at : (k : ℕ) → k < LARGEST_SIZE → k < size → byte_at after changed k ≡ byte_at content e k
   kept_byte_at k small lt =
       let j = k / 512 in
-      let there : j < 16570 = omega arith in
+      let there : j < 2113722 = omega arith in
       ap (λ (n : ℕ). get_or (block_bytes after n) (k % 512) 0) (keeps_part j there (omega arith)) ∙ kept_byte j (k % 512) there (omega arith) (omega arith)
 
   pub lost_byte_at : (k : ℕ) → k < LARGEST_SIZE → size ≤ k → byte_at after changed k ≡ 0
   lost_byte_at k small le =
       let j = k / 512 in
-      let there : j < 16570 = omega arith in
+      let there : j < 2113722 = omega arith in
       elim (cases_lt j (blocks_for_size size)) [
         | inl kept ↦ ap (λ (n : ℕ). get_or (block_bytes after n) (k % 512) 0) (keeps_part j there kept) ∙ lost_byte j (k % 512) there (omega arith) kept (omega arith)
         | inr lost ↦ ap (λ (n : ℕ). get_or (block_bytes after n) (k % 512) 0) (loses_part j there lost) ∙ get_or-zeros 512 (k % 512)

@@ -104,7 +104,7 @@ pub record IsWrite (content after : Image) (e changed : Entry) (offset : ℕ) (b
   pub last_is : (offset ≤ 512 * ((offset + length bytes - 1) / 512) → 512 * ((offset + length bytes - 1) / 512) + 512 ≤ offset + length bytes → ⊥)
       → last ≡ block_bytes content (named content e (data_block ((offset + length bytes - 1) / 512)))
   pub touched : (j : ℕ) → offset / 512 ≤ j → j ≤ (offset + length bytes - 1) / 512 → block_bytes after (named after changed (data_block j)) ≡ image_of offset bytes first last j
-  pub others : (j : ℕ) → j < 16570 → (offset / 512 ≤ j → j ≤ (offset + length bytes - 1) / 512 → ⊥) → block_bytes after (named after changed (data_block j)) ≡ block_bytes content (named content e (data_block j))
+  pub others : (j : ℕ) → j < 2113722 → (offset / 512 ≤ j → j ≤ (offset + length bytes - 1) / 512 → ⊥) → block_bytes after (named after changed (data_block j)) ≡ block_bytes content (named content e (data_block j))
 
 module _ (content after : Image) (e changed : Entry) (offset : ℕ) (bytes first last : List ℕ) (write : IsWrite content after e changed offset bytes first last) where
   whole : (k : ℕ) → 512 * (k / 512) + k % 512 ≡ k

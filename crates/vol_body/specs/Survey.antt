@@ -6,7 +6,7 @@ use Rattle.std.specs.List.{range_with_len, flat_map, Contains}
 use Rattle.vol_sector.specs.Disk.{Image}
 use Rattle.vol_inode.specs.declared.entry.Entry.{Entry}
 use Rattle.vol_inode.specs.Space.{blocks_for_size}
-use Rattle.vol_body.specs.Body.{BlockPosition, data_block, indirect_block, double_indirect_block, inner_block, IsPosition, first_served, named, byte_at}
+use Rattle.vol_body.specs.Body.{BlockPosition, data_block, indirect_block, inner_block, double_indirect_block, triple_indirect_block, IsPosition, first_served, named, byte_at}
 use Rattle.vol_inode.specs.declared.pointers.TheConstants.{DIRECT, LISTED, NUMBERS}
 use Rattle.vol_inode.specs.declared.version.TheConstants.{LARGEST_SIZE}
 
@@ -18,13 +18,17 @@ data_blocks_from first count = map data_block (range_with_len first count)
 abbrev pub inner_positions : ℕ → List BlockPosition
 inner_positions i = inner_block i ∷ data_blocks_from (LISTED + NUMBERS * i) NUMBERS
 
--- all inner blocks, each before the data blocks that it lists
-unfoldable pub all_inner_positions : List BlockPosition
-all_inner_positions = flat_map inner_positions (range_with_len 0 NUMBERS)
+-- a double-indirect block, and the inner blocks that it names, each before the data blocks that it lists
+unfoldable pub double_positions : ℕ → List BlockPosition
+double_positions d = double_indirect_block d ∷ flat_map inner_positions (range_with_len (NUMBERS * d) NUMBERS)
+
+-- the double-indirect blocks that the triple-indirect block names, each before all that it names
+unfoldable pub later_double_positions : List BlockPosition
+later_double_positions = flat_map double_positions (range_with_len 1 NUMBERS)
 
 -- each position of a file, once
 abbrev pub every_position : List BlockPosition
-every_position = (data_blocks_from 0 DIRECT ++ (indirect_block ∷ data_blocks_from DIRECT NUMBERS)) ++ (double_indirect_block ∷ all_inner_positions)
+every_position = ((data_blocks_from 0 DIRECT ++ (indirect_block ∷ data_blocks_from DIRECT NUMBERS)) ++ double_positions 0) ++ (triple_indirect_block ∷ later_double_positions)
 
 -- the numbers of sectors; 0 stands for none
 abbrev pub nonzero : List ℕ → List ℕ

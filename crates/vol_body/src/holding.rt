@@ -1,17 +1,19 @@
 //! The pointer sectors that a call holds, so that it reads each of them once.
 
-ghost use Rattle.std.specs.Prelude.{◌≡◌, ◌≢◌, ◌≤◌, ◌<◌, ◌-◌, ◌/◌, ◌%◌, ℕ, true, false, IfOk, OnOk, is_err};
+ghost use Rattle.std.specs.Prelude.{◌≡◌, ◌≢◌, ◌≤◌, ◌<◌, ◌+◌, ◌*◌, ◌-◌, ◌/◌, ◌%◌, ℕ, true, false, IfOk, OnOk, is_err};
 ghost use Rattle.vol_log.specs.Log.{view, log_sectors, has_failed, device_of};
 ghost use Rattle.vol_alloc.specs.Alloc.{end_of, taken_of};
-ghost use Rattle.vol_body.specs.Body.{NamesTaken, data_block, named, block_bytes};
+ghost use Rattle.vol_body.specs.Body.{NamesTaken, data_block, double_indirect_block, named, block_bytes};
 ghost use Rattle.vol_log.specs.Reading.{OnlyReads};
 ghost use Rattle.vol_sector.specs.Disk.{Image};
-ghost use Rattle.vol_inode.specs.declared.pointers.TheConstants.{MOST_BLOCKS};
-ghost use Rattle.vol_body.specs.internal.Writing.{segment_of};
+ghost use Rattle.vol_inode.specs.declared.pointers.TheConstants.{LISTED, MOST_BLOCKS, SERVED};
+ghost use Rattle.vol_body.specs.internal.Writing.{Mirrors, segment_of};
 ghost use Rattle.vol_body.specs.internal.Holding.{IsHeld, KnowsHeld};
 
 use crate::locate::{read_taken, taken_or_zero};
-use crate::pointer_sectors::{PointerSector, listed_sector, load_segment, load_top};
+use crate::pointer_sectors::{
+    PointerSector, double_of, listed_sector, load_double, load_segment, load_triple,
+};
 use vol_alloc::Alloc;
 use vol_inode::{DIRECT, Entry, NUMBERS};
 use vol_log::Log;
@@ -20,7 +22,9 @@ use vol_sector::{Device, DeviceFault};
 /// The pointer sectors that are held.
 #[derive(Drop)]
 pub struct Held {
-    /// The double-indirect block.
+    /// The triple-indirect block.
+    pub triple: PointerSector,
+    /// The double-indirect block that names `above`, or the first one where the entry names `above` itself.
     pub top: PointerSector,
     /// Which data blocks `above` lists: those from `DIRECT + NUMBERS * group` on.
     pub group: u32,
@@ -49,9 +53,15 @@ pub fn hold<D: Device>(
     ensures failed { has_failed log.new ≡ is_err result }
 {
     let group = first.saturating_sub(DIRECT) / NUMBERS;
-    let top = load_top(log, sectors, entry, last)?;
+    let triple = load_triple(log, sectors, entry, last)?;
+    let top = load_double(log, sectors, entry, &triple, double_of(group), last)?;
     let above = load_segment(log, sectors, entry, &top, group, last)?;
-    Ok(Held { top, group, above })
+    Ok(Held {
+        triple,
+        top,
+        group,
+        above,
+    })
 }
 
 /// The sector of a data block, or 0 where it was never written, where the pointer sector that lists it
@@ -143,9 +153,38 @@ fn hold_group<D: Device>(
     ensures reads { OnlyReads log.old log.new }
     ensures failed { has_failed log.new ≡ is_err result }
 {
-    if group != held.group {
-        held.above = load_segment(log, sectors, entry, &held.top, group, last)?;
-        held.group = group;
+    if group == held.group {
+        return Ok(());
+    }
+    hold_double(log, sectors, entry, held, double_of(group), last)?;
+    held.above = load_segment(log, sectors, entry, &held.top, group, last)?;
+    held.group = group;
+    Ok(())
+}
+
+/// Reads a double-indirect block, where it isn't held.
+fn hold_double<D: Device>(
+    log: &mut Log<D>,
+    sectors: &Alloc,
+    entry: &Entry,
+    held: &mut Held,
+    d: u32,
+    last: u32,
+) -> Result<(), DeviceFault>
+    requires small { last < MOST_BLOCKS }
+    requires there { end_of sectors.now ≤ log_sectors log.old }
+    requires working { has_failed log.old ≡ false }
+    ensures top { D.honest (device_of log.old)
+        → NamesTaken (taken_of sectors.now) (view log.old) entry.now
+        → IsHeld (view log.old) entry.now held.old last → LISTED + SERVED * d ≤ last
+        → OnOk result (Mirrors (view log.old) entry.now (double_indirect_block d)
+        held.new.top.number held.new.top.image) }
+    ensures rest { held.new ≡ record held.old { top = held.new.top } }
+    ensures reads { OnlyReads log.old log.new }
+    ensures failed { has_failed log.new ≡ is_err result }
+{
+    if d != double_of(held.group) {
+        held.top = load_double(log, sectors, entry, &held.triple, d, last)?;
     }
     Ok(())
 }

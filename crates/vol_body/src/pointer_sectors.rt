@@ -5,15 +5,19 @@ ghost use Rattle.byteorder.specs.Endian.{little_number};
 ghost use Rattle.vol_log.specs.Log.{view, log_sectors, has_failed, device_of};
 ghost use Rattle.vol_alloc.specs.Alloc.{end_of, taken_of};
 ghost use Rattle.vol_inode.specs.declared.entry.Entry.{Entry};
-ghost use Rattle.vol_body.specs.Body.{BlockPosition, NamesTaken, data_block, double_indirect_block, block_bytes, named};
+ghost use Rattle.vol_body.specs.Body.{BlockPosition, NamesTaken, data_block, double_indirect_block, triple_indirect_block};
+ghost use Rattle.vol_body.specs.Body.{block_bytes, named};
 ghost use Rattle.vol_log.specs.Reading.{OnlyReads};
 ghost use Rattle.vol_sector.specs.Disk.{Image};
-ghost use Rattle.vol_inode.specs.declared.pointers.TheConstants.{MOST_BLOCKS};
-ghost use Rattle.vol_body.specs.internal.Writing.{Mirrors, MirrorsAll, KnowsAll, ListedAt, segment};
+ghost use Rattle.vol_inode.specs.declared.pointers.TheConstants.{DIRECT, INNER_BLOCKS, LISTED, MOST_BLOCKS, NUMBERS, SERVED, TWICE_LISTED};
+ghost use Rattle.vol_body.specs.internal.Writing.{Mirrors, MirrorsAll, KnowsAll, IsKnown, ListedAt, segment, double_of};
 
 use crate::locate::{number_at, read_taken, taken_or_zero};
 use vol_alloc::Alloc;
-use vol_inode::{DIRECT, DOUBLE_INDIRECT, Entry, INDIRECT, LISTED, NUMBERS, put_number};
+use vol_inode::{
+    DIRECT, DOUBLE_INDIRECT, Entry, INDIRECT, LISTED, NUMBERS, SERVED, TRIPLE_INDIRECT,
+    TWICE_LISTED, put_number,
+};
 use vol_log::Log;
 use vol_sector::{Device, DeviceFault};
 
@@ -28,8 +32,12 @@ pub struct PointerSector {
 /// The pointer sectors that a write uses.
 #[derive(Drop)]
 pub struct PointerSectors {
-    /// The double-indirect block.
-    pub double_indirect_block: PointerSector,
+    /// The triple-indirect block.
+    pub triple: PointerSector,
+    /// The double-indirect block that names `early`, or the first one where the entry names it itself.
+    pub double: PointerSector,
+    /// The one that names `late`, where that is another one.
+    pub next_double: PointerSector,
     /// The one that lists the first data block past the direct ones that is written.
     pub early: PointerSector,
     /// The one that lists the data blocks after those of `early`.
@@ -68,14 +76,71 @@ pub fn load_pointer_sectors<D: Device>(
     ensures failed { has_failed log.new ≡ is_err result }
 {
     let group = first.saturating_sub(DIRECT) / NUMBERS;
-    let double_indirect_block = load_top(log, sectors, entry, last)?;
-    let early = load_segment(log, sectors, entry, &double_indirect_block, group, last)?;
-    let late = load_segment(log, sectors, entry, &double_indirect_block, group + 1, last)?;
+    let triple = load_triple(log, sectors, entry, last)?;
+    let double = load_double(log, sectors, entry, &triple, double_of(group), last)?;
+    let early = load_segment(log, sectors, entry, &double, group, last)?;
+    let (next_double, late) = load_late(log, sectors, entry, &triple, &double, group, last)?;
     Ok(PointerSectors {
-        double_indirect_block,
+        triple,
+        double,
+        next_double,
         early,
         late,
     })
+}
+
+/// Which double-indirect block names the pointer sector of a group: the first one where the entry names it itself.
+pub fn double_of(group: u32) -> u32
+    ensures { result ≡ double_of group }
+{
+    group.saturating_sub(1) / NUMBERS
+}
+
+/// Reads the pointer sector after that of a group, and the double-indirect block that names it, where that is another
+/// one than names that of the group.
+fn load_late<D: Device>(
+    log: &mut Log<D>,
+    sectors: &Alloc,
+    entry: &Entry,
+    triple: &PointerSector,
+    double: &PointerSector,
+    group: u32,
+    last: u32,
+) -> Result<(PointerSector, PointerSector), DeviceFault>
+    requires small { last < MOST_BLOCKS }
+    requires group { group < INNER_BLOCKS + 1 }
+    requires there { end_of sectors.now ≤ log_sectors log.old }
+    requires working { has_failed log.old ≡ false }
+    ensures next { D.honest (device_of log.old)
+        → NamesTaken (taken_of sectors.now) (view log.old) entry.now
+        → (TWICE_LISTED ≤ last → Mirrors (view log.old) entry.now triple_indirect_block triple.now.number triple.now.image)
+        → double_of (group + 1) ≢ double_of group → LISTED + SERVED * double_of (group + 1) ≤ last
+        → IfOk result (λ both. Mirrors (view log.old) entry.now (double_indirect_block (double_of (group + 1))) both.0.number both.0.image) }
+    ensures late { D.honest (device_of log.old)
+        → NamesTaken (taken_of sectors.now) (view log.old) entry.now
+        → (TWICE_LISTED ≤ last → Mirrors (view log.old) entry.now triple_indirect_block triple.now.number triple.now.image)
+        → (LISTED + SERVED * double_of group ≤ last
+        → Mirrors (view log.old) entry.now (double_indirect_block (double_of group)) double.now.number double.now.image)
+        → DIRECT + NUMBERS * (group + 1) ≤ last
+        → IfOk result (λ both. Mirrors (view log.old) entry.now (segment (group + 1)) both.1.number both.1.image) }
+    ensures known { IfOk result (λ both. IsKnown sectors.now both.0.number × IsKnown sectors.now both.1.number) }
+    ensures reads { OnlyReads log.old log.new }
+    ensures failed { has_failed log.new ≡ is_err result }
+{
+    let d = double_of(group + 1);
+    if d == double_of(group) {
+        let late = load_segment(log, sectors, entry, double, group + 1, last)?;
+        return Ok((
+            PointerSector {
+                number: 0,
+                image: [0; 512],
+            },
+            late,
+        ));
+    }
+    let next = load_double(log, sectors, entry, triple, d, last)?;
+    let late = load_segment(log, sectors, entry, &next, group + 1, last)?;
+    Ok((next, late))
 }
 
 /// Reads a pointer sector.
@@ -98,8 +163,8 @@ fn load<D: Device>(
     Ok(PointerSector { number, image })
 }
 
-/// Reads the double-indirect block, if a call that goes up to the data block `last` needs it.
-pub fn load_top<D: Device>(
+/// Reads the triple-indirect block, if a call that goes up to the data block `last` needs it.
+pub fn load_triple<D: Device>(
     log: &mut Log<D>,
     sectors: &Alloc,
     entry: &Entry,
@@ -108,16 +173,47 @@ pub fn load_top<D: Device>(
     requires there { end_of sectors.now ≤ log_sectors log.old }
     requires working { has_failed log.old ≡ false }
     ensures right { D.honest (device_of log.old)
-        → NamesTaken (taken_of sectors.now) (view log.old) entry.now → LISTED ≤ last
-        → IfOk result (λ s. Mirrors (view log.old) entry.now double_indirect_block s.number s.image) }
+        → NamesTaken (taken_of sectors.now) (view log.old) entry.now → TWICE_LISTED ≤ last
+        → IfOk result (λ s. Mirrors (view log.old) entry.now triple_indirect_block s.number s.image) }
     ensures known { IfOk result (λ s. s.number ≢ 0 → taken_of sectors.now s.number ≡ true) }
     ensures reads { OnlyReads log.old log.new }
     ensures failed { has_failed log.new ≡ is_err result }
 {
-    if last < LISTED {
+    if last < TWICE_LISTED {
         return load(log, sectors, 0);
     }
-    let number = taken_or_zero(sectors, entry.pointers[DOUBLE_INDIRECT as usize]);
+    let number = taken_or_zero(sectors, entry.pointers[TRIPLE_INDIRECT as usize]);
+    load(log, sectors, number)
+}
+
+/// Reads a double-indirect block, if a call that goes up to the data block `last` reaches what it serves.
+pub fn load_double<D: Device>(
+    log: &mut Log<D>,
+    sectors: &Alloc,
+    entry: &Entry,
+    triple: &PointerSector,
+    d: u32,
+    last: u32,
+) -> Result<PointerSector, DeviceFault>
+    requires small { last < MOST_BLOCKS }
+    requires there { end_of sectors.now ≤ log_sectors log.old }
+    requires working { has_failed log.old ≡ false }
+    ensures right { D.honest (device_of log.old)
+        → NamesTaken (taken_of sectors.now) (view log.old) entry.now → LISTED + SERVED * d ≤ last
+        → (TWICE_LISTED ≤ last → Mirrors (view log.old) entry.now triple_indirect_block triple.now.number triple.now.image)
+        → IfOk result (λ s. Mirrors (view log.old) entry.now (double_indirect_block d) s.number s.image) }
+    ensures known { IfOk result (λ s. s.number ≢ 0 → taken_of sectors.now s.number ≡ true) }
+    ensures reads { OnlyReads log.old log.new }
+    ensures failed { has_failed log.new ≡ is_err result }
+{
+    if last < LISTED || d > (last - LISTED) / SERVED {
+        return load(log, sectors, 0);
+    }
+    if d == 0 {
+        let first = taken_or_zero(sectors, entry.pointers[DOUBLE_INDIRECT as usize]);
+        return load(log, sectors, first);
+    }
+    let number = taken_or_zero(sectors, number_at(&triple.image, d - 1));
     load(log, sectors, number)
 }
 
@@ -136,7 +232,8 @@ pub fn load_segment<D: Device>(
     requires working { has_failed log.old ≡ false }
     ensures right { D.honest (device_of log.old)
         → NamesTaken (taken_of sectors.now) (view log.old) entry.now → DIRECT + NUMBERS * group ≤ last
-        → (LISTED ≤ last → Mirrors (view log.old) entry.now double_indirect_block above.now.number above.now.image)
+        → (LISTED + SERVED * double_of group ≤ last
+        → Mirrors (view log.old) entry.now (double_indirect_block (double_of group)) above.now.number above.now.image)
         → IfOk result (λ s. Mirrors (view log.old) entry.now (segment group) s.number s.image) }
     ensures known { IfOk result (λ s. s.number ≢ 0 → taken_of sectors.now s.number ≡ true) }
     ensures reads { OnlyReads log.old log.new }
@@ -149,7 +246,7 @@ pub fn load_segment<D: Device>(
         let first = taken_or_zero(sectors, entry.pointers[INDIRECT as usize]);
         return load(log, sectors, first);
     }
-    let number = taken_or_zero(sectors, number_at(&above.image, group - 1));
+    let number = taken_or_zero(sectors, number_at(&above.image, (group - 1) % NUMBERS));
     load(log, sectors, number)
 }
 

@@ -17,7 +17,7 @@ use vol_log::Log;
 use vol_sector::{Device, DeviceFault};
 
 /// Sets the size in bytes of the file whose entry is in this sector. Bytes that it gains are zeros,
-/// and the sectors that it needs no more are given back. It stages four sectors at most, the entry
+/// and the sectors that it needs no more are given back. It stages five sectors at most, the entry
 /// last.
 ///
 /// It is refused where a device operation failed, or had failed before. Then nothing was staged,
@@ -29,7 +29,7 @@ pub fn set_size<D: Device>(
     entry: &mut Entry,
     size: u32,
 ) -> Result<(), DeviceFault>
-    requires can { CanChange 4 inode_sector log.old sectors.old entry.old }
+    requires can { CanChange 5 inode_sector log.old sectors.old entry.old }
     requires small { size ≤ LARGEST_SIZE }
     // Read as a list, the file is cut or has zeros after it; no free sector is lost.
     ensures file { IfSound log.old sectors.old entry.old (OnOk result
@@ -39,7 +39,7 @@ pub fn set_size<D: Device>(
         (LosesNoSector sectors.old sectors.new (view log.old) (view log.new) entry.old
         entry.new)) }
     ensures entry { OnOk result (EntryBecomes inode_sector size (view log.new) entry.old entry.new) }
-    ensures steps { StagesAtMost 4 log.old log.new sectors.old sectors.new (is_err result) }
+    ensures steps { StagesAtMost 5 log.old log.new sectors.old sectors.new (is_err result) }
     ensures refused { OnErr result ((OnlyReads log.old log.new) × (entry.new ≡ entry.old)) }
     ensures idle { has_failed log.old ≡ true → (log.new ≡ log.old) × IsErr result }
 {

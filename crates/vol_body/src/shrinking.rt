@@ -33,7 +33,7 @@ fn kept_pointers(pointers: &[u32; 61], count: u32) -> [u32; 61]
     kept
 }
 
-/// Shortens the file, whose entry is in this sector. It stages the entry, and at most three
+/// Shortens the file, whose entry is in this sector. It stages the entry, and at most four
 /// sectors of which the file keeps a beginning, with zeros after it; it frees those that the
 /// file names no more. Each pointer sector that it needs is read once.
 ///
@@ -46,7 +46,7 @@ pub fn shrink<D: Device>(
     entry: &mut Entry,
     size: u32,
 ) -> Result<(), DeviceFault>
-    requires can { CanChange 4 inode_sector log.old sectors.old entry.old }
+    requires can { CanChange 5 inode_sector log.old sectors.old entry.old }
     requires shorter { size < entry.old.size }
     ensures file { IfSound log.old sectors.old entry.old (OnOk result
         (FileBecomes inode_sector sectors.old sectors.new (view log.old) (view log.new) entry.old
@@ -55,7 +55,7 @@ pub fn shrink<D: Device>(
         (LosesNoSector sectors.old sectors.new (view log.old) (view log.new) entry.old
         entry.new)) }
     ensures entry { OnOk result (EntryBecomes inode_sector size (view log.new) entry.old entry.new) }
-    ensures steps { StagesAtMost 4 log.old log.new sectors.old sectors.new (is_err result) }
+    ensures steps { StagesAtMost 5 log.old log.new sectors.old sectors.new (is_err result) }
     ensures refused { OnErr result ((OnlyReads log.old log.new) × (entry.new ≡ entry.old)) }
     ensures idle { has_failed log.old ≡ true → (log.new ≡ log.old) × IsErr result }
 {

@@ -7,16 +7,20 @@ ghost use Rattle.vol_sector.specs.Fault.{device_failed, IsDamage};
 ghost use Rattle.vol_log.specs.Log.{view, log_sectors, has_failed, device_of};
 ghost use Rattle.vol_log.specs.Reading.{OnlyReads};
 ghost use Rattle.vol_inode.specs.Entry.{UnusedPointersAreZero};
-ghost use Rattle.vol_body.specs.Body.{data_block, named as named_at, number_in};
+ghost use Rattle.vol_body.specs.Body.{data_block, inner_block, named as named_at, number_in};
 ghost use Rattle.vol_body.specs.Survey.{every_position, sectors_named, AreInside, IsTrimmed};
-ghost use Rattle.vol_body.specs.internal.Surveying.{listed, with_listed, all_listed, Pushes, Overflows, Surveys};
-ghost use Rattle.vol_body.specs.internal.Surveying.{ListsNoneFrom, LaterListNone, LaterNone};
+ghost use Rattle.vol_body.specs.internal.Surveying.{listed, with_listed, all_listed, with_all_listed, all_with_all_listed};
+ghost use Rattle.vol_body.specs.internal.Surveying.{Pushes, Overflows, Surveys};
+ghost use Rattle.vol_body.specs.internal.Surveying.{ListsNoneFrom, LaterListNone, LaterNone, DoublesNone, TripleNone};
 ghost use Rattle.vol_body.specs.internal.Surveying.{NamesNonePast, NamesBelow, EndsInZeros};
-ghost use Rattle.vol_inode.specs.declared.pointers.TheConstants.{MOST_BLOCKS};
+ghost use Rattle.vol_inode.specs.declared.pointers.TheConstants.{INNER_BLOCKS, MOST_BLOCKS};
 ghost use Rattle.vol_inode.specs.declared.version.TheConstants.{LARGEST_SIZE};
 
 use crate::locate::{Numbers, number_at};
-use vol_inode::{DIRECT, DOUBLE_INDIRECT, Entry, INDIRECT, LISTED, NUMBERS};
+use vol_inode::{
+    DIRECT, DOUBLE_INDIRECT, Entry, INDIRECT, LISTED, NUMBERS, SERVED, TRIPLE_INDIRECT,
+    TWICE_LISTED,
+};
 use vol_log::Log;
 use vol_sector::{Damage, Device, DeviceFault, Rule, VolumeFault};
 
@@ -159,11 +163,12 @@ fn survey_indirect_block<D: Device>(
 }
 
 /// Pushes the numbers of the inner blocks and those that they list. None may stand for a data block from `count` on: the i-th
-/// inner block lists those from `LISTED + NUMBERS * i` on. One that lies wholly past `count` must list nothing (`from` is 0), and
+/// inner block lists those from `start + NUMBERS * i` on. One that lies wholly past `count` must list nothing (`from` is 0), and
 /// a 0 among the inner blocks is no block.
 fn survey_inner_blocks<D: Device>(
     log: &mut Log<D>,
     inner_blocks: &Numbers,
+    start: u32,
     count: u32,
     first: u32,
     end: u32,
@@ -172,22 +177,51 @@ fn survey_inner_blocks<D: Device>(
     requires there { end ≤ log_sectors log.old }
     requires working { has_failed log.old ≡ false }
     requires inside { AreInside first end named.old.items }
+    requires place { start < MOST_BLOCKS }
     ensures { Surveys first end log.old log.new named.old.items named.new.items
         (all_listed (view log.old) inner_blocks.now)
-        (LaterListNone (view log.old) inner_blocks.now count) result }
+        (LaterListNone (view log.old) inner_blocks.now start count) result }
 {
     for i in 0..NUMBERS {
-        let from = count.saturating_sub(LISTED + NUMBERS * i);
+        let from = count.saturating_sub(start + NUMBERS * i);
         survey_indirect_block(log, inner_blocks[i as usize], from, first, end, named)?;
     }
     Ok(())
 }
 
-/// Pushes the number of the pointer sector that lists the inner blocks, their numbers, and those
-/// that they list. None may stand for a data block from `count` on.
+/// Pushes the number of a double-indirect block, which serves data blocks from `start` on, those of its
+/// inner blocks, and those that they list. None may stand for a data block from `count` on.
 fn survey_double_indirect_block<D: Device>(
     log: &mut Log<D>,
     double_indirect_block: u32,
+    start: u32,
+    count: u32,
+    first: u32,
+    end: u32,
+    named: &mut Vec<u32>,
+) -> Result<(), VolumeFault>
+    requires there { end ≤ log_sectors log.old }
+    requires working { has_failed log.old ≡ false }
+    requires inside { AreInside first end named.old.items }
+    requires place { start < MOST_BLOCKS }
+    ensures { Surveys first end log.old log.new named.old.items named.new.items
+        (with_all_listed (view log.old) double_indirect_block)
+        (LaterNone (view log.old) double_indirect_block start count) result }
+{
+    if double_indirect_block == 0 {
+        return Ok(()); // nor are there any inner blocks
+    }
+    push_number(named, double_indirect_block, first, end)?;
+    let kept = count.saturating_sub(start).div_ceil(NUMBERS);
+    let numbers = read_numbers(log, double_indirect_block, kept)?;
+    survey_inner_blocks(log, &numbers, start, count, first, end, named)
+}
+
+/// Pushes the numbers of the double-indirect blocks after the first, with all that they name. None may stand for a data
+/// block from `count` on.
+fn survey_double_indirect_blocks<D: Device>(
+    log: &mut Log<D>,
+    double_indirect_blocks: &Numbers,
     count: u32,
     first: u32,
     end: u32,
@@ -197,16 +231,41 @@ fn survey_double_indirect_block<D: Device>(
     requires working { has_failed log.old ≡ false }
     requires inside { AreInside first end named.old.items }
     ensures { Surveys first end log.old log.new named.old.items named.new.items
-        (double_indirect_block ∷ all_listed (view log.old) (listed (view log.old) double_indirect_block))
-        (LaterNone (view log.old) double_indirect_block count) result }
+        (all_with_all_listed (view log.old) double_indirect_blocks.now)
+        (DoublesNone (view log.old) double_indirect_blocks.now count) result }
 {
-    if double_indirect_block == 0 {
-        return Ok(()); // nor are there any inner blocks
+    for m in 0..NUMBERS {
+        let start = TWICE_LISTED + SERVED * m;
+        let number = double_indirect_blocks[m as usize];
+        survey_double_indirect_block(log, number, start, count, first, end, named)?;
     }
-    push_number(named, double_indirect_block, first, end)?;
-    let kept = count.saturating_sub(LISTED).div_ceil(NUMBERS);
-    let numbers = read_numbers(log, double_indirect_block, kept)?;
-    survey_inner_blocks(log, &numbers, count, first, end, named)
+    Ok(())
+}
+
+/// Pushes the number of the triple-indirect block, those of its double-indirect blocks, and all that they
+/// name. None may stand for a data block from `count` on.
+fn survey_triple_indirect_block<D: Device>(
+    log: &mut Log<D>,
+    triple_indirect_block: u32,
+    count: u32,
+    first: u32,
+    end: u32,
+    named: &mut Vec<u32>,
+) -> Result<(), VolumeFault>
+    requires there { end ≤ log_sectors log.old }
+    requires working { has_failed log.old ≡ false }
+    requires inside { AreInside first end named.old.items }
+    ensures { Surveys first end log.old log.new named.old.items named.new.items
+        (triple_indirect_block ∷ all_with_all_listed (view log.old) (listed (view log.old) triple_indirect_block))
+        (TripleNone (view log.old) triple_indirect_block count) result }
+{
+    if triple_indirect_block == 0 {
+        return Ok(()); // nor are there any double-indirect blocks
+    }
+    push_number(named, triple_indirect_block, first, end)?;
+    let kept = count.saturating_sub(TWICE_LISTED).div_ceil(SERVED);
+    let numbers = read_numbers(log, triple_indirect_block, kept)?;
+    survey_double_indirect_blocks(log, &numbers, count, first, end, named)
 }
 
 /// Pushes all numbers that the file names. None may stand for a data block at or past its size.
@@ -239,6 +298,15 @@ fn survey_sectors<D: Device>(
     survey_double_indirect_block(
         log,
         entry.pointers[DOUBLE_INDIRECT as usize],
+        LISTED,
+        count,
+        first,
+        end,
+        named,
+    )?;
+    survey_triple_indirect_block(
+        log,
+        entry.pointers[TRIPLE_INDIRECT as usize],
         count,
         first,
         end,
@@ -306,13 +374,31 @@ fn block_sector<D: Device>(
     if j < LISTED {
         return number_of(log, entry.pointers[INDIRECT as usize], j - DIRECT, end);
     }
-    let indirect_block = number_of(
-        log,
-        entry.pointers[DOUBLE_INDIRECT as usize],
-        (j - LISTED) / NUMBERS,
-        end,
-    )?;
-    number_of(log, indirect_block, (j - LISTED) % NUMBERS, end)
+    let inner_block = inner_block_sector(log, entry, (j - LISTED) / NUMBERS, end)?;
+    number_of(log, inner_block, (j - LISTED) % NUMBERS, end)
+}
+
+/// The sector of an inner block of the file, or 0 where it was never written.
+fn inner_block_sector<D: Device>(
+    log: &mut Log<D>,
+    entry: &Entry,
+    i: u32,
+    end: u32,
+) -> Result<u32, DeviceFault>
+    requires place { i < INNER_BLOCKS }
+    requires there { end ≤ log_sectors log.old }
+    requires working { has_failed log.old ≡ false }
+    ensures sector { D.honest (device_of log.old) → NamesBelow (view log.old) entry.now end
+        → IfOk result (λ n. n ≡ named_at (view log.old) entry.now (inner_block i)) }
+    ensures reads { OnlyReads log.old log.new }
+    ensures failed { has_failed log.new ≡ is_err result }
+{
+    if i < NUMBERS {
+        return number_of(log, entry.pointers[DOUBLE_INDIRECT as usize], i, end);
+    }
+    let triple = entry.pointers[TRIPLE_INDIRECT as usize];
+    let double = number_of(log, triple, i / NUMBERS - 1, end)?;
+    number_of(log, double, i % NUMBERS, end)
 }
 
 /// Whether the bytes past the file's size are zeros in the data block that the size ends in.

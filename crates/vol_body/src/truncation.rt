@@ -5,9 +5,9 @@ ghost use Rattle.vol_log.specs.Log.{view, log_sectors, room_of, has_failed, devi
 ghost use Rattle.vol_alloc.specs.Alloc.{first_of, end_of, taken_of};
 ghost use Rattle.vol_sector.specs.Disk.{Image};
 ghost use Rattle.vol_inode.specs.declared.entry.Entry.{Entry};
-ghost use Rattle.vol_body.specs.Body.{NamesTaken, double_indirect_block, named, block_bytes};
+ghost use Rattle.vol_body.specs.Body.{NamesTaken, triple_indirect_block, named, block_bytes};
 ghost use Rattle.vol_log.specs.Reading.{OnlyReads};
-ghost use Rattle.vol_body.specs.internal.Truncated.{kept_bytes, zeroed_from, IsCut, with_cut, cut_data_block, cut_segment};
+ghost use Rattle.vol_body.specs.internal.Truncated.{kept_bytes, zeroed_from, IsCut, with_cut, cut_data_block, cut_segment, cut_double};
 ghost use Rattle.vol_body.specs.internal.Truncated.{IsTruncation, AreWithin, with_truncation};
 ghost use Rattle.vol_body.specs.internal.Writing.{segment_of};
 ghost use Rattle.vol_body.specs.internal.Holding.{IsHeld, KnowsHeld};
@@ -17,8 +17,9 @@ ghost use Rattle.vol_inode.specs.declared.version.TheConstants.{LARGEST_SIZE};
 
 use crate::holding::{Held, held_sector};
 use crate::locate::read_taken;
+use crate::pointer_sectors::double_of;
 use vol_alloc::Alloc;
-use vol_inode::{DIRECT, Entry, LISTED, NUMBERS};
+use vol_inode::{DIRECT, Entry, LISTED, NUMBERS, SERVED, TWICE_LISTED};
 use vol_log::Log;
 use vol_sector::{Device, DeviceFault};
 
@@ -36,8 +37,10 @@ pub struct Truncation {
     pub data_block: Cut,
     /// For the pointer sector that lists this data block.
     pub above: Cut,
-    /// For the double-indirect block.
-    pub top: Cut,
+    /// For the double-indirect block that names that one.
+    pub double: Cut,
+    /// For the triple-indirect block.
+    pub triple: Cut,
 }
 
 /// The bytes before a place, and zeros from it on.
@@ -116,16 +119,31 @@ fn cut_of_above(held: &Held, size: u32) -> Cut
     cut_of(held.above.number, &held.above.image, 4 * kept)
 }
 
-/// What is to be written for the double-indirect block of a file of this size.
-fn cut_of_top(held: &Held, size: u32) -> Cut
+/// What is to be written for the double-indirect block that names that pointer sector.
+fn cut_of_double(held: &Held, size: u32) -> Cut
+    requires small { size < LARGEST_SIZE }
+    requires group { held.now.group ≡ segment_of (size / 512) }
     ensures cut { (content : Image) (e : Entry) → IsHeld content e held.now LAST
-        → IsCut content (named content e double_indirect_block)
-        (kept_bytes size double_indirect_block) result }
+        → IsCut content (named content e (cut_double size)) (kept_bytes size (cut_double size))
+        result }
     ensures sector { result.sector ≢ 0 → result.sector ≡ held.now.top.number }
 {
-    let count = size.div_ceil(512).saturating_sub(LISTED);
+    let served_before = LISTED + SERVED * double_of(held.group);
+    let count = size.div_ceil(512).saturating_sub(served_before);
     let kept = count.div_ceil(NUMBERS).min(NUMBERS);
     cut_of(held.top.number, &held.top.image, 4 * kept)
+}
+
+/// What is to be written for the triple-indirect block of a file of this size.
+fn cut_of_triple(held: &Held, size: u32) -> Cut
+    ensures cut { (content : Image) (e : Entry) → IsHeld content e held.now LAST
+        → IsCut content (named content e triple_indirect_block)
+        (kept_bytes size triple_indirect_block) result }
+    ensures sector { result.sector ≢ 0 → result.sector ≡ held.now.triple.number }
+{
+    let count = size.div_ceil(512).saturating_sub(TWICE_LISTED);
+    let kept = count.div_ceil(SERVED).min(NUMBERS);
+    cut_of(held.triple.number, &held.triple.image, 4 * kept)
 }
 
 /// Stages what is to be written for a sector, if anything is.
@@ -169,26 +187,29 @@ pub fn read_truncation<D: Device>(
 {
     let data_block = cut_of_data_block(log, sectors, entry, held, size)?;
     let above = cut_of_above(held, size);
-    let top = cut_of_top(held, size);
+    let double = cut_of_double(held, size);
+    let triple = cut_of_triple(held, size);
     Ok(Truncation {
         data_block,
         above,
-        top,
+        double,
+        triple,
     })
 }
 
-/// Stages what is to be written, in three places at most.
+/// Stages what is to be written, in four places at most.
 pub fn stage_truncation<D: Device>(log: &mut Log<D>, truncation: &Truncation)
     requires there { AreWithin FIRST_AFTER_LOG (log_sectors log.old) truncation.now }
-    requires room { 3 ≤ room_of log.old }
+    requires room { 4 ≤ room_of log.old }
     requires working { has_failed log.old ≡ false }
     ensures view { view log.new ≡ with_truncation truncation.now (view log.old) }
-    ensures room { room_of log.old ≤ room_of log.new + 3 }
+    ensures room { room_of log.old ≤ room_of log.new + 4 }
     ensures device { device_of log.new ≡ device_of log.old }
     ensures failed { has_failed log.new ≡ false }
     ensures sectors { log_sectors log.new ≡ log_sectors log.old }
 {
     stage_cut(log, &truncation.data_block);
     stage_cut(log, &truncation.above);
-    stage_cut(log, &truncation.top);
+    stage_cut(log, &truncation.double);
+    stage_cut(log, &truncation.triple);
 }

@@ -40,7 +40,7 @@ pub fn write_at<D: Device>(
     offset: u32,
     bytes: &Source<'_>,
 ) -> Result<(), DeviceFault>
-    requires can { CanChange 37 inode_sector log.old sectors.old entry.old }
+    requires can { CanChange 39 inode_sector log.old sectors.old entry.old }
     requires small { offset + length bytes.now ≤ LARGEST_SIZE }
     requires few { length bytes.now ≤ PIECE }
     requires space { IfSound log.old sectors.old entry.old
@@ -56,7 +56,7 @@ pub fn write_at<D: Device>(
         (max entry.old.size (offset + length bytes.now)) (view log.new) entry.old entry.new) }
     ensures nothing { length bytes.now ≡ 0 → (log.new ≡ log.old) × (sectors.new ≡ sectors.old)
         × (entry.new ≡ entry.old) }
-    ensures steps { StagesAtMost 37 log.old log.new sectors.old sectors.new (is_err result) }
+    ensures steps { StagesAtMost 39 log.old log.new sectors.old sectors.new (is_err result) }
     ensures refused { OnErr result ((OnlyReads log.old log.new) × (entry.new ≡ entry.old)
         × (sectors.new ≡ sectors.old)) }
     ensures idle { has_failed log.old ≡ true → (log.new ≡ log.old) × IsErr result }
@@ -79,7 +79,7 @@ fn write_some<D: Device>(
     offset: u32,
     bytes: &Source<'_>,
 ) -> Result<(), DeviceFault>
-    requires can { CanChange 37 inode_sector log.old sectors.old entry.old }
+    requires can { CanChange 39 inode_sector log.old sectors.old entry.old }
     requires working { has_failed log.old ≡ false }
     requires small { offset + length bytes.now ≤ LARGEST_SIZE }
     requires few { length bytes.now ≤ PIECE }
@@ -92,7 +92,7 @@ fn write_some<D: Device>(
     ensures entry { OnOk result (EntryBecomes inode_sector
         (max entry.old.size (offset + length bytes.now)) (view log.new) entry.old entry.new) }
     ensures widths { OnOk result (HasWidths entry.new) }
-    ensures steps { StagesAtMost 37 log.old log.new sectors.old sectors.new (is_err result) }
+    ensures steps { StagesAtMost 39 log.old log.new sectors.old sectors.new (is_err result) }
     ensures refused { OnErr result ((OnlyReads log.old log.new) × (entry.new ≡ entry.old)
         × (sectors.new ≡ sectors.old)) }
 {

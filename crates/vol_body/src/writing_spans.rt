@@ -1,23 +1,23 @@
 //! Writing all the data blocks that a write touches.
 
-ghost use Rattle.std.specs.Prelude.{◌≡◌, ◌⊎◌, ◌≤◌, ◌<◌, ◌+◌, ◌-◌, ◌*◌, ℕ, true, length};
+ghost use Rattle.std.specs.Prelude.{◌≡◌, ◌≢◌, ◌⊎◌, ◌≤◌, ◌<◌, ◌+◌, ◌-◌, ◌*◌, ℕ, true, length};
 ghost use Rattle.vol_log.specs.Log.{view, room_of};
 ghost use Rattle.vol_alloc.specs.Alloc.{taken_of};
 ghost use Rattle.vol_inode.specs.Space.{blocks_for_size};
 ghost use Rattle.vol_inode.specs.declared.entry.Entry.{Entry};
-ghost use Rattle.vol_body.specs.Body.{BlockPosition, double_indirect_block, first_served};
+ghost use Rattle.vol_body.specs.Body.{BlockPosition, double_indirect_block, triple_indirect_block, first_served};
 ghost use Rattle.vol_body.specs.internal.Writing.{Mirrors, IsReady, ChangesPositions, AddsSector, IsBlockIn, HasBlocks};
 ghost use Rattle.vol_body.specs.internal.Writing.{CanStage, AreTouched, AreListed, IsKnown};
-ghost use Rattle.vol_body.specs.internal.Writing.{OnlyPuts, SameRange, segment, staged_count, image_of};
-ghost use Rattle.vol_body.specs.internal.Writing.{MirrorsAll, KnowsAll, IsPointer, PointedAt};
-ghost use Rattle.vol_inode.specs.declared.pointers.TheConstants.{MOST_BLOCKS};
+ghost use Rattle.vol_body.specs.internal.Writing.{OnlyPuts, SameRange, segment, double_of, staged_count, image_of};
+ghost use Rattle.vol_body.specs.internal.Writing.{MirrorsAll, KnowsAll, IsAbove, IsPointer, PointedAt};
+ghost use Rattle.vol_inode.specs.declared.pointers.TheConstants.{DOUBLE_INDIRECT_BLOCKS, INNER_BLOCKS, MOST_BLOCKS, SERVED};
 
-use crate::pointer_sectors::{PointerSector, PointerSectors};
+use crate::pointer_sectors::{PointerSector, PointerSectors, double_of};
 use crate::source::Source;
 use crate::writing_blocks::{add_number, add_pointer, write_direct_block, write_listed_block};
 use crate::writing_image::{Piece, bytes_from, image_of_block};
 use vol_alloc::Alloc;
-use vol_inode::{DIRECT, DOUBLE_INDIRECT, Entry, INDIRECT, LISTED, NUMBERS};
+use vol_inode::{DIRECT, DOUBLE_INDIRECT, Entry, INDIRECT, LISTED, NUMBERS, TRIPLE_INDIRECT};
 use vol_log::Log;
 use vol_sector::Device;
 
@@ -33,7 +33,7 @@ pub fn write_blocks<D: Device>(
     last: u32,
 )
     requires can { CanStage log.old sectors.old }
-    requires room { 37 ≤ room_of log.old }
+    requires room { 39 ≤ room_of log.old }
     requires few { last < first + 33 }
     requires some { first ≤ last }
     requires last { last < MOST_BLOCKS }
@@ -46,7 +46,7 @@ pub fn write_blocks<D: Device>(
         × HasBlocks (view log.new) entry.new first (last + 1)
         (image_of piece.now.offset bytes.now piece.now.first piece.now.last) }
     ensures entry { entry.new ≡ record entry.old { pointers = entry.new.pointers } }
-    ensures room { room_of log.old ≤ room_of log.new + 36 }
+    ensures room { room_of log.old ≤ room_of log.new + 38 }
     ensures puts { OnlyPuts log.old log.new }
     ensures range { SameRange sectors.old sectors.new }
 {
@@ -65,7 +65,8 @@ pub fn write_blocks<D: Device>(
         log,
         sectors,
         entry,
-        &mut all.double_indirect_block,
+        &mut all.triple,
+        &mut all.double,
         &mut all.early,
         group,
         piece,
@@ -73,11 +74,13 @@ pub fn write_blocks<D: Device>(
         first.max(DIRECT),
         (last + 1).min(border),
     );
+    take_next(&mut all.double, &all.next_double, group);
     write_segment(
         log,
         sectors,
         entry,
-        &mut all.double_indirect_block,
+        &mut all.triple,
+        &mut all.double,
         &mut all.late,
         group + 1,
         piece,
@@ -85,6 +88,21 @@ pub fn write_blocks<D: Device>(
         border,
         last + 1,
     );
+}
+
+/// Goes on from the double-indirect block that names the pointer sector of a group to that of the group after it,
+/// where that is another one.
+fn take_next(double: &mut PointerSector, next: &PointerSector, group: u32)
+    requires { group < INNER_BLOCKS + 1 }
+    ensures same { double_of (group + 1) ≡ double_of group → double.new ≡ double.old }
+    ensures next { double_of (group + 1) ≢ double_of group
+        → (double.new.number ≡ next.now.number) × (double.new.image ≡ next.now.image) }
+{
+    if double_of(group + 1) != double_of(group) {
+        let image = next.image;
+        double.number = next.number;
+        double.image = image;
+    }
 }
 
 /// Writes the data blocks between two that the entry itself names.
@@ -124,7 +142,8 @@ fn write_segment<D: Device>(
     log: &mut Log<D>,
     sectors: &mut Alloc,
     entry: &mut Entry,
-    all: &mut PointerSector,
+    triple: &mut PointerSector,
+    double: &mut PointerSector,
     above: &mut PointerSector,
     group: u32,
     piece: &Piece,
@@ -133,31 +152,40 @@ fn write_segment<D: Device>(
     to: u32,
 )
     requires can { CanStage log.old sectors.old }
-    requires room { to - from + 3 ≤ room_of log.old + staged_count log.old all.old.number }
+    requires room { to - from + 4 ≤ room_of log.old + staged_count log.old double.old.number
+        + staged_count log.old triple.old.number }
     requires listed { AreListed (DIRECT + NUMBERS * group) from to }
     requires touched { AreTouched piece.now.offset (length bytes.now) from to }
-    requires known { IsKnown sectors.old above.old.number × IsKnown sectors.old all.old.number }
+    requires known { IsKnown sectors.old above.old.number × IsKnown sectors.old double.old.number
+        × IsKnown sectors.old triple.old.number }
     ensures written { IsReady sectors.old (view log.old) entry.old → to ≤ blocks_for_size entry.old.size
         → (from < to → Mirrors (view log.old) entry.old (segment group) above.old.number above.old.image)
-        → (LISTED < to → Mirrors (view log.old) entry.old double_indirect_block all.old.number all.old.image)
+        → (from < to → 1 ≤ group → Mirrors (view log.old) entry.old (double_indirect_block (double_of group))
+        double.old.number double.old.image)
+        → (from < to → 1 ≤ double_of group → Mirrors (view log.old) entry.old triple_indirect_block
+        triple.old.number triple.old.image)
         → ChangesPositions sectors.old sectors.new (view log.old) (view log.new) entry.old entry.new
-        (λ p. IsBlockIn from to p ⊎ ((p ≡ segment group) ⊎ (p ≡ double_indirect_block)))
+        (λ p. IsBlockIn from to p ⊎ IsAbove group p)
         × HasBlocks (view log.new) entry.new from to
         (image_of piece.now.offset bytes.now piece.now.first piece.now.last)
-        × (Mirrors (view log.old) entry.old double_indirect_block all.old.number all.old.image
-        → Mirrors (view log.new) entry.new double_indirect_block all.new.number all.new.image) }
+        × (Mirrors (view log.old) entry.old (double_indirect_block (double_of group)) double.old.number double.old.image
+        → Mirrors (view log.new) entry.new (double_indirect_block (double_of group)) double.new.number double.new.image)
+        × (Mirrors (view log.old) entry.old triple_indirect_block triple.old.number triple.old.image
+        → Mirrors (view log.new) entry.new triple_indirect_block triple.new.number triple.new.image) }
     ensures keeps { (n : ℕ) → taken_of sectors.old n ≡ true → taken_of sectors.new n ≡ true }
-    ensures known_all { IsKnown sectors.new all.new.number }
+    ensures known { IsKnown sectors.new double.new.number × IsKnown sectors.new triple.new.number }
     ensures entry { entry.new ≡ record entry.old { pointers = entry.new.pointers } }
-    ensures room { room_of log.old + staged_count log.old all.old.number
-        ≤ room_of log.new + staged_count log.new all.new.number + (to - from) + 1 }
+    ensures room { room_of log.old + staged_count log.old double.old.number
+        + staged_count log.old triple.old.number
+        ≤ room_of log.new + staged_count log.new double.new.number
+        + staged_count log.new triple.new.number + (to - from) + 1 }
     ensures puts { OnlyPuts log.old log.new }
     ensures range { SameRange sectors.old sectors.new }
 {
     if to <= from {
         return;
     }
-    open_segment(log, sectors, entry, all, above, group);
+    open_segment(log, sectors, entry, triple, double, above, group);
     if above.number != 0 {
         write_listed(
             log,
@@ -209,35 +237,41 @@ fn write_listed<D: Device>(
     }
 }
 
-/// Makes the pointer sector of a group, and the one that lists it, where there is none.
+/// Makes the pointer sector of a group, and those by which it is found, where there is none.
 fn open_segment<D: Device>(
     log: &mut Log<D>,
     sectors: &mut Alloc,
     entry: &mut Entry,
-    all: &mut PointerSector,
+    triple: &mut PointerSector,
+    double: &mut PointerSector,
     above: &mut PointerSector,
     group: u32,
 )
-    requires place { group < NUMBERS + 1 }
+    requires place { group < INNER_BLOCKS + 1 }
     requires can { CanStage log.old sectors.old }
-    requires room { 3 ≤ room_of log.old + staged_count log.old all.old.number }
-    requires known { IsKnown sectors.old above.old.number × IsKnown sectors.old all.old.number }
+    requires room { 4 ≤ room_of log.old + staged_count log.old double.old.number
+        + staged_count log.old triple.old.number }
+    requires known { IsKnown sectors.old above.old.number × IsKnown sectors.old double.old.number
+        × IsKnown sectors.old triple.old.number }
     ensures opened { IsReady sectors.old (view log.old) entry.old
         → DIRECT + NUMBERS * group < blocks_for_size entry.old.size
         → Mirrors (view log.old) entry.old (segment group) above.old.number above.old.image
-        → (1 ≤ group → Mirrors (view log.old) entry.old double_indirect_block all.old.number all.old.image)
+        → (1 ≤ group → Mirrors (view log.old) entry.old (double_indirect_block (double_of group)) double.old.number double.old.image)
+        → (1 ≤ double_of group → Mirrors (view log.old) entry.old triple_indirect_block triple.old.number triple.old.image)
         → AddsSector sectors.old sectors.new (view log.old) (view log.new) entry.old entry.new
-        (λ p. (p ≡ segment group) ⊎ (p ≡ double_indirect_block)) (segment group) above.new.number above.new.image
-        × (Mirrors (view log.old) entry.old double_indirect_block all.old.number all.old.image
-        → Mirrors (view log.new) entry.new double_indirect_block all.new.number all.new.image) }
-    ensures known { IsKnown sectors.new above.new.number }
-    ensures known_all { IsKnown sectors.new all.new.number }
+        (IsAbove group) (segment group) above.new.number above.new.image
+        × (Mirrors (view log.old) entry.old (double_indirect_block (double_of group)) double.old.number double.old.image
+        → Mirrors (view log.new) entry.new (double_indirect_block (double_of group)) double.new.number double.new.image)
+        × (Mirrors (view log.old) entry.old triple_indirect_block triple.old.number triple.old.image
+        → Mirrors (view log.new) entry.new triple_indirect_block triple.new.number triple.new.image) }
+    ensures known { IsKnown sectors.new above.new.number × IsKnown sectors.new double.new.number
+        × IsKnown sectors.new triple.new.number }
     ensures keeps { (n : ℕ) → taken_of sectors.old n ≡ true → taken_of sectors.new n ≡ true }
     ensures entry { entry.new ≡ record entry.old { pointers = entry.new.pointers } }
-    ensures room { room_of log.old + staged_count log.old all.old.number
-        + staged_count log.old above.old.number
-        ≤ room_of log.new + staged_count log.new all.new.number
-        + staged_count log.new above.new.number }
+    ensures room { room_of log.old + staged_count log.old double.old.number
+        + staged_count log.old triple.old.number + staged_count log.old above.old.number
+        ≤ room_of log.new + staged_count log.new double.new.number
+        + staged_count log.new triple.new.number + staged_count log.new above.new.number }
     ensures puts { OnlyPuts log.old log.new }
     ensures range { SameRange sectors.old sectors.new }
 {
@@ -245,13 +279,56 @@ fn open_segment<D: Device>(
         open_pointer(log, sectors, entry, INDIRECT, above);
         return;
     }
-    open_pointer(log, sectors, entry, DOUBLE_INDIRECT, all);
-    if above.number == 0 && all.number != 0 {
-        above.number = add_number(log, sectors, all, group - 1, &[0; 512]);
+    open_double(log, sectors, entry, triple, double, double_of(group));
+    if above.number == 0 && double.number != 0 {
+        above.number = add_number(log, sectors, double, (group - 1) % NUMBERS, &[0; 512]);
     }
 }
 
-/// Makes the indirect or the double-indirect block, which the entry names, where there is none.
+/// Makes a double-indirect block, and the triple-indirect block that names it unless it is the first, where there is
+/// none.
+fn open_double<D: Device>(
+    log: &mut Log<D>,
+    sectors: &mut Alloc,
+    entry: &mut Entry,
+    triple: &mut PointerSector,
+    double: &mut PointerSector,
+    d: u32,
+)
+    requires place { d < DOUBLE_INDIRECT_BLOCKS }
+    requires can { CanStage log.old sectors.old }
+    requires room { 3 ≤ room_of log.old + staged_count log.old triple.old.number }
+    requires known { IsKnown sectors.old double.old.number × IsKnown sectors.old triple.old.number }
+    ensures opened { IsReady sectors.old (view log.old) entry.old
+        → LISTED + SERVED * d < blocks_for_size entry.old.size
+        → Mirrors (view log.old) entry.old (double_indirect_block d) double.old.number double.old.image
+        → (1 ≤ d → Mirrors (view log.old) entry.old triple_indirect_block triple.old.number triple.old.image)
+        → AddsSector sectors.old sectors.new (view log.old) (view log.new) entry.old entry.new
+        (λ p. (p ≡ double_indirect_block d) ⊎ (p ≡ triple_indirect_block)) (double_indirect_block d) double.new.number double.new.image
+        × (Mirrors (view log.old) entry.old triple_indirect_block triple.old.number triple.old.image
+        → Mirrors (view log.new) entry.new triple_indirect_block triple.new.number triple.new.image) }
+    ensures known { IsKnown sectors.new double.new.number }
+    ensures known_triple { IsKnown sectors.new triple.new.number }
+    ensures keeps { (n : ℕ) → taken_of sectors.old n ≡ true → taken_of sectors.new n ≡ true }
+    ensures entry { entry.new ≡ record entry.old { pointers = entry.new.pointers } }
+    ensures room { room_of log.old + staged_count log.old triple.old.number
+        + staged_count log.old double.old.number
+        ≤ room_of log.new + staged_count log.new triple.new.number
+        + staged_count log.new double.new.number }
+    ensures puts { OnlyPuts log.old log.new }
+    ensures range { SameRange sectors.old sectors.new }
+{
+    if d == 0 {
+        open_pointer(log, sectors, entry, DOUBLE_INDIRECT, double);
+        return;
+    }
+    open_pointer(log, sectors, entry, TRIPLE_INDIRECT, triple);
+    if double.number == 0 && triple.number != 0 {
+        double.number = add_number(log, sectors, triple, d - 1, &[0; 512]);
+    }
+}
+
+/// Makes a pointer sector that the entry names, where there is none.
 fn open_pointer<D: Device>(
     log: &mut Log<D>,
     sectors: &mut Alloc,

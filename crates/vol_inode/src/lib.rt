@@ -17,7 +17,8 @@ pub use entry::{Entry, Kind};
 pub use image::{put_bytes, put_number};
 pub use names::is_name;
 pub use pointers::{
-    DIRECT, DOUBLE_INDIRECT, INDIRECT, LISTED, MOST_BLOCKS, NUMBERS, TRIPLE_INDIRECT,
+    DIRECT, DOUBLE_INDIRECT, DOUBLE_INDIRECT_BLOCKS, INDIRECT, INNER_BLOCKS, LISTED, MOST_BLOCKS,
+    NUMBERS, SERVED, TRIPLE_INDIRECT, TWICE_LISTED,
 };
 pub use rules::first_block_of_pointer;
 pub use serial::Serial;

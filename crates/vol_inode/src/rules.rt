@@ -4,7 +4,7 @@ ghost use Rattle.std.specs.Prelude.{◌≡◌, ◌<◌, ◌↔◌, All, IsTrue};
 ghost use Rattle.vol_inode.specs.Entry.{HasName, HasSize, UnusedPointersAreZero, KeepsRules, first_block_of_pointer};
 
 use crate::names::is_name;
-use crate::pointers::{DOUBLE_INDIRECT, LISTED, MOST_BLOCKS, TRIPLE_INDIRECT};
+use crate::pointers::{DOUBLE_INDIRECT, LISTED, TRIPLE_INDIRECT, TWICE_LISTED};
 use crate::{Entry, Kind, Version};
 use vol_sector::Rule;
 
@@ -89,6 +89,6 @@ pub fn first_block_of_pointer(k: usize) -> u32
     } else if k < TRIPLE_INDIRECT as usize {
         LISTED
     } else {
-        MOST_BLOCKS
+        TWICE_LISTED
     }
 }

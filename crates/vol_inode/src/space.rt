@@ -3,7 +3,7 @@
 ghost use Rattle.std.specs.Prelude.{◌≡◌};
 ghost use Rattle.vol_inode.specs.Space.{need_of};
 
-use crate::pointers::{DIRECT, LISTED, NUMBERS};
+use crate::pointers::{DIRECT, LISTED, NUMBERS, SERVED, TWICE_LISTED};
 
 /// How many data sectors a file of this size in bytes reserves: one for each 512 bytes, and those
 /// that list them.
@@ -15,7 +15,10 @@ pub fn need(size: u32) -> u32
         count
     } else if count <= LISTED {
         count + 1
-    } else {
+    } else if count <= TWICE_LISTED {
         count + 2 + (count - LISTED).div_ceil(NUMBERS)
+    } else {
+        let later = count - LISTED;
+        count + 2 + later.div_ceil(NUMBERS) + later.div_ceil(SERVED)
     }
 }

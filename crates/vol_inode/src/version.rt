@@ -3,7 +3,7 @@
 ghost use Rattle.std.specs.Prelude.{◌≡◌};
 
 /// The greatest size of a file in bytes, in any version.
-pub const LARGEST_SIZE: u32 = 8_483_840;
+pub const LARGEST_SIZE: u32 = 1_082_225_664;
 
 /// The version of a volume's format. In version 2 files may be greater.
 #[derive(Clone, Copy, Debug, PartialEq, Eq)]
@@ -21,7 +21,7 @@ impl Version {
     {
         match self {
             Version::One => 95_232,
-            Version::Two => LARGEST_SIZE,
+            Version::Two => 8_483_840,
         }
     }
 }

@@ -1,5 +1,5 @@
 -- An entry that names no sectors is put into an unused slot.
-use Rattle.std.proofs.Common.{◌≡◌, ◌≢◌, ℕ, zero, suc, ◌+◌, ◌/◌, ◌%◌, ◌≤◌, ◌<◌, ◌==◌, nat_lt, Bool, true, false, if◌then◌else◌, List, [], length, map, get_or, set, replicate, Option, Some, None, Result, Ok, Err, refl, sym, ◌∙◌, ap, subst, arith}
+use Rattle.std.proofs.Common.{◌≡◌, ◌≢◌, ℕ, zero, suc, ◌+◌, ◌-◌, ◌/◌, ◌%◌, ◌≤◌, ◌<◌, ◌==◌, nat_lt, Bool, true, false, if◌then◌else◌, List, [], length, map, get_or, set, replicate, Option, Some, None, Result, Ok, Err, refl, sym, ◌∙◌, ap, subst, arith}
 use Rattle.std.specs.Option.{option_map, option_map_or}
 use Rattle.std.specs.List.{range_with_len}
 use Rattle.std.proofs.lemmas.List.Sums.{sum_by-set}
@@ -12,7 +12,7 @@ use Rattle.vol_inode.specs.declared.entry.Kind.TheVariants as kinds
 use Rattle.vol_inode.specs.Entry.{IsEntry, name_of}
 use Rattle.vol_inode.specs.Spelling.{spelling}
 use Rattle.vol_inode.specs.Space.{need_of}
-use Rattle.vol_body.specs.Body.{BlockPosition, data_block, indirect_block, double_indirect_block, inner_block, named, number_in, block_bytes, byte_at, bytes_of, IsBody}
+use Rattle.vol_body.specs.Body.{BlockPosition, data_block, indirect_block, inner_block, double_indirect_block, triple_indirect_block, named, number_in, block_bytes, byte_at, bytes_of, IsBody}
 use Rattle.vol_alloc.specs.declared.sectors.Alloc.{Alloc}
 use Rattle.vol_tree.specs.declared.superblock.Superblock.{Superblock}
 use Rattle.vol_tree.specs.declared.errno.Errno.{Errno}
@@ -57,20 +57,28 @@ zero_at zero i = refl
 zero_at (suc n) zero = refl
 zero_at (suc n) (suc i) = zero_at n i
 
-pick_list : (content : Image) (c : Bool) (n m i j k : ℕ) → n ≡ 0 → m ≡ 0
-    → (if c then (if n == 0 then 0 else i) else (if (if m == 0 then 0 else j) == 0 then 0 else k)) ≡ 0
-pick_list content true n m i j k one other = ap (λ (x : ℕ). if x == 0 then 0 else i) one
-pick_list content false n m i j k one other = ap (λ (x : ℕ). if (if x == 0 then 0 else j) == 0 then 0 else k) other
+pick_list : (content : Image) (c : Bool) (n i y : ℕ) → n ≡ 0 → y ≡ 0 → (if c then number_in content n i else y) ≡ 0
+pick_list content true n i y one other = ap (λ (x : ℕ). number_in content x i) one
+pick_list content false n i y one other = other
 
 pick_part : (b : Bool) (x y : ℕ) → x ≡ 0 → y ≡ 0 → (if b then x else y) ≡ 0
 pick_part true x y one other = one
 pick_part false x y one other = other
 
+double_none : (content : Image) (e : Entry) → ((k : ℕ) → get_or e.pointers k 0 ≡ 0) → (d : ℕ) → named content e (double_indirect_block d) ≡ 0
+double_none content e none zero = none 59
+double_none content e none (suc m) = ap (λ (n : ℕ). number_in content n m) (none 60)
+
+inner_none : (content : Image) (e : Entry) → ((k : ℕ) → get_or e.pointers k 0 ≡ 0) → (i : ℕ) → named content e (inner_block i) ≡ 0
+inner_none content e none i = ap (λ (n : ℕ). number_in content n (i % 128)) (double_none content e none (i / 128))
+
 pub names_none : (content : Image) (e : Entry) → ((k : ℕ) → get_or e.pointers k 0 ≡ 0) → (p : BlockPosition) → named content e p ≡ 0
-names_none content e none (data_block j) = pick_part (nat_lt j 58) _ _ (none j) (pick_list content (nat_lt j 186) (get_or e.pointers 58 0) (get_or e.pointers 59 0) _ _ _ (none 58) (none 59))
+names_none content e none (data_block j) = pick_part (nat_lt j 58) _ _ (none j)
+    (pick_list content (nat_lt j 186) (get_or e.pointers 58 0) (j - 58) _ (none 58) (ap (λ (n : ℕ). number_in content n ((j - 186) % 128)) (inner_none content e none ((j - 186) / 128))))
 names_none content e none indirect_block = none 58
-names_none content e none double_indirect_block = none 59
-names_none content e none (inner_block i) = ap (λ (n : ℕ). number_in content n i) (none 59)
+names_none content e none (inner_block i) = inner_none content e none i
+names_none content e none (double_indirect_block d) = double_none content e none d
+names_none content e none triple_indirect_block = none 60
 
 pub body_of_none : (content : Image) (e : Entry) → ((k : ℕ) → get_or e.pointers k 0 ≡ 0) → IsBody content e
 body_of_none content e none = record {

@@ -14,7 +14,7 @@ use Rattle.vol_inode.specs.declared.version.Version.TheVariants.{One, Two}
 use Rattle.vol_inode.specs.Entry.{IsEntry}
 use Rattle.vol_inode.specs.Space.{size_limit}
 use Rattle.vol_inode.specs.Spelling.{spelling, unused}
-use Rattle.vol_body.specs.Body.{BlockPosition, data_block, indirect_block, double_indirect_block, inner_block, named, block_bytes, IsBody}
+use Rattle.vol_body.specs.Body.{BlockPosition, data_block, indirect_block, inner_block, double_indirect_block, triple_indirect_block, named, number_in, block_bytes, IsBody}
 use Rattle.vol_tree.specs.declared.superblock.Superblock.{Superblock}
 use Rattle.vol_tree.specs.Superblock.{superblock, HasRanges}
 use Rattle.vol_tree.specs.Tree as tree
@@ -74,16 +74,24 @@ root_is_entry version = record {
   };
 }
 
-pick : (b c : Bool) (x : ℕ) → x ≡ 0 → (if b then x else (if c then 0 else 0)) ≡ 0
-pick true c x none = none
-pick false true x none = refl
-pick false false x none = refl
+pick : (b c : Bool) (x y : ℕ) → x ≡ 0 → y ≡ 0 → (if b then x else (if c then 0 else y)) ≡ 0
+pick true c x y none other = none
+pick false true x y none other = refl
+pick false false x y none other = other
+
+double_none : (content : Image) (d : ℕ) → named content root_entry (double_indirect_block d) ≡ 0
+double_none content zero = refl
+double_none content (suc m) = refl
+
+inner_none : (content : Image) (i : ℕ) → named content root_entry (inner_block i) ≡ 0
+inner_none content i = ap (λ (n : ℕ). number_in content n (i % 128)) (double_none content (i / 128))
 
 pub names_none : (content : Image) (p : BlockPosition) → named content root_entry p ≡ 0
-names_none content (data_block j) = pick (nat_lt j 58) (nat_lt j 186) (get_or (replicate 61 0) j 0) (zero_at 61 j)
+names_none content (data_block j) = pick (nat_lt j 58) (nat_lt j 186) (get_or (replicate 61 0) j 0) _ (zero_at 61 j) (ap (λ (n : ℕ). number_in content n ((j - 186) % 128)) (inner_none content ((j - 186) / 128)))
 names_none content indirect_block = refl
-names_none content double_indirect_block = refl
-names_none content (inner_block i) = refl
+names_none content (inner_block i) = inner_none content i
+names_none content (double_indirect_block d) = double_none content d
+names_none content triple_indirect_block = refl
 
 root_is_body : (content : Image) → IsBody content root_entry
 root_is_body content = record {

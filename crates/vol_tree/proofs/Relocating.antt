@@ -11,7 +11,7 @@ use Rattle.vol_inode.specs.Entry.{IsEntry, name_of}
 use Rattle.vol_inode.specs.Name.{IsName}
 use Rattle.vol_inode.specs.Spelling.{spelling}
 use Rattle.vol_inode.specs.Space.{need_of}
-use Rattle.vol_body.specs.Body.{BlockPosition, data_block, indirect_block, double_indirect_block, inner_block, IsPosition, named, block_bytes, byte_at, bytes_of, IsBody, SameSectors, IsSameFile}
+use Rattle.vol_body.specs.Body.{BlockPosition, data_block, indirect_block, inner_block, double_indirect_block, triple_indirect_block, IsPosition, named, block_bytes, byte_at, bytes_of, IsBody, SameSectors, IsSameFile}
 use Rattle.vol_body.proofs.Same.{same_file, same_rules}
 use Rattle.vol_alloc.specs.declared.sectors.Alloc.{Alloc}
 use Rattle.vol_alloc.specs.Alloc.{taken_of}
@@ -37,8 +37,9 @@ use Rattle.vol_dirs.specs.Slots.{slot_sector}
 named_by : (content : Image) (d e : Entry) → e.pointers ≡ d.pointers → (p : BlockPosition) → named content e p ≡ named content d p
 named_by content d e same (data_block j) = ap (λ (l : List ℕ). named content (record d { pointers = l }) (data_block j)) same
 named_by content d e same indirect_block = ap (λ (l : List ℕ). named content (record d { pointers = l }) indirect_block) same
-named_by content d e same double_indirect_block = ap (λ (l : List ℕ). named content (record d { pointers = l }) double_indirect_block) same
 named_by content d e same (inner_block i) = ap (λ (l : List ℕ). named content (record d { pointers = l }) (inner_block i)) same
+named_by content d e same (double_indirect_block k) = ap (λ (l : List ℕ). named content (record d { pointers = l }) (double_indirect_block k)) same
+named_by content d e same triple_indirect_block = ap (λ (l : List ℕ). named content (record d { pointers = l }) triple_indirect_block) same
 
 body_by : (content : Image) (d e : Entry) → e.pointers ≡ d.pointers → e.size ≡ d.size → IsBody content d → IsBody content e
 body_by content d e same size body = record {

@@ -106,7 +106,7 @@ impl<D: Device> Parts<D> {
     pub(crate) fn take_out(&mut self, serial: Serial, mut entry: Entry) -> Result<(), DeviceFault>
         requires is_open { IsOpen self.old }
         requires working { has_failed self.old.log ≡ false }
-        requires room { 5 ≤ room_of self.old.log }
+        requires room { 6 ≤ room_of self.old.log }
         requires first { 1 ≤ serial }
         requires last { serial ≤ self.old.numbers.slots }
         requires right { IsEntry self.old.numbers.version entry }

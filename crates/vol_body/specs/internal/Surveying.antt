@@ -12,8 +12,8 @@ use Rattle.vol_log.specs.Log.{device_of, has_failed}
 use Rattle.vol_log.specs.Reading.{OnlyReads}
 use Rattle.vol_log.specs.declared.log.Log.{Log}
 use Rattle.vol_inode.specs.declared.entry.Entry.{Entry}
-use Rattle.vol_inode.specs.Space.{blocks_for_size, inner_blocks_for}
-use Rattle.vol_inode.specs.declared.pointers.TheConstants.{LISTED, NUMBERS}
+use Rattle.vol_inode.specs.Space.{blocks_for_size, inner_blocks_for, double_blocks_for}
+use Rattle.vol_inode.specs.declared.pointers.TheConstants.{LISTED, TWICE_LISTED, NUMBERS, SERVED}
 use Rattle.vol_body.specs.Body.{BlockPosition, data_block, IsPosition, first_served, named, number_in, block_bytes}
 use Rattle.vol_body.specs.Survey.{nonzero, AreInside}
 
@@ -28,6 +28,14 @@ with_listed content n = n ∷ listed content n
 -- these, each with those that it lists
 abbrev pub all_listed : Image → List ℕ → List ℕ
 all_listed content numbers = flat_map (with_listed content) numbers
+
+-- the number of a double-indirect block, and those of its inner blocks, each with those that it lists
+abbrev pub with_all_listed : Image → ℕ → List ℕ
+with_all_listed content n = n ∷ all_listed content (listed content n)
+
+-- these, each with all that it names
+abbrev pub all_with_all_listed : Image → List ℕ → List ℕ
+all_with_all_listed content numbers = flat_map (with_all_listed content) numbers
 
 -- the numbers of sectors among these were pushed, and all are inside the range
 pub record Pushes (first end : ℕ) (old new numbers : List ℕ) : Type 0 where
@@ -54,14 +62,24 @@ pub record Surveys {D : Type 0} {g : Ghosts D} (first end : ℕ) (old new : Log 
 abbrev pub ListsNoneFrom : Image → ℕ → ℕ → Type 0
 ListsNoneFrom content n from = (i : ℕ) → from ≤ i → i < NUMBERS → number_in content n i ≡ 0
 
--- the same of these inner blocks
-abbrev pub LaterListNone : Image → List ℕ → ℕ → Type 0
-LaterListNone content numbers count = (i : ℕ) → i < NUMBERS → ListsNoneFrom content (slice_index numbers i) (count - (LISTED + NUMBERS * i))
+-- the same of these inner blocks, which stand for data blocks from one on
+abbrev pub LaterListNone : Image → List ℕ → ℕ → ℕ → Type 0
+LaterListNone content numbers start count = (i : ℕ) → i < NUMBERS → ListsNoneFrom content (slice_index numbers i) (count - (start + NUMBERS * i))
 
--- the double-indirect block lists no inner block for data blocks from a number on, and neither do these
-pub record LaterNone (content : Image) (double_indirect_block count : ℕ) : Type 0 where
-  pub own : ListsNoneFrom content double_indirect_block (inner_blocks_for (count - LISTED))
-  pub later : LaterListNone content (listed content double_indirect_block) count
+-- A double-indirect block, for data blocks from `start` on, names no inner block for data blocks from a number on, and these list
+-- none.
+pub record LaterNone (content : Image) (double_indirect_block start count : ℕ) : Type 0 where
+  pub own : ListsNoneFrom content double_indirect_block (inner_blocks_for (count - start))
+  pub later : LaterListNone content (listed content double_indirect_block) start count
+
+-- the same of these double-indirect blocks
+abbrev pub DoublesNone : Image → List ℕ → ℕ → Type 0
+DoublesNone content numbers count = (m : ℕ) → m < NUMBERS → LaterNone content (slice_index numbers m) (TWICE_LISTED + SERVED * m) count
+
+-- and of the triple-indirect block, which names these
+pub record TripleNone (content : Image) (triple_indirect_block count : ℕ) : Type 0 where
+  pub own : ListsNoneFrom content triple_indirect_block (double_blocks_for (count - TWICE_LISTED))
+  pub doubles : DoublesNone content (listed content triple_indirect_block) count
 
 -- a position that serves only data blocks at or past the size names no sector
 abbrev pub NamesNonePast : Image → Entry → Type 0

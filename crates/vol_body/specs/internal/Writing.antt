@@ -1,7 +1,7 @@
 -- Steps of a write: what changes of a file, and how its pointer sectors stand in memory. A write first reads all that
 -- it needs, its pointer sectors by `MirrorsAll`; then it stages data blocks and pointer sectors, each step by a
 -- `ChangesPositions`, and the entry last.
-use Rattle.std.specs.Prelude.{◌≡◌, ◌≢◌, ◌≤◌, ◌<◌, ◌+◌, ◌-◌, ◌*◌, ◌/◌, ◌==◌, ◌++◌, ℕ, zero, suc, true, false, List, length, take, drop, replicate, slice_index, nat_lt, min, max, if◌then◌else◌}
+use Rattle.std.specs.Prelude.{◌≡◌, ◌≢◌, ◌⊎◌, ◌≤◌, ◌<◌, ◌+◌, ◌-◌, ◌*◌, ◌/◌, ◌==◌, ◌++◌, ℕ, zero, suc, true, false, List, length, take, drop, replicate, nat_lt, min, max, if◌then◌else◌}
 use Rattle.vol_sector.specs.Disk.{Image}
 use Rattle.vol_sector.specs.declared.device.Device.{Ghosts}
 use Rattle.vol_log.specs.Log.{device_of, log_sectors, has_failed, is_staged}
@@ -11,11 +11,11 @@ use Rattle.vol_alloc.specs.declared.sectors.Alloc.{Alloc}
 use Rattle.vol_inode.specs.declared.entry.Entry.{Entry}
 use Rattle.vol_inode.specs.Space.{blocks_for_size, need_of}
 use Rattle.vol_body.specs.declared.pointer_sectors.PointerSectors.{PointerSectors}
-use Rattle.vol_body.specs.Body.{BlockPosition, data_block, indirect_block, double_indirect_block, inner_block, IsPosition, first_served, named, block_bytes, bytes_of, NamesTaken, IsBody}
+use Rattle.vol_body.specs.Body.{BlockPosition, data_block, indirect_block, inner_block, double_indirect_block, triple_indirect_block, IsPosition, first_served, named, block_bytes, bytes_of, NamesTaken, IsBody}
 use Rattle.vol_body.specs.Bytes.{written_bytes}
 use Rattle.vol_body.specs.Change.{used_of, OthersStay, TakesAndGives}
 use Rattle.vol_body.specs.internal.Naming.{IsNaming}
-use Rattle.vol_inode.specs.declared.pointers.TheConstants.{DIRECT, INDIRECT, DOUBLE_INDIRECT, LISTED, MOST_BLOCKS, NUMBERS, TRIPLE_INDIRECT}
+use Rattle.vol_inode.specs.declared.pointers.TheConstants.{DIRECT, INDIRECT, DOUBLE_INDIRECT, TRIPLE_INDIRECT, LISTED, TWICE_LISTED, SERVED, MOST_BLOCKS, NUMBERS}
 use Rattle.vol_log.specs.declared.layout.TheConstants.{FIRST_AFTER_LOG}
 use Rattle.vol_inode.specs.declared.version.TheConstants.{LARGEST_SIZE}
 
@@ -28,22 +28,25 @@ segment (suc i) = inner_block i
 abbrev pub PointedAt : ℕ → BlockPosition → Type 0
 PointedAt s (data_block j) = (s ≡ j) × (j < DIRECT)
 PointedAt s indirect_block = s ≡ INDIRECT
-PointedAt s double_indirect_block = s ≡ DOUBLE_INDIRECT
 PointedAt s (inner_block i) = ⊥
+PointedAt s (double_indirect_block d) = (s ≡ DOUBLE_INDIRECT) × (d ≡ 0)
+PointedAt s triple_indirect_block = s ≡ TRIPLE_INDIRECT
 
 -- the pointer sector of the first position has the number of the second one at i
 abbrev pub ListedAt : BlockPosition → ℕ → BlockPosition → Type 0
 ListedAt indirect_block i (data_block j) = DIRECT + i ≡ j
 ListedAt (inner_block k) i (data_block j) = LISTED + NUMBERS * k + i ≡ j
-ListedAt double_indirect_block i (inner_block k) = i ≡ k
+ListedAt (double_indirect_block d) i (inner_block k) = NUMBERS * d + i ≡ k
+ListedAt triple_indirect_block i (double_indirect_block d) = 1 + i ≡ d
 ListedAt p i q = ⊥
 
 -- a new pointer sector lists nothing
 abbrev pub IsBlank : BlockPosition → List ℕ → Type 0
 IsBlank (data_block j) image = Unit {0}
 IsBlank indirect_block image = image ≡ replicate 512 0
-IsBlank double_indirect_block image = image ≡ replicate 512 0
 IsBlank (inner_block i) image = image ≡ replicate 512 0
+IsBlank (double_indirect_block d) image = image ≡ replicate 512 0
+IsBlank triple_indirect_block image = image ≡ replicate 512 0
 
 -- the number that the file names at this position, and the bytes of that sector
 pub record Mirrors (content : Image) (e : Entry) (p : BlockPosition) (number : ℕ) (image : List ℕ) : Type 0 where
@@ -69,7 +72,6 @@ pub record ChangesPositions (a b : Alloc) (content after : Image) (e changed : E
   pub takes : TakesAndGives (taken_of a) (taken_of b) content after e changed
   pub stays : (p : BlockPosition) → IsPosition p → (Touched p → ⊥) → SamePlace content after e changed p
   pub size : changed.size ≡ e.size
-  pub last : slice_index changed.pointers TRIPLE_INDIRECT ≡ slice_index e.pointers TRIPLE_INDIRECT
   pub count : free_of a + used_of content e ≤ free_of b + used_of after changed
 
 -- The file names no sector at this position, and has the space for one.
@@ -144,8 +146,17 @@ image_of offset bytes first last j =
 abbrev pub IsPointer : BlockPosition → Type 0
 IsPointer (data_block j) = ⊥
 IsPointer indirect_block = Unit {0}
-IsPointer double_indirect_block = Unit {0}
 IsPointer (inner_block i) = Unit {0}
+IsPointer (double_indirect_block d) = Unit {0}
+IsPointer triple_indirect_block = Unit {0}
+
+-- which double-indirect block names the pointer sector of a segment: the first one where the entry names it itself
+abbrev pub double_of : ℕ → ℕ
+double_of g = (g - 1) / NUMBERS
+
+-- the position is that of the pointer sector of a segment, or of one by which it is found
+abbrev pub IsAbove : ℕ → BlockPosition → Type 0
+IsAbove g p = (p ≡ segment g) ⊎ ((p ≡ double_indirect_block (double_of g)) ⊎ (p ≡ triple_indirect_block))
 
 -- the segment that lists this data block, or the first one past the direct ones
 abbrev pub segment_of : ℕ → ℕ
@@ -153,13 +164,18 @@ segment_of first = (first - DIRECT) / NUMBERS
 
 -- the pointer sectors that a write of the data blocks from one to another uses, in memory
 pub record MirrorsAll (content : Image) (e : Entry) (all : PointerSectors) (first last : ℕ) : Type 0 where
-  pub double_indirect_block : LISTED ≤ last → Mirrors content e double_indirect_block all.double_indirect_block.number all.double_indirect_block.image
+  pub triple : TWICE_LISTED ≤ last → Mirrors content e triple_indirect_block all.triple.number all.triple.image
+  pub double : LISTED + SERVED * double_of (segment_of first) ≤ last → Mirrors content e (double_indirect_block (double_of (segment_of first))) all.double.number all.double.image
+  pub next_double : double_of (segment_of first + 1) ≢ double_of (segment_of first) → LISTED + SERVED * double_of (segment_of first + 1) ≤ last
+      → Mirrors content e (double_indirect_block (double_of (segment_of first + 1))) all.next_double.number all.next_double.image
   pub early : DIRECT + NUMBERS * segment_of first ≤ last → Mirrors content e (segment (segment_of first)) all.early.number all.early.image
   pub late : LISTED + NUMBERS * segment_of first ≤ last → Mirrors content e (segment (segment_of first + 1)) all.late.number all.late.image
 
 -- those that are there are taken
 pub record KnowsAll (a : Alloc) (all : PointerSectors) : Type 0 where
-  pub double_indirect_block : IsKnown a all.double_indirect_block.number
+  pub triple : IsKnown a all.triple.number
+  pub double : IsKnown a all.double.number
+  pub next_double : IsKnown a all.next_double.number
   pub early : IsKnown a all.early.number
   pub late : IsKnown a all.late.number
 
@@ -169,5 +185,4 @@ pub record WriteLeaves (inode_sector : ℕ) (a b : Alloc) (content after : Image
   pub rules : IsBody after changed
   pub others : OthersStay inode_sector (first_of a) (end_of a) (taken_of a) content after e
   pub taken : TakesAndGives (taken_of a) (taken_of b) content after e changed
-  pub last : slice_index changed.pointers TRIPLE_INDIRECT ≡ slice_index e.pointers TRIPLE_INDIRECT
   pub count : free_of a + used_of content e ≤ free_of b + used_of after changed

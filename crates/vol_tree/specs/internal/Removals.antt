@@ -42,7 +42,7 @@ pub record IsWithout {D : Type 0} {g : Ghosts D} (serial : ℕ) (old new : Parts
   pub stages : Stages old new
   pub tree : g.honest (device_of old.log) → (opened new).tree ≡ changed (opened old).tree serial None
   pub slots : g.honest (device_of old.log) → slots_in (view new.log) new.numbers.slots ≡ set (slots_in (view old.log) old.numbers.slots) (serial - 1) None
-  pub room : room_of old.log ≤ room_of new.log + 5
+  pub room : room_of old.log ≤ room_of new.log + 6
   pub names : (p : ℕ) (n : List ℕ) (s : ℕ) → Names new.dirs p n s ↔ (Names old.dirs p n s × (s ≢ serial))
 
 pub record TakesOut {D : Type 0} {g : Ghosts D} (serial : ℕ) (old new : Parts D g) (io : Bool) : Type 0 where

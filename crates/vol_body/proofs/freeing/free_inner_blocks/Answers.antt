@@ -19,7 +19,7 @@ loop-i-preserved g c =
       working = c.in_ok-free_indirect_block.ensures.failed;
       reads = reads_then c.args.log.now c.loop-i.log c.free_indirect_block.new.log so_far.working so_far.reads c.in_ok-free_indirect_block.ensures.reads;
       range = (c.in_ok-free_indirect_block.ensures.range.0 ∙ so_far.range.0, c.in_ok-free_indirect_block.ensures.range.1 ∙ so_far.range.1);
-      frees = λ h is_held. frees_next_list (taken_of c.args.sectors.now) (taken_of c.loop-i.sectors) (taken_of c.free_indirect_block.new.sectors) (view c.args.log.now) numbers c.args.count i (so_far.frees h is_held)
+      frees = λ h is_held. frees_next_list (taken_of c.args.sectors.now) (taken_of c.loop-i.sectors) (taken_of c.free_indirect_block.new.sectors) (view c.args.log.now) numbers c.args.start c.args.count i (so_far.frees h is_held)
           (frees_at (taken_of c.loop-i.sectors) (taken_of c.free_indirect_block.new.sectors) (view c.loop-i.log) (view c.args.log.now) (numbers i) c.saturating_sub-from.result _ (so_far.reads.view h) c.saturating_sub-from.ensures
           (c.in_ok-free_indirect_block.ensures.frees (so_far.reads.honest.0 h) (is_held ∙ sym (ap (λ (m : Image). block_bytes m c.args.held.now.number) (so_far.reads.view h)))));
     }
@@ -51,7 +51,7 @@ returns g c =
     let so_far = c.loop-i.invariant in
     let all : c.loop-i.i ≡ 128 = omega (arith, c.loop-i-test.false, c.loop-i.auto.i-end) in
     record {
-      frees = λ h is_held. subst (λ (n : ℕ). Frees (taken_of c.args.sectors.now) (taken_of c.loop-i.sectors) (IsFreedWithLater (view c.args.log.now) (slice_index c.args.inner_blocks.now) c.args.count n)) all (so_far.frees h is_held);
+      frees = λ h is_held. subst (λ (n : ℕ). Frees (taken_of c.args.sectors.now) (taken_of c.loop-i.sectors) (IsFreedWithLater (view c.args.log.now) (slice_index c.args.inner_blocks.now) c.args.start c.args.count n)) all (so_far.frees h is_held);
       range = so_far.range;
       reads = so_far.reads;
       failed = so_far.working;

@@ -11,5 +11,5 @@ invariant-loop-i g l = record {
   working : has_failed l.log ≡ false;
   reads : OnlyReads l.fn.log l.log;
   range : (first_of l.sectors ≡ first_of l.fn.sectors) × (end_of l.sectors ≡ end_of l.fn.sectors);
-  frees : g.D.Device.honest (device_of l.fn.log) → l.held.image ≡ block_bytes (view l.fn.log) l.held.number → Frees (taken_of l.fn.sectors) (taken_of l.sectors) (IsFreedWithLater (view l.fn.log) (slice_index l.inner_blocks) l.count l.i);
+  frees : g.D.Device.honest (device_of l.fn.log) → l.held.image ≡ block_bytes (view l.fn.log) l.held.number → Frees (taken_of l.fn.sectors) (taken_of l.sectors) (IsFreedWithLater (view l.fn.log) (slice_index l.inner_blocks) l.start l.count l.i);
 }

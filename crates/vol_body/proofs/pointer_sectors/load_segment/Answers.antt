@@ -46,7 +46,7 @@ returns g c =
           let e = c.args.entry.now in
           let i = c.args.group - 1 in
           let here = mirror (omega (arith, reaches, c.if-group-eq0.false)) in
-          let below : i < 128 = omega (arith, reaches, c.requires.small, c.if-group-eq0.false) in
+          let below : i < 16512 = omega (arith, reaches, c.requires.small, c.if-group-eq0.false) in
           let number : c.number_at.result ≡ named content e (inner_block i) = c.number_at.ensures ∙ number_mirrored content e i c.args.above.now.number c.args.above.now.image here in
           let known : c.taken_or_zero-number.result ≡ named content e (inner_block i) = c.taken_or_zero-number.ensures ∙ known_at (taken_of c.args.sectors.now) content e names (inner_block i) below c.number_at.result number in
           subst (λ (p : BlockPosition). IfOk c.load-2.result (λ s. Mirrors content e p s.number s.image)) (sym (segment_later c.args.group c.if-group-eq0.false))

@@ -1,4 +1,4 @@
-use Rattle.std.proofs.Common.{◌≡◌, ◌<◌, ◌∙◌, Result, Ok, Err, OnErr, is_err, true, get_or, sym, ap, subst, arith}
+use Rattle.std.proofs.Common.{◌≡◌, ◌<◌, ◌∙◌, Result, Ok, Err, OnErr, is_err, true, sym, ap, subst, arith}
 use Rattle.std.proofs.lemmas.Bool.{false≢true}
 use Rattle.std.proofs.lemmas.Result.{on_err_weaker}
 use Rattle.vol_sector.specs.Disk.{Image, put}
@@ -48,8 +48,7 @@ returns-clause-file g c h names body =
       right = λ version right none small.
           let size_is = ap (λ (x : Entry). x.size) longer in
           right_file version after e changed size right (λ directory. sym size_is ∙ none directory) (omega (arith, small, size_is))
-          (longer ∙ sym (ap (λ (x : Entry). record e { size = size; pointers = x.pointers }) longer)) (subst HasWidths (sym longer) (record { parent = right.widths.parent; size = omega (arith, c.requires.small); name = right.widths.name; pointers = right.widths.pointers; each = right.widths.each })) rules
-          (λ zero. ap (λ (x : Entry). get_or x.pointers 60 0) longer ∙ zero);
+          (longer ∙ sym (ap (λ (x : Entry). record e { size = size; pointers = x.pointers }) longer)) (subst HasWidths (sym longer) (record { parent = right.widths.parent; size = omega (arith, c.requires.small); name = right.widths.name; pointers = right.widths.pointers; each = right.widths.each })) rules;
     }) c.grow.ensures.staged c.grow.ensures.entry (c.grow.ensures.bytes body others) (c.grow.ensures.rules body others)
 
 pub returns-clause-none_lost : goal.returns-clause-none_lost
@@ -84,7 +83,7 @@ grow-requires g c = record {
 pub returns-clause-steps : goal.returns-clause-steps
 returns-clause-steps g c =
     let grown = c.grow.ensures in
-    stages_one 4 c.args.log.now c.grow.new.log c.args.sectors.now c.grow.result (is_staged c.args.log.now c.args.inode_sector) (omega arith) grown.log.0 grown.log.1 grown.log.2 grown.fails grown.room
+    stages_one 5 c.args.log.now c.grow.new.log c.args.sectors.now c.grow.result (is_staged c.args.log.now c.args.inode_sector) (omega arith) grown.log.0 grown.log.1 grown.log.2 grown.fails grown.room
     (on_err_weaker c.grow.result (λ same. ap room_of same.0) grown.refused)
 
 pub returns-clause-refused : goal.returns-clause-refused

@@ -14,7 +14,7 @@ use Rattle.vol_inode.specs.Entry.{first_block_of_pointer}
 use Rattle.vol_log.specs.Reading.{OnlyReads}
 use Rattle.vol_log.proofs.Readings.{reads_same, reads_then}
 use Rattle.vol_body.proofs.Loads.{held_in}
-use Rattle.vol_body.proofs.Rights.{right_file, zero_or_kept}
+use Rattle.vol_body.proofs.Rights.{right_file}
 use Rattle.vol_body.proofs.Stagings.{stages_then, stages_none, stages_idle, room_read}
 use Rattle.vol_body.proofs.Steps.{room_left, on_err}
 use Rattle.vol_body.proofs.CutSectors.{put_there, in_range}
@@ -28,7 +28,8 @@ wider : (first end more : ℕ) (truncation : Truncation) → FIRST_AFTER_LOG ≤
 wider first end more truncation from to within = record {
   data_block = λ some. let is = within.data_block some in (omega (arith, from, is.0), omega (arith, to, is.1));
   above = λ some. let is = within.above some in (omega (arith, from, is.0), omega (arith, to, is.1));
-  top = λ some. let is = within.top some in (omega (arith, from, is.0), omega (arith, to, is.1));
+  double = λ some. let is = within.double some in (omega (arith, from, is.0), omega (arith, to, is.1));
+  triple = λ some. let is = within.triple some in (omega (arith, from, is.0), omega (arith, to, is.1));
 }
 
 pub returns-then-failed : goal.returns-then-failed
@@ -36,7 +37,7 @@ returns-then-failed g c = record {
   file = λ h names body. tt;
   none_lost = λ h names body. tt;
   entry = tt;
-  steps = stages_idle 4 c.args.log.now c.args.sectors.now (sym c.failed.ensures ∙ c.if-failed.true);
+  steps = stages_idle 5 c.args.log.now c.args.sectors.now (sym c.failed.ensures ∙ c.if-failed.true);
   refused = (reads_same c.args.log.now, refl);
   idle = λ failed. (refl, refl);
 }
@@ -54,7 +55,7 @@ returns-in_err-held g c =
       file = λ h names body. IfOk-from_err r _ is_err_now;
       none_lost = λ h names body. IfOk-from_err r _ is_err_now;
       entry = IfOk-from_err r _ is_err_now;
-      steps = stages_none 4 c.args.log.now c.hold.new.log c.args.sectors.now c.args.sectors.now (is_err r) e.reads (e.failed ∙ sym is_err_now) refl refl;
+      steps = stages_none 5 c.args.log.now c.hold.new.log c.args.sectors.now c.args.sectors.now (is_err r) e.reads (e.failed ∙ sym is_err_now) refl refl;
       refused = on_err r (e.reads, refl);
       idle = λ failed. absurd (true≢false (sym failed ∙ working));
     }
@@ -82,7 +83,7 @@ returns-in_err-truncation g c =
       file = λ h names body. IfOk-from_err r _ is_err_now;
       none_lost = λ h names body. IfOk-from_err r _ is_err_now;
       entry = IfOk-from_err r _ is_err_now;
-      steps = stages_none 4 c.args.log.now c.read_truncation.new.log c.args.sectors.now c.args.sectors.now (is_err r) reads (second.failed ∙ sym is_err_now) refl refl;
+      steps = stages_none 5 c.args.log.now c.read_truncation.new.log c.args.sectors.now c.args.sectors.now (is_err r) reads (second.failed ∙ sym is_err_now) refl refl;
       refused = on_err r (reads, refl);
       idle = λ failed. absurd (true≢false (sym failed ∙ working));
     }
@@ -112,7 +113,7 @@ returns-in_err-free_unkept g c =
       file = λ h names body. IfOk-from_err r _ is_err_now;
       none_lost = λ h names body. IfOk-from_err r _ is_err_now;
       entry = IfOk-from_err r _ is_err_now;
-      steps = stages_none 4 c.args.log.now c.free_unkept.new.log c.args.sectors.now c.free_unkept.new.sectors (is_err r) reads (third.failed ∙ sym is_err_now) third.range.0 third.range.1;
+      steps = stages_none 5 c.args.log.now c.free_unkept.new.log c.args.sectors.now c.free_unkept.new.sectors (is_err r) reads (third.failed ∙ sym is_err_now) third.range.0 third.range.1;
       refused = on_err r (reads, refl);
       idle = λ failed. absurd (true≢false (sym failed ∙ working));
     }
@@ -188,7 +189,7 @@ given_back g c h names =
     let now_taken = taken_of c.free_unkept.new.sectors in
     let reads = first_reads g c in
     let there : NamesTaken was (view c.read_truncation.new.log) e = subst (λ (m : Image). NamesTaken was m e) (sym (reads.view h)) names in
-    let is_held = held_in e c.in_ok-held.held 16569 (sym (reads.view h)) (c.in_ok-held.ensures.held h names) in
+    let is_held = held_in e c.in_ok-held.held 2113721 (sym (reads.view h)) (c.in_ok-held.ensures.held h names) in
     let count : c.div_ceil-count.result ≡ blocks_for_size c.args.size = omega (arith, c.div_ceil-count.ensures) in
     subst (λ (k : ℕ). Frees was now_taken (IsFreed content e k)) count (subst (λ (m : Image). Frees was now_taken (IsFreed m e c.div_ceil-count.result)) (reads.view h) (c.in_ok-free_unkept.ensures.frees (reads.honest.0 h) there is_held))
 
@@ -198,7 +199,7 @@ are_cut g c h names =
     let e = c.args.entry.now in
     let reads = c.in_ok-held.ensures.reads in
     let there : NamesTaken (taken_of c.args.sectors.now) (view c.hold.new.log) e = subst (λ (m : Image). NamesTaken (taken_of c.args.sectors.now) m e) (sym (reads.view h)) names in
-    let is_held = held_in e c.in_ok-held.held 16569 (sym (reads.view h)) (c.in_ok-held.ensures.held h names) in
+    let is_held = held_in e c.in_ok-held.held 2113721 (sym (reads.view h)) (c.in_ok-held.ensures.held h names) in
     subst (λ (m : Image). IsTruncation m e c.args.size c.in_ok-truncation.truncation) (reads.view h) (c.in_ok-truncation.ensures.truncation (reads.honest.0 h) there is_held)
 
 made : (g : Over) (c : goal.After-stage g) → g.D.Device.honest (device_of c.args.log.now) → NamesTaken (taken_of c.args.sectors.now) (view c.args.log.now) c.args.entry.now → IsBody (view c.args.log.now) c.args.entry.now
@@ -246,8 +247,7 @@ returns-clause-file g c h names body =
       rules = rules;
       others = subst (λ (m : Image). OthersStay place first end taken content m e) (sym is) (shrunk_others size place first end content e changed truncation taken still shrinks spelled);
       taken = subst (λ (m : Image). TakesAndGives taken still content m e changed) (sym is) (shrunk_taken size place first end content e changed truncation taken still shrinks spelled);
-      right = λ version right none small. right_file version after e changed size right none small (λ i. changed) (search rules) rules
-          (λ zero. shrinks.pointers 60 (omega arith) ∙ zero_or_kept (nat_lt (first_block_of_pointer 60) (blocks_for_size size)) (get_or e.pointers 60 0) zero);
+      right = λ version right none small. right_file version after e changed size right none small (λ i. changed) (search rules) rules;
     }
 
 pub returns-clause-none_lost : goal.returns-clause-none_lost

@@ -2,7 +2,7 @@ use Rattle.std.proofs.Common.{◌≡◌, ◌≢◌, ◌∙◌, ◌-◌, ◌/◌,
 use Rattle.std.proofs.lemmas.Result.{IfOk-weaker, IfOk-from_err}
 use Rattle.vol_sector.specs.Disk.{Image}
 use Rattle.vol_log.specs.Log.{view}
-use Rattle.vol_body.specs.Body.{data_block, indirect_block, double_indirect_block, inner_block, named, number_in}
+use Rattle.vol_body.specs.Body.{data_block, indirect_block, inner_block, named, number_in}
 use Rattle.vol_body.proofs.Places.{part_listed, part_later, part_direct}
 use Rattle.vol_log.proofs.Readings.{reads_same, reads_then}
 use Rattle.vol_body.proofs.surveying.block_sector.Goals as goal
@@ -20,13 +20,13 @@ returns-clause-sector g c h below =
     let e = c.args.entry.now in
     let j = c.args.j in
     let q = (j - 186) / 128 in
-    let few : q < 128 = omega (arith, c.requires.place) in
-    let same : view c.number_of-2.new.log ≡ content = c.number_of-2.ensures.reads.view h in
-    let second : c.in_ok-indirect_block.indirect_block ≡ named content e (inner_block q) = c.in_ok-indirect_block.ensures.number h (below double_indirect_block tt) in
-    let there : c.in_ok-indirect_block.indirect_block ≢ 0 → c.in_ok-indirect_block.indirect_block < c.args.end = subst (λ (n : ℕ). n ≢ 0 → n < c.args.end) (sym second) (below (inner_block q) few) in
-    let third : number_in (view c.number_of-2.new.log) c.in_ok-indirect_block.indirect_block ((j - 186) % 128) ≡ named content e (data_block j) =
-    ap (λ (m : Image). number_in m c.in_ok-indirect_block.indirect_block ((j - 186) % 128)) same ∙ ap (λ (n : ℕ). number_in content n ((j - 186) % 128)) second ∙ sym (part_later content e j c.if-j-lt-LISTED.false) in
-    IfOk-weaker c.number_of-3.result (λ n. n ≡ number_in (view c.number_of-2.new.log) c.in_ok-indirect_block.indirect_block ((j - 186) % 128)) (λ n. n ≡ named content e (data_block j)) (λ n is. is ∙ third) (c.number_of-3.ensures.number (c.number_of-2.ensures.reads.honest.0 h) there)
+    let few : q < 16512 = omega (arith, c.requires.place) in
+    let same : view c.inner_block_sector.new.log ≡ content = c.inner_block_sector.ensures.reads.view h in
+    let second : c.in_ok-inner_block.inner_block ≡ named content e (inner_block q) = c.in_ok-inner_block.ensures.sector h below in
+    let there : c.in_ok-inner_block.inner_block ≢ 0 → c.in_ok-inner_block.inner_block < c.args.end = subst (λ (n : ℕ). n ≢ 0 → n < c.args.end) (sym second) (below (inner_block q) few) in
+    let third : number_in (view c.inner_block_sector.new.log) c.in_ok-inner_block.inner_block ((j - 186) % 128) ≡ named content e (data_block j) =
+    ap (λ (m : Image). number_in m c.in_ok-inner_block.inner_block ((j - 186) % 128)) same ∙ ap (λ (n : ℕ). number_in content n ((j - 186) % 128)) second ∙ sym (part_later content e j c.if-j-lt-LISTED.false) in
+    IfOk-weaker c.number_of-2.result (λ n. n ≡ number_in (view c.inner_block_sector.new.log) c.in_ok-inner_block.inner_block ((j - 186) % 128)) (λ n. n ≡ named content e (data_block j)) (λ n is. is ∙ third) (c.number_of-2.ensures.number (c.inner_block_sector.ensures.reads.honest.0 h) there)
 
 pub returns-then-j-lt-DIRECT : goal.returns-then-j-lt-DIRECT
 returns-then-j-lt-DIRECT g c = record {
@@ -41,18 +41,18 @@ returns-then-j-lt-LISTED-clause-reads g c = c.number_of.ensures.reads
 pub returns-then-j-lt-LISTED-clause-failed : goal.returns-then-j-lt-LISTED-clause-failed
 returns-then-j-lt-LISTED-clause-failed g c = c.number_of.ensures.failed
 
-pub returns-in_err-indirect_block : goal.returns-in_err-indirect_block
-returns-in_err-indirect_block g c =
+pub returns-in_err-inner_block : goal.returns-in_err-inner_block
+returns-in_err-inner_block g c =
     let r = c.from_residual.result in
     let is_err_now = c.from_residual.ensures.0 in
     record {
       sector = λ h names. IfOk-from_err r _ is_err_now;
-      reads = c.number_of-2.ensures.reads;
-      failed = c.in_err-indirect_block.ensures.failed ∙ sym is_err_now;
+      reads = c.inner_block_sector.ensures.reads;
+      failed = c.in_err-inner_block.ensures.failed ∙ sym is_err_now;
     }
 
 pub returns-clause-reads : goal.returns-clause-reads
-returns-clause-reads g c = reads_then c.args.log.now c.number_of-2.new.log c.number_of-3.new.log c.in_ok-indirect_block.ensures.failed c.number_of-2.ensures.reads c.number_of-3.ensures.reads
+returns-clause-reads g c = reads_then c.args.log.now c.inner_block_sector.new.log c.number_of-2.new.log c.in_ok-inner_block.ensures.failed c.inner_block_sector.ensures.reads c.number_of-2.ensures.reads
 
 pub returns-clause-failed : goal.returns-clause-failed
-returns-clause-failed g c = c.number_of-3.ensures.failed
+returns-clause-failed g c = c.number_of-2.ensures.failed

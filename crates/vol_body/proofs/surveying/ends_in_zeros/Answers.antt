@@ -46,7 +46,7 @@ pub returns-then-end-n : goal.returns-then-end-n
 returns-then-end-n g c =
     let size = c.args.entry.now.size in
     let n = c.in_ok-n.n in
-    let place : size / 512 < 16570 = omega (arith, c.requires.small, c.if-from-eq0.false) in
+    let place : size / 512 < 2113722 = omega (arith, c.requires.small, c.if-from-eq0.false) in
     record {
       yes = λ h below.
           let is : n ≡ named (view c.args.log.now) c.args.entry.now (data_block (size / 512)) = c.in_ok-n.ensures.sector h below in

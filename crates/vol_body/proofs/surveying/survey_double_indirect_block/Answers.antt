@@ -13,7 +13,7 @@ returns-then-double_indirect_block-eq0 g c =
     let content = view c.args.log.now in
     let n = c.args.double_indirect_block in
     let zero = c.if-double_indirect_block-eq0.true in
-    surveys_none c.args.first c.args.end c.args.log.now c.args.named.now.items _ _ c.requires.inside (none_later content n zero) (later_list_none content n c.args.count zero) c.requires.working
+    surveys_none c.args.first c.args.end c.args.log.now c.args.named.now.items _ _ c.requires.inside (none_later content n zero) (later_list_none content n c.args.start c.args.count zero) c.requires.working
 
 pub returns-in_err-push_number : goal.returns-in_err-push_number
 returns-in_err-push_number g c =
@@ -29,7 +29,7 @@ pub returns-in_err-numbers : goal.returns-in_err-numbers
 returns-in_err-numbers g c =
     let x = c.in_err-numbers.field-0.0 in
     let e = c.in_err-numbers.ensures in
-    let kept : inner_blocks_for (c.args.count - 186) ≡ c.div_ceil-kept.result = omega (arith, c.div_ceil-kept.ensures, c.saturating_sub.ensures) in
+    let kept : inner_blocks_for (c.args.count - c.args.start) ≡ c.div_ceil-kept.result = omega (arith, c.div_ceil-kept.ensures, c.saturating_sub.ensures) in
     surveys_handed c.args.first c.args.end c.args.log.now c.read_numbers.new.log c.args.named.now.items _ _ _ c.from_residual-in_err-numbers.result x c.from_residual-in_err-numbers.ensures.1
     (λ h damaged none. absurd (e.damaged h damaged (subst (λ (k : ℕ). ListsNoneFrom (view c.args.log.now) c.args.double_indirect_block k) kept none.own)))
     (or_device x e.refused) e.reads e.failed
@@ -41,15 +41,15 @@ returns g c =
     let numbers = c.in_ok-numbers.numbers in
     let count = c.args.count in
     let e = c.in_ok-numbers.ensures in
-    let kept : c.div_ceil-kept.result ≡ inner_blocks_for (count - 186) = omega (arith, c.div_ceil-kept.ensures, c.saturating_sub.ensures) in
+    let kept : c.div_ceil-kept.result ≡ inner_blocks_for (count - c.args.start) = omega (arith, c.div_ceil-kept.ensures, c.saturating_sub.ensures) in
     surveys_then c.args.first c.args.end c.args.log.now c.read_numbers.new.log c.survey_inner_blocks.new.log c.args.named.now.items c.push_number.new.named.items c.survey_inner_blocks.new.named.items
     (n ∷ []) (all_listed content (listed content n)) _ _ _ c.survey_inner_blocks.result (λ h. c.in_ok-push_number.ensures.pushes) e.reads e.failed c.survey_inner_blocks.ensures
     (λ h. ap (λ (m : Image). all_listed m numbers) (e.reads.view h) ∙ ap (all_listed content) (e.numbers h))
     (λ h p. record {
       own = subst (λ (k : ℕ). ListsNoneFrom content n k) kept (e.past h);
-      later = subst (λ (ns : List ℕ). LaterListNone content ns count) (e.numbers h) (subst (λ (m : Image). LaterListNone m numbers count) (e.reads.view h) p);
+      later = subst (λ (ns : List ℕ). LaterListNone content ns c.args.start count) (e.numbers h) (subst (λ (m : Image). LaterListNone m numbers c.args.start count) (e.reads.view h) p);
     })
-    (λ h none. subst (λ (m : Image). LaterListNone m numbers count) (sym (e.reads.view h)) (subst (λ (ns : List ℕ). LaterListNone content ns count) (sym (e.numbers h)) none.later))
+    (λ h none. subst (λ (m : Image). LaterListNone m numbers c.args.start count) (sym (e.reads.view h)) (subst (λ (ns : List ℕ). LaterListNone content ns c.args.start count) (sym (e.numbers h)) none.later))
 
 pub survey_inner_blocks-requires-clause-inside : goal.survey_inner_blocks-requires-clause-inside
 survey_inner_blocks-requires-clause-inside c = grind (arith, common_steps)

@@ -42,7 +42,7 @@ loop-i-preserved g c =
     let from = c.saturating_sub-from in
     let so_far = c.loop-i.invariant in
     let within : i < length blocks = omega (arith, c.loop-i-test.true) in
-    subst (λ (ns : List ℕ). Surveys c.args.first c.args.end c.args.log.now c.survey_indirect_block.new.log c.args.named.now.items c.survey_indirect_block.new.named.items ns ((k : ℕ) → k < i + 1 → ListsNoneFrom content (slice_index blocks k) (c.args.count - (186 + 128 * k))) (Ok tt)) (listed_more content blocks i within)
+    subst (λ (ns : List ℕ). Surveys c.args.first c.args.end c.args.log.now c.survey_indirect_block.new.log c.args.named.now.items c.survey_indirect_block.new.named.items ns ((k : ℕ) → k < i + 1 → ListsNoneFrom content (slice_index blocks k) (c.args.count - (c.args.start + 128 * k))) (Ok tt)) (listed_more content blocks i within)
     (surveys_then c.args.first c.args.end c.args.log.now c.loop-i.log c.survey_indirect_block.new.log c.args.named.now.items c.loop-i.named.items c.survey_indirect_block.new.named.items
     (all_listed content (take i blocks)) (with_listed content n) _ _ _ (Ok tt) so_far.pushes so_far.reads so_far.failed c.in_ok-survey_indirect_block.ensures
     (λ h. ap (λ (m : Image). with_listed m n) (so_far.reads.view h))
@@ -50,7 +50,7 @@ loop-i-preserved g c =
       | inl below ↦ so_far.past h k below
       | inr le ↦
           let same : i ≡ k = omega arith in
-          subst (λ (j : ℕ). ListsNoneFrom content (slice_index blocks j) (c.args.count - (186 + 128 * j))) same
+          subst (λ (j : ℕ). ListsNoneFrom content (slice_index blocks j) (c.args.count - (c.args.start + 128 * j))) same
           (subst (λ (k : ℕ). ListsNoneFrom content n k) from.ensures (subst (λ (m : Image). ListsNoneFrom m n from.result) (so_far.reads.view h) p))
     ])
     (λ h none. subst (λ (m : Image). ListsNoneFrom m n from.result) (sym (so_far.reads.view h)) (subst (λ (k : ℕ). ListsNoneFrom content n k) (sym from.ensures) (none i (omega arith)))))

@@ -25,10 +25,22 @@ stage_cut-requires-3 g c =
     let one = c.stage_cut.ensures in
     let two = c.stage_cut-2.ensures in
     record {
-      after_log = λ some. (c.requires.there.top some).0;
-      there = λ some. subst (λ (n : ℕ). c.args.truncation.now.top.sector < n) (sym (two.sectors ∙ one.sectors)) (c.requires.there.top some).1;
+      after_log = λ some. (c.requires.there.double some).0;
+      there = λ some. subst (λ (n : ℕ). c.args.truncation.now.double.sector < n) (sym (two.sectors ∙ one.sectors)) (c.requires.there.double some).1;
       room = omega (arith, c.requires.room, one.room, two.room);
       working = two.failed;
+    }
+
+pub stage_cut-requires-4 : goal.stage_cut-requires-4
+stage_cut-requires-4 g c =
+    let one = c.stage_cut.ensures in
+    let two = c.stage_cut-2.ensures in
+    let three = c.stage_cut-3.ensures in
+    record {
+      after_log = λ some. (c.requires.there.triple some).0;
+      there = λ some. subst (λ (n : ℕ). c.args.truncation.now.triple.sector < n) (sym (three.sectors ∙ two.sectors ∙ one.sectors)) (c.requires.there.triple some).1;
+      room = omega (arith, c.requires.room, one.room, two.room, three.room);
+      working = three.failed;
     }
 
 pub returns : goal.returns
@@ -37,10 +49,11 @@ returns g c =
     let one = c.stage_cut.ensures in
     let two = c.stage_cut-2.ensures in
     let three = c.stage_cut-3.ensures in
+    let four = c.stage_cut-4.ensures in
     record {
-      view = three.view ∙ ap (with_cut truncation.top) (two.view ∙ ap (with_cut truncation.above) one.view);
-      room = omega (arith, one.room, two.room, three.room);
-      device = three.device ∙ two.device ∙ one.device;
-      failed = three.failed;
-      sectors = three.sectors ∙ two.sectors ∙ one.sectors;
+      view = four.view ∙ ap (with_cut truncation.triple) (three.view ∙ ap (with_cut truncation.double) (two.view ∙ ap (with_cut truncation.above) one.view));
+      room = omega (arith, one.room, two.room, three.room, four.room);
+      device = four.device ∙ three.device ∙ two.device ∙ one.device;
+      failed = four.failed;
+      sectors = four.sectors ∙ three.sectors ∙ two.sectors ∙ one.sectors;
     }

@@ -20,7 +20,7 @@ returns-clause-file g c h names body =
         taken = leaves.taken;
         right = λ version right none small.
             let size_is = ap (λ (x : Entry). x.size) is.entry in
-            right_file version after e changed (max e.size (c.args.offset + length c.args.bytes.now)) right (λ directory. omega (arith, size_is, none directory)) (omega (arith, small, size_is)) is.entry widths leaves.rules (λ zero. leaves.last ∙ zero);
+            right_file version after e changed (max e.size (c.args.offset + length c.args.bytes.now)) right (λ directory. omega (arith, size_is, none directory)) (omega (arith, small, size_is)) is.entry widths leaves.rules;
       },
       leaves.count,
     ))
@@ -31,7 +31,7 @@ returns-then-failed g c = record {
   file = λ h names body. tt;
   entry = λ some. tt;
   nothing = λ none. (refl, refl, refl);
-  steps = stages_idle 37 c.args.log.now c.args.sectors.now (sym c.failed.ensures ∙ c.if-failed.true);
+  steps = stages_idle 39 c.args.log.now c.args.sectors.now (sym c.failed.ensures ∙ c.if-failed.true);
   refused = (reads_same c.args.log.now, refl, refl);
   idle = λ failed. (refl, refl);
 }
@@ -40,7 +40,7 @@ pub returns-then-is_empty-clause-nothing : goal.returns-then-is_empty-clause-not
 returns-then-is_empty-clause-nothing g c none = (refl, refl, refl)
 
 pub returns-then-is_empty-clause-steps : goal.returns-then-is_empty-clause-steps
-returns-then-is_empty-clause-steps g c = stages_none 37 c.args.log.now c.args.log.now c.args.sectors.now c.args.sectors.now false (reads_same c.args.log.now) (sym c.failed.ensures ∙ c.if-failed.false) refl refl
+returns-then-is_empty-clause-steps g c = stages_none 39 c.args.log.now c.args.log.now c.args.sectors.now c.args.sectors.now false (reads_same c.args.log.now) (sym c.failed.ensures ∙ c.if-failed.false) refl refl
 
 pub returns-then-is_empty-clause-refused : goal.returns-then-is_empty-clause-refused
 returns-then-is_empty-clause-refused g c = tt

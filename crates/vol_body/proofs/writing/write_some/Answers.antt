@@ -33,7 +33,7 @@ returns-in_err-all g c =
       done = λ h names body space. IfOk-from_err r _ is_err_now;
       entry = IfOk-from_err r _ is_err_now;
       widths = IfOk-from_err r _ is_err_now;
-      steps = stages_none 37 c.args.log.now c.load_pointer_sectors.new.log c.args.sectors.now c.args.sectors.now (is_err r) e.reads (e.failed ∙ sym is_err_now) refl refl;
+      steps = stages_none 39 c.args.log.now c.load_pointer_sectors.new.log c.args.sectors.now c.args.sectors.now (is_err r) e.reads (e.failed ∙ sym is_err_now) refl refl;
       refused = on_err r (e.reads, refl, refl);
     }
 
@@ -58,7 +58,7 @@ returns-in_err-first_image g c =
       done = λ h names body space. IfOk-from_err r _ is_err_now;
       entry = IfOk-from_err r _ is_err_now;
       widths = IfOk-from_err r _ is_err_now;
-      steps = stages_none 37 c.args.log.now c.read_edges.new.log c.args.sectors.now c.args.sectors.now (is_err r) reads (e.failed ∙ sym is_err_now) refl refl;
+      steps = stages_none 39 c.args.log.now c.read_edges.new.log c.args.sectors.now c.args.sectors.now (is_err r) reads (e.failed ∙ sym is_err_now) refl refl;
       refused = on_err r (reads, refl, refl);
     }
 

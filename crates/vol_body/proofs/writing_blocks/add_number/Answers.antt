@@ -71,7 +71,7 @@ returns g c =
           } in
           let done = adds_number a b content after e n m i q p image takes missing.ready missing.ready.small some range.0 range.1 lists_it at_n c.requires.place at q_there mirror.names blank missing.none missing.serves in (
             record { changes = done.0; mirror = done.1; some = takes.some },
-            record { names = mirror.names ∙ sym (holder_stays a b content after e q p i at done.0); bytes = sym at_m ∙ sym (bytes_there after m some) },
+            record { names = mirror.names ∙ sym (holder_stays a b content after e q p i at q_there done.0); bytes = sym at_m ∙ sym (bytes_there after m some) },
           );
       known = λ some. staged_here c.take-n.result t0 t1 c.take-n.ensures.taken;
       keeps = λ k is. staged_still c.take-n.result k t0 t1 c.take-n.ensures.taken is;

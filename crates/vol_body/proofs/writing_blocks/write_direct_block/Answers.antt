@@ -17,7 +17,7 @@ returns-then-n-eq0 g c =
           let content = view c.args.log.now in
           let e = c.args.entry.now in
           let j = c.args.j in
-          let there : j < 16570 = omega (arith, c.requires.direct) in
+          let there : j < 2113722 = omega (arith, c.requires.direct) in
           let is : c.taken_or_zero-n.result ≡ named content e (data_block j) = c.taken_or_zero-n.ensures ∙ known_at (taken_of c.args.sectors.now) content e ready.taken (data_block j) there (get_or e.pointers j 0) (sym (part_direct content e j c.requires.direct)) in
           let missing : IsMissing c.args.sectors.now content e (data_block j) = record { ready = ready; none = sym is ∙ c.if-n-eq0.true; serves = serves } in
           let adds = c.add_pointer.ensures.added (data_block j) (refl, c.requires.direct) tt missing in
@@ -42,7 +42,7 @@ returns-else-n-eq0 g c =
           let e = c.args.entry.now in
           let j = c.args.j in
           let taken = taken_of c.args.sectors.now in
-          let there : j < 16570 = omega (arith, c.requires.direct) in
+          let there : j < 2113722 = omega (arith, c.requires.direct) in
           let is : c.taken_or_zero-n.result ≡ named content e (data_block j) = c.taken_or_zero-n.ensures ∙ known_at taken content e ready.taken (data_block j) there (get_or e.pointers j 0) (sym (part_direct content e j c.requires.direct)) in
           let some : c.taken_or_zero-n.result ≢ 0 = c.if-n-eq0.false in
           let is_taken : taken c.taken_or_zero-n.result ≡ true = ap taken is ∙ ready.taken (data_block j) there (λ none. some (is ∙ none)) in

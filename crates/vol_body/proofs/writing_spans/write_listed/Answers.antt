@@ -39,7 +39,7 @@ loop-j-preserved g c =
       written = λ e s starts fits ready mirror.
           let before = so_far.written e s starts fits ready mirror in
           let q = segment s in
-          let small : j < 16570 = omega (arith, c.requires.listed.last) in
+          let small : j < 2113722 = omega (arith, c.requires.listed.last) in
           let le : start ≤ j = omega (arith, c.requires.listed.starts) in
           let now = step.written e q j (segment_lists s start j starts le) (segment_place s start c.args.to j starts le small) small (omega (arith, fits)) before.0.ready before.2 in (
             changes_then a b d c0 c1 c2 e e e (λ p. IsBlockIn from j p ⊎ (p ≡ q)) (λ p. (p ≡ data_block j) ⊎ (p ≡ q)) (λ p. IsBlockIn from (j + 1) p ⊎ (p ≡ q)) c.requires.can.after_log so_far.range step.range

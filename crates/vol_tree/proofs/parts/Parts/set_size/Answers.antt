@@ -50,7 +50,7 @@ slot_sector-requires g c = omega (arith, c.requires.last, c.requires.is_open.ran
 pub set_size-requires : goal.set_size-requires
 set_size-requires g c = record {
   can = can_change c.args.self.now c.entry.new.self c.args.file c.in_ok-entry.entry (resized_bytes c.args.size) _ c.requires.is_open c.requires.first c.in_ok-entry.ensures.reads c.requires.used c.in_ok-entry.ensures.found refl
-      c.make_room.new.self c.in_ok-make_room.ensures.commits 4 c.slot_sector.result (omega (arith, c.in_ok-make_room.ensures.room)) c.requires.last c.slot_sector.ensures c.in_ok-entry.ensures.right;
+      c.make_room.new.self c.in_ok-make_room.ensures.commits 5 c.slot_sector.result (omega (arith, c.in_ok-make_room.ensures.room)) c.requires.last c.slot_sector.ensures c.in_ok-entry.ensures.right;
   small = omega (arith, c.in-Some.ensures.1, limit_small c.entry.new.self.numbers.version);
 }
 

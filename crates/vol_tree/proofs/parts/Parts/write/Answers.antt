@@ -76,7 +76,7 @@ write_at-requires g c =
     record {
       can = can_change old c.entry.new.self c.args.file c.in_ok-entry.entry (λ (l : List ℕ). written_bytes l c.args.offset c.args.bytes.now) _ c.requires.is_open c.requires.first c.in_ok-entry.ensures.reads c.requires.used c.in_ok-entry.ensures.found
           (ap with_unit (some_written (geometry old.numbers) (tree_in (view old.log) old.numbers) c.args.file c.args.offset c.args.bytes.now c.requires.some))
-          mid c.in_ok-make_room.ensures.commits 37 c.slot_sector.result (omega (arith, c.in_ok-make_room.ensures.room)) c.requires.last c.slot_sector.ensures c.in_ok-entry.ensures.right;
+          mid c.in_ok-make_room.ensures.commits 39 c.slot_sector.result (omega (arith, c.in_ok-make_room.ensures.room)) c.requires.last c.slot_sector.ensures c.in_ok-entry.ensures.right;
       small = omega (arith, c.in-Some.ensures.0, c.in-Some.ensures.1, c.len-count.ensures, limit_small c.entry.new.self.numbers.version);
       few = c.requires.piece;
       space = λ h names body. subst (λ (size : ℕ). need_of size ≤ free_of mid.sectors + used_of (view mid.log) d) (sym size_is)
