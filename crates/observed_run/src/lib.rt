@@ -3,8 +3,6 @@
 
 mod slices;
 mod telling;
-#[cfg(test)]
-mod tests;
 
 pub use slices::run_profiled;
 pub use telling::{Told, run_told};

@@ -2,7 +2,7 @@
 
 ghost use Rattle.std.specs.Prelude.{decimal};
 
-use crate::{run_profiled, run_told};
+use observed_run::{run_profiled, run_told};
 use run_profile::{Names, Profile};
 use sandbox_core::{
     Frame, Outcome, Preopen, Resumable, Session, Settings, SharedModule, SharedSession, Trap,
