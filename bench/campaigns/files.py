@@ -16,7 +16,7 @@ import guests
 from common import Wrong, by_the_table, succeeded
 
 READS = ["module", "--stdin", "--image", "--random"]
-WRITES = ["--stdout", "--stderr", "--report", "--volume", "--volume-out"]
+WRITES = ["--stdout", "--stderr", "--profile", "--report", "--volume", "--volume-out"]
 OF_LISTS = ["--tests", "INPUT", "OUTPUT", "ERRORS", "REPORT"]
 LIST_READS, LIST_WRITES = ["--tests", "INPUT"], ["OUTPUT", "ERRORS", "REPORT"]
 WITH_LISTS = ["module", "--image", "--random", *OF_LISTS]
@@ -307,7 +307,7 @@ def devices(setting, _):
     """Devices and pipes go on as they did, in as many roles as one likes."""
     with Scene(setting) as it:
         module = it.made("module")
-        for roles in itertools.combinations(["--stdin", "--stdout", "--stderr", "--report"], 2):
+        for roles in itertools.combinations(["--stdin", "--stdout", "--stderr", "--profile", "--report"], 2):
             got = it.call(["run", *(word for role in roles for word in (role, "/dev/null")), module])
             wanted(got[0] == 0, f"/dev/null for {' and '.join(roles)}: {got}")
         os.mkfifo(f"{it.folder}/pipe")
