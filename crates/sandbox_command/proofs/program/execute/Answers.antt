@@ -51,8 +51,8 @@ returns-in-Export-clause-tells g c =
 
 pub returns-in-Format-clause-stays_within : goal.returns-in-Format-clause-stays_within
 returns-in-Format-clause-stays_within g c =
-    subst (λ (it : VolumeWork). StaysWithin g.D.Device.honest g.D.Device.disk g.D.Device.size g.D.Device.goes_on it c.args.device c.ended-in-Format.result.device) (sym c.in-Format.is)
-    (subst (λ (d : g.row.D.Denot). FormatsWithin g.D.Device.honest g.D.Device.size g.D.Device.goes_on c.in-Format.sectors c.args.device d) (sym c.ended-in-Format.ensures.device) c.format_where-done.ensures.goes_on)
+    subst (λ (it : VolumeWork). StaysWithin g.D.Device.honest g.D.Device.disk g.D.Device.size g.D.Device.goes_on it c.args.device c.ended.result.device) (sym c.in-Format.is)
+    (subst (λ (d : g.row.D.Denot). FormatsWithin g.D.Device.honest g.D.Device.size g.D.Device.goes_on c.in-Format.sectors c.args.device d) (sym c.ended.ensures.device) c.format_where-done.ensures.goes_on)
 
 pub returns-in-Task-clause-stays_within : goal.returns-in-Task-clause-stays_within
 returns-in-Task-clause-stays_within g c =
