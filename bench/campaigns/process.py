@@ -420,7 +420,7 @@ def killed(setting, item):
         source = described(given)
         again = it.call(words, streams=(source, None, None))
         os.close(source)
-        is_done = words[0] == "upgrade" and again[2] == "sandbox: fault 35\n"  # its superblock was written before the kill
+        is_done = words[0] == "upgrade" and again[2].startswith("sandbox: fault 35\n")  # its superblock was written before the kill
         wanted(again[0] == 0 or "errno" in again[2] or is_done, f"{what}, and called again: {again}")
         litter = it.files().keys() - before.keys() - {*targets, *words}
         wanted(not litter, f"{what}, and called again: {sorted(litter)} is left")
