@@ -329,7 +329,7 @@ def hosts(setting):
     return sum(found.values()), ", ".join(f"{name} {count}" for name, count in sorted(found.items()))
 
 
-STACK = 256 * 1024  # bytes: 88 KiB were enough for each
+STACK = 256 * 1024  # bytes: 96 KiB were enough for each
 
 
 def small_stack():
