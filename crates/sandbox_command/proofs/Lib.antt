@@ -8,7 +8,7 @@ mod Unbegun
 mod Bounds
 mod Finishing
 mod Frames
-mod Rooms
+mod Formatted
 mod AfterFlush
 mod Seeding
 mod Charged

@@ -8,7 +8,7 @@ ghost use Rattle.sandbox_command.specs.Files.{HasExecuted, IsAnswered, IsPerform
 ghost use Rattle.sandbox_command.specs.Status.{file_status};
 
 use crate::clashing::clashes;
-use crate::formatting::{lengthened, version_for};
+use crate::formatting::{room_for, version_for};
 use crate::host_places::HostPlaces;
 use crate::inspecting::inspect;
 use crate::opening::MODULE_READ;
@@ -110,7 +110,8 @@ pub fn perform_in<P: Places, R: Read + Drop, W1: Write + Drop, W2: Write + Drop>
                 version,
                 new: *new,
             };
-            let device = lengthened(places, file, version, *sectors, *new);
+            let room = room_for(version, *sectors);
+            let device = places.lengthen(file, room, *new);
             execute_on(alloc, places, file, work, device, given)
         }
         Invocation::Volume { file, task } => {

@@ -1,12 +1,8 @@
 //! The file of a volume that is to be formatted.
 
-ghost use Rattle.std.specs.Prelude.{◌≡◌, IfErr, IfOk, min};
-ghost use Rattle.std.specs.IoError.{error_kind};
+ghost use Rattle.std.specs.Prelude.{◌≡◌};
 ghost use Rattle.sandbox_command.specs.Formatting.{most_sectors, room_for, version_for};
-ghost use Rattle.sandbox_command.specs.Places.{HasRoom, lengthens};
 
-use crate::places::Places;
-use std::io;
 use vol_inode::Version;
 
 /// The version of a volume that is made, a large one, a huge one or neither.
@@ -32,20 +28,9 @@ pub(crate) fn most_sectors(version: Version) -> u32
     }
 }
 
-/// Opens and locks the file of a volume that is to have this version and so many sectors. It is made, or lengthened to these sectors,
-/// or to the most that the version allows, where that is needed.
-pub(crate) fn lengthened<P: Places>(
-    places: &mut P,
-    file: &str,
-    version: Version,
-    sectors: u32,
-    only_new: bool,
-) -> io::Result<P::Volume>
-    ensures asked { P.asked (lengthens only_new file.now (room_for version sectors)) places.old places.new }
-    ensures refused { IfErr result (λ error. P.refused (lengthens only_new file.now (room_for version sectors)) (error_kind error) places.old places.new) }
-    ensures volume { IfOk result (λ device. P.is_volume file.now device) }
-    ensures unused { IfOk result (λ device. P.Volume.failures device ≡ 0) }
-    ensures enough { IfOk result (λ device. HasRoom P.Volume.size P.Volume.disk only_new (room_for version sectors) device) }
+/// The sectors that the file of such a volume is lengthened to: those that are asked for, or the most that the version allows.
+pub(crate) fn room_for(version: Version, sectors: u32) -> u32
+    ensures { result ≡ room_for version sectors }
 {
-    places.lengthen(file, sectors.min(most_sectors(version)), only_new)
+    sectors.min(most_sectors(version))
 }
