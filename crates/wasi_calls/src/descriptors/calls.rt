@@ -39,7 +39,14 @@ impl<'s, 't, D: Device, R: Read, W1: Write, W2: Write> Inner<'s, 't, D, R, W1, W
     {
         let (fd, result_at) = (descriptor(arguments, 0), word(arguments, 1));
         let (descriptors, interactive) = (&self.descriptors, self.interactive);
-        stat::filestat_get(&mut self.volume, descriptors, interactive, memory, fd, result_at)
+        stat::filestat_get(
+            &mut self.volume,
+            descriptors,
+            interactive,
+            memory,
+            fd,
+            result_at,
+        )
     }
 
     /// `fd_prestat_get(fd, result)`.

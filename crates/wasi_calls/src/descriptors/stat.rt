@@ -49,13 +49,7 @@ pub(crate) fn type_of_stream(stream: Stream, interactive: Option<Terminals>) -> 
 {
     match interactive {
         None => 2,
-        Some(terminals) => {
-            if terminals.has(stream) {
-                2
-            } else {
-                0
-            }
-        }
+        Some(terminals) => { if terminals.has(stream) { 2 } else { 0 } }
     }
 }
 

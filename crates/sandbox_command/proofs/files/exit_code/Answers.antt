@@ -24,8 +24,12 @@ returns-in-Err-clause-tells g c =
 pub returns-in-Ok-invocation-clause-tells : goal.returns-in-Ok-invocation-clause-tells
 returns-in-Ok-invocation-clause-tells g c =
     subst (λ (status : ℕ). IsAnswered g.R.Read g.W1.Write g.W2.Write (record { input = c.args.input; out = c.args.out; err = c.args.err }) status) (sym c.from-in-Ok-invocation.ensures)
-    (inr (inr (map (string_bytes {Z = Global}) c.as_slice.result.now, c.note_terminals.new.self,
-    asked_still (subcommand_of program (map (string_bytes {Z = Global}) c.as_slice.result.now)) _ _ c.note_terminals.ensures c.in-Ok-invocation.ensures.asks, c.perform.ensures.tells)))
+    (inr (inr (
+      map (string_bytes {Z = Global}) c.as_slice.result.now,
+      c.note_terminals.new.self,
+      asked_still (subcommand_of program (map (string_bytes {Z = Global}) c.as_slice.result.now)) _ _ c.note_terminals.ensures c.in-Ok-invocation.ensures.asks,
+      c.perform.ensures.tells,
+    )))
 
 -- the command line is refused
 pub returns-in-Err-invocation-clause-tells : goal.returns-in-Err-invocation-clause-tells
