@@ -43,10 +43,13 @@ dealt_once a c m m2 bs i k d h empty came =
 
 -- ---- either way of reading
 
+at_least : (n t : ℕ) → n ≡ t → t ≤ n
+at_least n t same = omega (arith, same)
+
 module _ {E : Type 0} where
-  pub all_least : (r : Result ℕ E) (open : Type 0) (t : ℕ) → IfOk r (λ n. open → n ≡ t) → IfOk r (λ n. open → least_read false t ≤ n)
-  all_least (Ok n) open t full = λ is. let same = full is in omega (arith, same)
-  all_least (Err e) open t full = tt
+  pub all_least : (r : Result ℕ E) (goes : Type 0) (t : ℕ) → IfOk r (λ n. goes → n ≡ t) → IfOk r (λ n. goes → least_read false t ≤ n)
+  all_least (Ok n) goes t full = λ is. at_least n t (full is)
+  all_least (Err e) goes t full = tt
 
   pub broke_long : (r : Result ℕ E) (a c : Option (List ℕ)) (m m2 : List ℕ) (bs : List Buffer) → OnErr r (SomeDealt a c m bs m2) → OnErr r (Broke false a c m bs m2)
   broke_long (Ok n) a c m m2 bs some = tt
@@ -70,15 +73,27 @@ pub later : (short : Bool) (n : ℕ) (others : List ℕ) → others ≡ pieces_a
 later true n others = refl
 later false n others = refl
 
+so_many : (n t : ℕ) → n ≤ t → min t 1 ≤ n → n ≡ min t (max 1 n)
+so_many n t few some = omega (arith, few, some)
+
+same_so : (n t : ℕ) → n ≤ t → t ≤ n → n ≡ t
+same_so n t few some = omega (arith, few, some)
+
+no_more : (n t : ℕ) → n ≤ t → n ≤ min t (max 1 n)
+no_more n t few = omega (arith, few)
+
+none_most : (n t k : ℕ) → n ≡ 0 → n ≤ min t (max 1 k)
+none_most n t k none = omega (arith, none)
+
 -- the bytes that came are as many as the row takes, or the input has no more
 pub reads_so_many : (short : Bool) (n t : ℕ) (others : List ℕ) → n ≤ t → least_read short t ≤ n → n ≡ most_read short (piece_of short n ++ others) t
-reads_so_many true n t others few some = omega (arith, few, some)
-reads_so_many false n t others few some = omega (arith, few, some)
+reads_so_many true n t others few some = so_many n t few some
+reads_so_many false n t others few some = same_so n t few some
 
 pub reads_no_more : (short : Bool) (n t : ℕ) (others : List ℕ) → n ≤ t → n ≤ most_read short (piece_of short n ++ others) t
-reads_no_more true n t others few = omega (arith, few)
+reads_no_more true n t others few = no_more n t few
 reads_no_more false n t others few = few
 
 pub reads_before_failure : (short : Bool) (n t : ℕ) (others : List ℕ) → n ≤ t → (short ≡ true → n ≡ 0) → n ≤ most_read short others t
-reads_before_failure true n t others few none = let is = none refl in omega (arith, is)
+reads_before_failure true n t others few none = none_most n t (get_or others 0 0) (none refl)
 reads_before_failure false n t others few none = few
