@@ -8,6 +8,7 @@ mod Unbegun
 mod Bounds
 mod Finishing
 mod Frames
+mod Rooms
 mod AfterFlush
 mod Seeding
 mod Charged
