@@ -97,11 +97,11 @@ module _ {D R W1 W2 : Type 0} (device : Ghosts D) (remaining : R → Option (Lis
 
     pub ran : (begun : SessionState D (Counted R) (Counted W1) (Counted W2)) → Opens m handed begun → Shares device handed begun
         → (report : Report D (Counted R) (Counted W1) (Counted W2)) (tally : Tally) (room : List Frame) (depth : ℕ) (stacks : Option Stacks) → ReportsCharged on (with_seed run.seed (limited_to run.limits.values begun)) run.limits.fuel (slice_of run) report tally room depth stacks
-        → (stopped : Stopped) → stopped.depth ≡ depth → stopped.innermost.items ≡ take depth room → IsUseOf stacks m stopped.fuel_use
+        → (stopped : Stopped) → stopped.depth ≡ depth → stopped.innermost.items ≡ take depth room → stopped.answers ≡ tally.answers → IsUseOf stacks m stopped.fuel_use
         → (left : Executed D R W1 W2) → left.stopped ≡ Some stopped → EndsWith report.outcome report.volume left.flushed left.status → left.summary ≡ Some (run_summary run report tally left.status left.flushed)
         → left.device ≡ returned_device report.volume → left.input ≡ report.input.stream → Keeps (outs report.out.stream) (outs left.out) → Keeps (errs report.err.stream) (errs left.err)
         → Launches device.honest device.disk device.size device.failures device.goes_on remaining outs errs m run parts left
-    ran begun opening sharing report tally room depth stacks reported stopped depth_is taken used left stopped_is ends summary is from out_keeps err_keeps =
+    ran begun opening sharing report tally room depth stacks reported stopped depth_is taken answered used left stopped_is ends summary is from out_keeps err_keeps =
         let told = reported.told in
         let counted = told.counted in
         let same = counting_from run parts input out err in_is out_is err_is in
@@ -128,6 +128,7 @@ module _ {D R W1 W2 : Type 0} (device : Ghosts D) (remaining : R → Option (Lis
           stopped = stopped;
           is_stopped = stopped_is;
           frames = first_frames (frames_of reports.last.machine) room depth stopped told.frames depth_is taken;
+          answers = answered;
           fuel_use = use_of slice s reports.resumes report.used m stacks stopped.fuel_use used reported.charged;
           goes = λ end le earlier before. subst (λ (d : D). device.goes_on end earlier d) (sym back)
               (goes_then device.goes_on parts.volume s.host.volume reports.volume.new shares.reads.kept.numbers shares.reads.goes reports.goes end le earlier before);

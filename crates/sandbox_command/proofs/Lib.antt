@@ -8,6 +8,7 @@ mod Unbegun
 mod Bounds
 mod Finishing
 mod Frames
+mod Answered
 mod AfterFlush
 mod Seeding
 mod Charged

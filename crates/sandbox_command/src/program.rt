@@ -503,7 +503,7 @@ fn launch<'a, D: Device + Drop, R: Read + Drop, W1: Write + Drop, W2: Write + Dr
             let mut room = room_for(alloc, run);
             let (told, stacks) = run_within(alloc, run, session, stacks, room.as_mut_slice());
             let fuel_use = fuel_use_of(stacks, told.kept.module());
-            let stopped = stopped_with(told.depth, room, fuel_use);
+            let stopped = stopped_with(told.depth, room, told.tally.answers, fuel_use);
             (told.kept, reported(run, told.report, told.tally, stopped))
         }
         Err(

@@ -17,6 +17,7 @@ returns-in-Ok-clause-launches g c =
     c.in-Ok.session c.in-Ok.ensures.opens c.in-Ok.ensures.shares c.run_within-told.result.0.report c.run_within-told.result.0.tally c.run_within-told.new.room c.run_within-told.result.0.depth c.run_within-told.result.1 c.run_within-told.ensures.told
     c.stopped_with-stopped.result c.stopped_with-stopped.ensures.depth
     (c.stopped_with-stopped.ensures.innermost ∙ ap (λ (fs : List Frame). take c.run_within-told.result.0.depth fs) (room_left c.room_for-room.result.len c.run_within-told.new.room _ (c.run_within-told.auto.room ∙ c.as_mut_slice.ensures.len)))
+    c.stopped_with-stopped.ensures.answers
     (subst (λ (u : Option FuelUse). IsUseOf c.run_within-told.result.1 c.args.valid u) (sym c.stopped_with-stopped.ensures.fuel_use)
     (subst (λ m. IsUseOf c.run_within-told.result.1 m c.fuel_use_of-fuel_use.result) (c.«module».ensures.value ∙ (c.run_within-told.ensures.module ∙ c.in-Ok.ensures.opens.starts.module_is)) c.fuel_use_of-fuel_use.ensures))
     c.reported.result ended.stopped ended.ends ended.summary ended.device ended.input ended.out ended.err
