@@ -3,7 +3,7 @@ use Rattle.sandbox_core.specs.Devices.{devices}
 use Rattle.sandbox_core.specs.Session.{used_by}
 use Rattle.sandbox_command.specs.Profiling.{ReportsCharged, slice_of}
 use Rattle.sandbox_command.specs.internal.Seeds.{with_seed}
-use Rattle.sandbox_command.proofs.program.run_within.Goals as goal
+use Rattle.sandbox_command.proofs.sessions.run_within.Goals as goal
 
 pub run_charged-requires-clause-unused : goal.run_charged-requires-clause-unused
 run_charged-requires-clause-unused g c = ap (λ s. used_by s) (c.seed.ensures ∙ ap (λ s. with_seed c.args.run.now.seed s) c.limit_values.ensures) ∙ c.requires.begun.0
@@ -17,5 +17,6 @@ returns-clause-told g c =
     subst (λ s. ReportsCharged (devices g.D.Device g.R.Read g.W1.Write g.W2.Write) s c.args.run.now.limits.fuel (slice_of c.args.run.now) told.report told.tally c.run_charged.new.room told.depth c.run_charged.result.1)
     (c.seed.ensures ∙ ap (λ s. with_seed c.args.run.now.seed s) c.limit_values.ensures) c.run_charged.ensures.told
 
-pub returns-clause-module : goal.returns-clause-module
-returns-clause-module g c = c.run_charged.ensures.module ∙ ap (λ s. s.machine.valid) (c.seed.ensures ∙ ap (λ s. with_seed c.args.run.now.seed s) c.limit_values.ensures)
+pub returns-clause-kept : goal.returns-clause-kept
+returns-clause-kept g c = subst (λ m. g.S.Resumable.gives_back m c.run_charged.result.0.kept)
+    (ap (λ s. s.machine.valid) (c.seed.ensures ∙ ap (λ s. with_seed c.args.run.now.seed s) c.limit_values.ensures)) c.run_charged.ensures.kept
