@@ -24,7 +24,7 @@ use Rattle.sandbox_words.specs.Request.{Text}
 use Rattle.sandbox_command.specs.declared.program.Executed.{Executed}
 use Rattle.sandbox_command.proofs.Charged.{use_of}
 use Rattle.sandbox_command.specs.Profiling.{IsUseWith, slice_of}
-use Rattle.sandbox_command.specs.internal.Seeds.{with_seed}
+use Rattle.sandbox_command.specs.internal.Seeds.{prepared_by}
 use Rattle.sandbox_command.specs.internal.Sessions.{RunsSession}
 use Rattle.sandbox_command.specs.Execution.{RunsOn}
 use Rattle.sandbox_command.specs.Reporting.{counting, kept_where_not_begun, kept_where_refused, not_run, session_reason, volume_of}
@@ -33,7 +33,7 @@ use Rattle.sandbox_command.specs.Status.{session_status, volume_status}
 use Rattle.sandbox_command.specs.Streams.{IsSilent}
 use Rattle.sandbox_command.specs.Supplies.{AreSettings}
 use Rattle.sandbox_command.proofs.Began.{began, device_back, launch_honest, opened_honest, whole_crash}
-use Rattle.sandbox_command.proofs.Seeding.{opens_seeded, shares_seeded}
+use Rattle.sandbox_command.proofs.Seeding.{opens_prepared, shares_prepared}
 
 -- the streams that came in
 pub kept_streams : {D R W1 W2 : Type 0} (outs : W1 → Option (List ℕ)) (errs : W2 → Option (List ℕ)) (input : R) (out : W1) (err : W2) (left : Executed D R W1 W2)
@@ -98,10 +98,10 @@ module _ {D R W1 W2 : Type 0} (device : Ghosts D) (remaining : R → Option (Lis
     ran begun opening sharing imported counts left it =
         let counted = it.reported.told.counted in
         let limited = limited_to run.limits.values begun in
-        let s = with_seed run.seed limited in
-        let opens = opens_seeded m (counting run parts) limited run.seed
+        let s = prepared_by run limited in
+        let opens = opens_prepared m (counting run parts) limited run
         (opens_limited m (counting run parts) begun run.limits.values (subst (λ (p : HostParts D (Counted R) (Counted W1) (Counted W2)). Opens m (handed p) begun) same opening)) in
-        let shares = shares_seeded device (counting run parts) limited run.seed
+        let shares = shares_prepared device (counting run parts) limited run
         (shares_limited device (counting run parts) begun run.limits.values (subst (λ (p : HostParts D (Counted R) (Counted W1) (Counted W2)). Shares device (handed p) begun) same sharing)) in
         let i = opens.starts.instance in
         let slice = slice_of run in

@@ -38,7 +38,7 @@ pub use program::{Executed, execute, refuse_command_line, refuse_words};
 pub use run_profile::{Names, Profile};
 pub use run_report::{Printed, Summary};
 pub use sandbox_device::{FileDevice, Hindrance, Output, RamDevice};
-pub use sandbox_words::{Change, Invocation, Limits, ListForm, Run, Task, invocation};
+pub use sandbox_words::{Change, Invocation, Limits, ListForm, Run, Task, Terminals, invocation};
 pub use stopping::Stopped;
 pub use streams::{Sink, Source, Spare, Streams};
 pub use testing::run_list;

@@ -6,14 +6,16 @@ ghost use Rattle.sandbox_core.specs.Session.{limited_to, used_by};
 ghost use Rattle.sandbox_command.specs.Profiling.{IsThere, IsUseWith, ReportsCharged, TellsUse, no_stacks, slice_of};
 ghost use Rattle.sandbox_command.specs.Reporting.{counting, output_of};
 ghost use Rattle.sandbox_command.specs.Running.{Launches};
+ghost use Rattle.sandbox_command.specs.Supplies.{terminals_of};
 ghost use Rattle.sandbox_command.specs.internal.Runnable.{IsReadyFor, module_in};
-ghost use Rattle.sandbox_command.specs.internal.Seeds.{with_seed};
+ghost use Rattle.sandbox_command.specs.internal.Seeds.{prepared_by, with_seed, with_terminals};
 ghost use Rattle.sandbox_command.specs.internal.Sessions.{RunsSession};
 
 use crate::profiling::{FuelUse, slice_of};
 use crate::program::{Executed, no_session, reported};
 use crate::runnable::Runnable;
 use crate::stopping::{room_for, stopped_with};
+use crate::supplies::terminals_of;
 use observed_run::{Told, run_profiled, run_told};
 use run_profile::Profile;
 use run_report::Counted;
@@ -40,6 +42,22 @@ where
 {
     if let Some(seed) = run.seed {
         session.seed(seed);
+    }
+}
+
+/// Makes a session interactive, where the words of a run say so.
+fn interact<S, D, R, W1, W2>(run: &Run<'_>, session: &mut S)
+where
+    S: Resumable<D, R, W1, W2>,
+    D: Device,
+    R: Read,
+    W1: Write,
+    W2: Write,
+    requires { (S.state session.old).host.interactive ≡ None }
+    ensures { S.state session.new ≡ with_terminals (terminals_of run.now) (S.state session.old) }
+{
+    if let Some(terminals) = terminals_of(run) {
+        session.interact(terminals);
     }
 }
 
@@ -102,7 +120,7 @@ where
     }
 }
 
-/// Runs a session that has used nothing within the limits of a run, with the random bytes of its seed. Gives back what is kept of its
+/// Runs a session that has used nothing within the limits of a run, with the random bytes of its seed, interactive where it is to be. Gives back what is kept of its
 /// module, and the innermost functions that were at work when it stopped into the room. Where there are stacks, they get its units.
 fn run_within<S, D, R, W1, W2>(
     alloc: Global,
@@ -117,17 +135,19 @@ where
     R: Read + Drop,
     W1: Write + Drop,
     W2: Write + Drop,
-    requires begun { (used_by (S.state session) ≡ 0) × ((S.state session).host.generator ≡ None) }
+    requires begun { (used_by (S.state session) ≡ 0) × ((S.state session).host.generator ≡ None)
+        × ((S.state session).host.interactive ≡ None) }
     requires new { IfSome stacks (λ s. s ≡ no_stacks) }
     ensures kept { S.gives_back (S.state session).machine.valid result.0.kept }
     ensures told { ReportsCharged (devices D.Device R.Read W1.Write W2.Write)
-        (with_seed run.now.seed (limited_to run.now.limits.values (S.state session))) run.now.limits.fuel (slice_of run.now)
+        (prepared_by run.now (limited_to run.now.limits.values (S.state session))) run.now.limits.fuel (slice_of run.now)
         result.0.report result.0.tally room.new result.0.depth result.1 }
     ensures stacks { IsThere stacks → IsThere result.1 }
 {
     let mut session = session;
     session.limit_values(run.limits.values as usize);
     seed(run, &mut session);
+    interact(run, &mut session);
     run_charged(alloc, run, session, stacks, room)
 }
 
@@ -163,7 +183,8 @@ where
     R: Read + Drop,
     W1: Write + Drop,
     W2: Write + Drop,
-    requires begun { (used_by (S.state session) ≡ 0) × ((S.state session).host.generator ≡ None) }
+    requires begun { (used_by (S.state session) ≡ 0) × ((S.state session).host.generator ≡ None)
+        × ((S.state session).host.interactive ≡ None) }
     requires new { IfSome stacks (λ s. s ≡ no_stacks) }
     ensures kept { S.gives_back (S.state session).machine.valid result.0 }
     ensures fuel_use { TellsUse stacks result.1.stopped }

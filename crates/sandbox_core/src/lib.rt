@@ -23,7 +23,7 @@ pub use slice::{finish_run, run_slice};
 pub use tally::{Answers, Tally};
 pub use vol_sector::Refused;
 pub use vol_tree::Volume;
-pub use wasi_calls::{HostParts, Preopen, Settings};
+pub use wasi_calls::{HostParts, Preopen, Settings, Terminals};
 pub use wasm_interp::{
     Errno, Frame, Host, HostCall, InstanceFault, Outcome, Pause, Trap,
     frames_are_the_configurations,

@@ -18,7 +18,7 @@ use Rattle.sandbox_command.specs.Profiling.{IsUseWith, ReportsCharged, slice_of}
 use Rattle.sandbox_command.specs.Reporting.{run_summary}
 use Rattle.sandbox_command.specs.Running.{counted_devices, returned_device}
 use Rattle.sandbox_command.specs.Status.{EndsWith}
-use Rattle.sandbox_command.specs.internal.Seeds.{with_seed}
+use Rattle.sandbox_command.specs.internal.Seeds.{prepared_by}
 
 module _ {D R W1 W2 : Type 0} (is_honest : D → Type 0) (disk : D → Disk) (sectors_on failures : D → ℕ) (goes_on : ℕ → D → D → Type 0)
     (remaining : R → Option (List ℕ)) (out_contents : W1 → Option (List ℕ)) (err_contents : W2 → Option (List ℕ)) where
@@ -29,7 +29,7 @@ module _ {D R W1 W2 : Type 0} (is_honest : D → Type 0) (disk : D → Disk) (se
     pub depth : ℕ
     pub stacks : Option Stacks
     pub reported : ReportsCharged (counted_devices is_honest disk sectors_on failures goes_on remaining out_contents err_contents)
-        (with_seed run.seed (limited_to run.limits.values begun)) run.limits.fuel (slice_of run) report tally room depth stacks
+        (prepared_by run (limited_to run.limits.values begun)) run.limits.fuel (slice_of run) report tally room depth stacks
     pub stopped : Stopped
     pub is_stopped : left.stopped ≡ Some stopped
     pub frames : TellsFrames (frames_of reported.told.counted.reports.last.machine) stopped.innermost.items stopped.depth
