@@ -120,6 +120,7 @@ module _ {D R W1 W2 : Type 0} (device : Ghosts D) (remaining : R → Option (Lis
           stopped = it.stopped;
           is_stopped = it.is_stopped;
           frames = it.frames;
+          answers = it.answers;
           fuel_use = use_of slice s reports.resumes it.report.used m it.stacks it.stopped.fuel_use
               (subst (λ (n : ℕ). IsUseWith it.stacks n it.stopped.fuel_use) counts it.fuel_use) it.reported.charged;
           goes = λ end le earlier before. subst (λ (d : D). device.goes_on end earlier d) (sym back)

@@ -88,6 +88,8 @@ module _ {D R W1 W2 : Type 0} (is_honest : D → Type 0) (disk : D → Disk) (se
     pub stopped : Stopped
     pub is_stopped : left.stopped ≡ Some stopped
     pub frames : TellsFrames (frames_of counted.reports.last.machine) stopped.innermost.items stopped.depth
+    -- and how often each errno was answered
+    pub answers : stopped.answers ≡ tally.answers
     -- where its fuel went, if that is told
     pub fuel_use : IsFuelUse (slice_of run) session counted.reports.resumes report.used m stopped.fuel_use
     pub ends : EndsWith report.outcome report.volume left.flushed left.status

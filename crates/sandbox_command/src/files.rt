@@ -8,6 +8,7 @@ ghost use Rattle.sandbox_command.specs.Files.{HasExecuted, IsAnswered, IsPerform
 ghost use Rattle.sandbox_command.specs.Status.{file_status};
 
 use crate::clashing::clashes;
+use crate::formatting::{lengthened, version_for};
 use crate::host_places::HostPlaces;
 use crate::inspecting::inspect;
 use crate::opening::MODULE_READ;
@@ -111,15 +112,17 @@ pub fn perform_in<P: Places, R: Read + Drop, W1: Write + Drop, W2: Write + Drop>
             sectors,
             slots,
             large,
+            huge,
             new,
         } => {
+            let version = version_for(*large, *huge);
             let work = VolumeWork::Format {
                 sectors: *sectors,
                 slots: *slots,
-                large: *large,
+                version,
                 new: *new,
             };
-            let device = places.lengthen(file, *sectors, *new);
+            let device = lengthened(places, file, version, *sectors, *new);
             execute_on(alloc, places, file, work, device, given)
         }
         Invocation::Volume { file, task } => {

@@ -8,6 +8,7 @@ mod closing;
 mod ending;
 mod explaining;
 mod files;
+mod formatting;
 mod host_places;
 mod host_volume;
 mod inspecting;
@@ -41,5 +42,6 @@ pub use sandbox_words::{Change, Invocation, Limits, ListForm, Run, Task, Termina
 pub use stopping::Stopped;
 pub use streams::{Sink, Source, Spare, Streams};
 pub use testing::run_list;
+pub use vol_inode::Version;
 pub use volume_tasks::FRESH_SECTORS;
 pub use work::VolumeWork;

@@ -502,10 +502,10 @@ pub fn execute<D: Device + Drop, R: Read + Drop, W1: Write + Drop, W2: Write + D
         VolumeWork::Format {
             sectors,
             slots,
-            large,
+            version,
             new,
         } => {
-            let (done, device) = format_where(alloc, device, sectors, slots, large, new);
+            let (done, device) = format_where(device, version, sectors, slots, new);
             ended(done, device, given, &about)
         }
         VolumeWork::Task(task) => {

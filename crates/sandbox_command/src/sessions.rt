@@ -193,7 +193,8 @@ where
 {
     let mut room = room_for(alloc, run);
     let (told, stacks) = run_within(alloc, run, session, stacks, room.as_mut_slice());
-    let stopped = stopped_with(told.depth, room, fuel_use_of(stacks, imported));
+    let fuel_use = fuel_use_of(stacks, imported);
+    let stopped = stopped_with(told.depth, room, told.tally.answers, fuel_use);
     (told.kept, reported(run, told.report, told.tally, stopped))
 }
 

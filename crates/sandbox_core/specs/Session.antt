@@ -133,6 +133,11 @@ abbrev pub is_called : Pause → Bool
 is_called (Called c e) = true
 is_called other = false
 
+-- a call that was answered with this errno
+abbrev pub is_answered : ℕ → Pause → Bool
+is_answered k (Called c e) = e.0 == k
+is_answered k other = false
+
 -- a sync that was answered with success
 abbrev pub is_synced : Pause → Bool
 is_synced (Called c e) = is_sync c && (e.0 == 0)

@@ -130,7 +130,11 @@ move_app = app_with (codes "mv") (word_rule (codes "FILE") ∷ word_rule (codes 
 
 abbrev pub format_app : App
 format_app = app_with (codes "format") (word_rule (codes "FILE") ∷ number_word_rule (codes "SECTORS") ∷ number_word_rule (codes "SLOTS")
-    ∷ flag_rule (codes "large") ∷ flag_rule (codes "new") ∷ [])
+    ∷ flag_rule (codes "large") ∷ flag_rule (codes "huge") ∷ flag_rule (codes "new") ∷ [])
+
+-- `upgrade`, to version 4 with `--huge`
+abbrev pub upgrade_app : App
+upgrade_app = app_with (codes "upgrade") (word_rule (codes "FILE") ∷ flag_rule (codes "huge") ∷ [])
 
 -- `faults`, which has no word, and without one prints its help
 abbrev pub faults_app : App
@@ -140,7 +144,7 @@ faults_app = on_top (λ s. record s { arg_required_else_help = true }) (new_app 
 unfoldable pub table_apps : List App
 table_apps = run_app ∷ inspect_app ∷ format_app ∷ list_app ∷ path_app (codes "get") ∷ put_app
     ∷ path_app (codes "import") ∷ path_app (codes "export") ∷ path_app (codes "mkdir") ∷ move_app ∷ remove_app ∷ path_app (codes "stat")
-    ∷ file_app (codes "check") ∷ file_app (codes "upgrade") ∷ []
+    ∷ file_app (codes "check") ∷ upgrade_app ∷ []
 
 -- the program: one of its subcommands has to be there, and it tells its version
 unfoldable pub program : App
@@ -226,7 +230,7 @@ AsksTask name rows (Get path) = (name ≡ codes "get") × (path.now ≡ word_of 
 AsksTask name rows (Put path) = (name ≡ codes "put") × (path.now ≡ word_of (codes "PATH") rows) × (IsFlagged (codes "whole") rows → ⊥)
 AsksTask name rows (PutWhole path) = (name ≡ codes "put") × (path.now ≡ word_of (codes "PATH") rows) × IsFlagged (codes "whole") rows
 AsksTask name rows Check = name ≡ codes "check"
-AsksTask name rows Upgrade = name ≡ codes "upgrade"
+AsksTask name rows (Upgrade huge) = (name ≡ codes "upgrade") × (IsTrue huge ↔ IsFlagged (codes "huge") rows)
 AsksTask name rows (Stat path) = (name ≡ codes "stat") × (path.now ≡ word_of (codes "PATH") rows)
 AsksTask name rows (Changing change) = AsksChange name rows change
 
@@ -245,9 +249,9 @@ other_names = codes "format" ∷ codes "import" ∷ codes "export" ∷ codes "in
 -- What the command of this name is asked for by what was found for its arguments. It is `run` where it is no other.
 abbrev pub AsksFor : Text → List Row → Invocation → Type 0
 AsksFor name rows (asked.Run run) = (Contains other_names name → ⊥) × AsksRun rows run
-AsksFor name rows (asked.Format file sectors slots large new) = (name ≡ codes "format") × (file.now ≡ word_of (codes "FILE") rows)
+AsksFor name rows (asked.Format file sectors slots large huge new) = (name ≡ codes "format") × (file.now ≡ word_of (codes "FILE") rows)
     × (sectors ≡ number_or 0 32 (codes "SECTORS") rows) × (slots ≡ number_or 0 32 (codes "SLOTS") rows)
-    × (IsTrue large ↔ IsFlagged (codes "large") rows) × (IsTrue new ↔ IsFlagged (codes "new") rows)
+    × (IsTrue large ↔ IsFlagged (codes "large") rows) × (IsTrue huge ↔ IsFlagged (codes "huge") rows) × (IsTrue new ↔ IsFlagged (codes "new") rows)
 AsksFor name rows (asked.Volume file task) = (file.now ≡ word_of (codes "FILE") rows) × AsksTask name rows task
 AsksFor name rows (asked.Import file path) = (name ≡ codes "import") × (file.now ≡ word_of (codes "FILE") rows) × (path.now ≡ word_of (codes "PATH") rows)
 AsksFor name rows (asked.Export file path) = (name ≡ codes "export") × (file.now ≡ word_of (codes "FILE") rows) × (path.now ≡ word_of (codes "PATH") rows)

@@ -115,8 +115,8 @@ pub enum Task<'a> {
     PutWhole { path: &'a str },
     /// Print how much of the volume is used.
     Check,
-    /// Make it a volume of version 2.
-    Upgrade,
+    /// Make it a volume of version 2, or of version 4 where it is to be huge.
+    Upgrade { huge: bool },
     /// Print what the entry of this path is.
     Stat { path: &'a str },
     /// Change its tree, and make that last.
@@ -129,12 +129,14 @@ pub enum Invocation<'a> {
     /// Run a module.
     Run(Run<'a>),
     /// Make a file an empty volume with these numbers of sectors and of slots for entries, of
-    /// version 2 where it is to be large, else of version 1; where it is to be new, only if it has no volume.
+    /// version 2 where it is to be large, of version 4 where it is to be huge, else of version 1; where it is to be new,
+    /// only if it has no volume.
     Format {
         file: &'a str,
         sectors: u32,
         slots: u32,
         large: bool,
+        huge: bool,
         new: bool,
     },
     /// Do this with the volume in a file.

@@ -305,13 +305,14 @@ fn task_given<'a>(name: &str, matches: &ArgMatches<'a>) -> Option<Task<'a>>
         (AsksTask name.now (rows_of (found_of matches.now))) }
 {
     let path = text(matches, "PATH");
+    let huge = is_flagged(matches, "huge");
     match name {
         "ls" => Some(listing_given(matches)),
         "get" => Some(Task::Get { path }),
         "put" if is_flagged(matches, "whole") => Some(Task::PutWhole { path }),
         "put" => Some(Task::Put { path }),
         "check" => Some(Task::Check),
-        "upgrade" => Some(Task::Upgrade),
+        "upgrade" => Some(Task::Upgrade { huge }),
         "stat" => Some(Task::Stat { path }),
         _ => match change_given(name, matches) {
             Some(change) => Some(Task::Change(change)),
@@ -334,6 +335,7 @@ fn other_given<'a>(name: &str, matches: &ArgMatches<'a>) -> Option<Invocation<'a
             sectors: number(matches, "SECTORS").unwrap_or(0),
             slots: number(matches, "SLOTS").unwrap_or(0),
             large: is_flagged(matches, "large"),
+            huge: is_flagged(matches, "huge"),
             new: is_flagged(matches, "new"),
         }),
         "import" => Some(Invocation::Import { file, path }),

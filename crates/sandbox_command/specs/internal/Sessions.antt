@@ -33,6 +33,7 @@ module _ {D R W1 W2 : Type 0} (is_honest : D → Type 0) (disk : D → Disk) (se
     pub stopped : Stopped
     pub is_stopped : left.stopped ≡ Some stopped
     pub frames : TellsFrames (frames_of reported.told.counted.reports.last.machine) stopped.innermost.items stopped.depth
+    pub answers : stopped.answers ≡ tally.answers
     pub fuel_use : IsUseWith stacks imported stopped.fuel_use
     pub ends : EndsWith report.outcome report.volume left.flushed left.status
     pub summary : left.summary ≡ Some (run_summary run report tally left.status left.flushed)

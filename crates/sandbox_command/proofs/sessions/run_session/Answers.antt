@@ -26,7 +26,8 @@ returns-clause-ran g c =
       is_stopped = ended.stopped;
       frames = first_frames (frames_of told.ensures.told.told.counted.reports.last.machine) told.new.room told.result.0.depth stopped.result told.ensures.told.told.frames
           stopped.ensures.depth taken;
-      fuel_use = subst (λ (u : Option FuelUse). IsUseWith told.result.1 c.args.imported u) (sym stopped.ensures.fuel_use) c.fuel_use_of.ensures;
+      answers = stopped.ensures.answers;
+      fuel_use = subst (λ (u : Option FuelUse). IsUseWith told.result.1 c.args.imported u) (sym stopped.ensures.fuel_use) c.fuel_use_of-fuel_use.ensures;
       ends = ended.ends;
       summary = ended.summary;
       device = ended.device;
@@ -40,4 +41,4 @@ pub returns-clause-fuel_use : goal.returns-clause-fuel_use
 returns-clause-fuel_use g c =
     tells_use c.args.stacks _ c.stopped_with-stopped.result c.reported.ensures.stopped
     (λ some. subst IsThere (sym c.stopped_with-stopped.ensures.fuel_use)
-    (told_use c.args.stacks c.run_within-told.result.1 _ c.fuel_use_of.result c.run_within-told.ensures.stacks c.fuel_use_of.ensures some))
+    (told_use c.args.stacks c.run_within-told.result.1 _ c.fuel_use_of-fuel_use.result c.run_within-told.ensures.stacks c.fuel_use_of-fuel_use.ensures some))

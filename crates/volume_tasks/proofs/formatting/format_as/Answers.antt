@@ -1,5 +1,5 @@
 use Rattle.std.proofs.Common.{rules}
-use Rattle.volume_tasks.proofs.tasks.format.Goals as goal
+use Rattle.volume_tasks.proofs.formatting.format_as.Goals as goal
 
 pub returns-in-Err-clause-formats : goal.returns-in-Err-clause-formats
 returns-in-Err-clause-formats g c = search rules
