@@ -9,6 +9,7 @@ mod Bounds
 mod Finishing
 mod Frames
 mod Formatted
+mod Answered
 mod AfterFlush
 mod Seeding
 mod Charged

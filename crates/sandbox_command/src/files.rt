@@ -19,15 +19,24 @@ use crate::runs::{end_refused, run_alone};
 use crate::streams::Streams;
 use crate::testing::run_list;
 use crate::work::VolumeWork;
-use sandbox_words::{Invocation, invocation};
+use sandbox_words::{Invocation, Terminals, invocation};
 use std::alloc::Global;
-use std::io::{Read, Write};
+use std::io::{IsTerminal, Read, Write};
 use std::process::ExitCode;
 use std::{env, io};
 
 /// The words that the program was called with. One that isn't UTF-8 is refused.
 fn words_given(rt: &HostRuntime) -> io::Result<Vec<String>> {
     Ok(env::args(rt)?.collect(rt.alloc())?)
+}
+
+/// Which of the program's streams are terminals.
+fn terminals(rt: &HostRuntime) -> Terminals {
+    Terminals {
+        input: rt.stdin().is_terminal(),
+        output: rt.stdout().is_terminal(),
+        error: rt.stderr().is_terminal(),
+    }
 }
 
 /// Does what the words of the command line ask for, with these streams, and gives the exit status.
@@ -47,7 +56,10 @@ pub fn exit_code<R: Read + Drop, W1: Write + Drop, W2: Write + Drop>(
         Err(error) => return ExitCode::from(program::refuse_words(&mut err, &error)),
     };
     match invocation(rt.alloc(), words.as_slice()) {
-        Ok(invocation) => ExitCode::from(perform(rt, &invocation, input, out, err)),
+        Ok(mut invocation) => {
+            invocation.note_terminals(terminals(rt));
+            ExitCode::from(perform(rt, &invocation, input, out, err))
+        }
         Err(refused) => ExitCode::from(program::refuse_command_line(&mut err, &refused)),
     }
 }

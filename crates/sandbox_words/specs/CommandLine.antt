@@ -91,7 +91,7 @@ run_rules = text_rule (codes "volume") ∷ text_rule (codes "image") ∷ text_ru
     ∷ number_rule (codes "output") u64_numbers
     ∷ texts_rule (codes "dir") ∷ texts_rule (codes "env") ∷ number_rule (codes "moment") u64_numbers
     ∷ text_rule (codes "random") ∷ number_rule (codes "seed") u64_numbers
-    ∷ text_rule (codes "stdin") ∷ text_rule (codes "stdout") ∷ text_rule (codes "stderr")
+    ∷ text_rule (codes "stdin") ∷ text_rule (codes "stdout") ∷ text_rule (codes "stderr") ∷ flag_rule (codes "interactive")
     ∷ text_rule (codes "name") ∷ text_rule (codes "report") ∷ number_rule (codes "frames") u32_numbers
     ∷ text_rule (codes "profile") ∷ number_rule (codes "profile-every") u64_numbers ∷ text_rule (codes "tests")
     ∷ word_rule (codes "MODULE") ∷ words_rule (codes "WORD") ∷ []
@@ -203,6 +203,7 @@ pub record AsksRun (rows : List Row) (run : Run) : Type 0 where
   pub stdin : text_in run.stdin ≡ first_of (codes "stdin") rows
   pub stdout : text_in run.stdout ≡ first_of (codes "stdout") rows
   pub stderr : text_in run.stderr ≡ first_of (codes "stderr") rows
+  pub interactive : IsTrue run.interactive ↔ IsFlagged (codes "interactive") rows
   pub name : text_in run.name ≡ first_of (codes "name") rows
   pub report : text_in run.report ≡ first_of (codes "report") rows
   pub frames : run.frames ≡ number_or 16 32 (codes "frames") rows

@@ -132,7 +132,7 @@ static PUT: [Argument; 3] = [
 ];
 
 /// The arguments of `run`.
-static RUN: [Argument; 23] = [
+static RUN: [Argument; 24] = [
     Argument {
         name: "volume",
         takes: Takes::Text("FILE"),
@@ -207,6 +207,11 @@ static RUN: [Argument; 23] = [
         name: "stderr",
         takes: Takes::Text("FILE"),
         help: "The file to be made with its standard error [default: that of the program]",
+    },
+    Argument {
+        name: "interactive",
+        takes: Takes::Flag,
+        help: "A read of its standard input gives what is there; it is told which streams are terminals",
     },
     Argument {
         name: "name",

@@ -15,7 +15,7 @@ ghost use Rattle.sandbox_words.specs.internal.Table.{AddsArguments, AddsSubcomma
 ghost use Rattle.sandbox_words.specs.internal.Given.{AsksRunOf};
 
 use crate::faults::MEANINGS;
-use crate::request::{Change, Invocation, Limits, ListForm, Run, Task};
+use crate::request::{Change, Invocation, Limits, ListForm, NO_TERMINALS, Run, Task};
 use crate::table::{Argument, Subcommand, Takes, commands, rows};
 use clap::{Arg, ArgAction, ArgMatches, Command, Error};
 use meanings::VERSION;
@@ -243,6 +243,8 @@ fn run_with<'a>(
         stdin: option_text(matches, "stdin"),
         stdout: option_text(matches, "stdout"),
         stderr: option_text(matches, "stderr"),
+        interactive: is_flagged(matches, "interactive"),
+        terminals: NO_TERMINALS,
         name: option_text(matches, "name"),
         report: option_text(matches, "report"),
         frames: number(matches, "frames").unwrap_or(FRAMES),
