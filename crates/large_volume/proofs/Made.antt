@@ -1,13 +1,14 @@
 -- A device that is formatted, opened and upgraded.
-use Rattle.std.proofs.Common.{◌≡◌, ◌⊎◌, ⊎_elim, ◌≤◌, ◌<◌, ◌↔◌, ℕ, Bool, true, false, nat_lt, ltb-true, Result, Ok, Err, IfErr, OnOk, inl, inr, refl, sym, ◌∙◌, ap, subst}
+use Rattle.std.proofs.Common.{◌≡◌, ◌⊎◌, ⊎_elim, ◌≤◌, ◌<◌, ◌↔◌, ℕ, Bool, true, false, nat_lt, ltb-true, Result, Ok, Err, IfErr, OnOk, inl, inr, refl, sym, ◌∙◌, ap, subst, arith}
 use Rattle.std.proofs.lemmas.Bool.{ltb-false}
 use Rattle.vol_sector.specs.Disk.{Image, Disk, Leaves, counted}
 use Rattle.vol_sector.specs.Fault.{is_device}
 use Rattle.vol_sector.specs.declared.fault.Refused.{Refused}
 use Rattle.vol_sector.specs.declared.fault.VolumeFault.TheVariants as fault
 use Rattle.vol_log.proofs.Moments.{leaves_then, leaves_same}
+use Rattle.vol_inode.specs.declared.version.Version.TheVariants.{Two}
 use Rattle.vol_tree.specs.declared.superblock.Superblock.{Superblock}
-use Rattle.vol_tree.specs.Superblock.{HasRanges}
+use Rattle.vol_tree.specs.Superblock.{HasRanges, IsOlder}
 use Rattle.vol_tree.specs.Tree.{Tree}
 use Rattle.vol_tree.specs.Stands.{StandsAs, empty_tree}
 use Rattle.vol_tree.specs.Fresh.{fresh, IsNoneOrEmpty}
@@ -108,10 +109,10 @@ module _ {D : Type 0} (is_honest : D → Type 0) (disk : D → Disk) (sectors_on
     opened_and_raised w made finds durable crash then raises = record {
       geometry = λ without. absurd (never_geometry without);
       too_small = λ ranges less. absurd (never_small ranges less);
-      otherwise = λ ranges room h. only_device made (raises.refused (ap (λ (v : Superblock). v.version) (is h).0));
+      otherwise = λ ranges room h. only_device made (raises.refused (subst (λ (v : Superblock). IsOlder v.version Two) (sym (is h).0) (omega arith)));
       large = λ h. large_of made h (raises.large (at_work h));
-      crash = λ h. goes_on (device_in made) (λ c. StandsAs c (fresh sectors slots) (empty_tree slots) ⊎ StandsAs c (raised (fresh sectors slots)) (empty_tree slots)) h
-          (leaves_then (disk d) (disk w.device) (disk (device_in made)) (λ c. StandsAs c (fresh sectors slots) (empty_tree slots)) (MayUpgrade (disk w.device) w.numbers w.tree) _
+      crash = λ h. goes_on (device_in made) (λ c. StandsAs c (fresh sectors slots) (empty_tree slots) ⊎ StandsAs c (raised Two (fresh sectors slots)) (empty_tree slots)) h
+          (leaves_then (disk d) (disk w.device) (disk (device_in made)) (λ c. StandsAs c (fresh sectors slots) (empty_tree slots)) (MayUpgrade (disk w.device) w.numbers Two w.tree) _
           (crash (fresh sectors slots) (empty_tree slots) (kept.0.0 h) (here h)) (raises.crash (at_work h)) (λ m stands. inl stands) (raising h))
           (λ m p. ⊎_elim (λ small. inl (inr small)) (λ large. inr large) p);
       honest = (λ h. raises.honest.0 (at_work h), λ h. kept.0.1 (then.0.1 (raises.honest.1 h)));
@@ -125,18 +126,18 @@ module _ {D : Type 0} (is_honest : D → Type 0) (disk : D → Disk) (sectors_on
         is : is_honest device → (w.numbers ≡ fresh sectors slots) × (w.tree ≡ empty_tree slots)
         is h = finds (fresh sectors slots) (empty_tree slots) (kept.0.0 h) (here h)
 
-        large_of : (r : Answer) → is_honest device → OnOk r ((c : Image) → (disk (device_in r)).may_leave c → StandsAs c (raised w.numbers) w.tree)
-            → OnOk r ((c : Image) → (disk (device_in r)).may_leave c → StandsAs c (raised (fresh sectors slots)) (empty_tree slots))
-        large_of (Ok x) h lasts = λ c may. subst (λ (v : Superblock). StandsAs c (raised v) (empty_tree slots)) (is h).0 (subst (λ (T : Tree). StandsAs c (raised w.numbers) T) (is h).1 (lasts c may))
+        large_of : (r : Answer) → is_honest device → OnOk r ((c : Image) → (disk (device_in r)).may_leave c → StandsAs c (raised Two w.numbers) w.tree)
+            → OnOk r ((c : Image) → (disk (device_in r)).may_leave c → StandsAs c (raised Two (fresh sectors slots)) (empty_tree slots))
+        large_of (Ok x) h lasts = λ c may. subst (λ (v : Superblock). StandsAs c (raised Two v) (empty_tree slots)) (is h).0 (subst (λ (T : Tree). StandsAs c (raised Two w.numbers) T) (is h).1 (lasts c may))
         large_of (Err e) h lasts = tt
 
         small_at : (m : Image) → is_honest device → StandsAs m w.numbers w.tree → StandsAs m (fresh sectors slots) (empty_tree slots)
         small_at m h stands = subst (λ (v : Superblock). StandsAs m v (empty_tree slots)) (is h).0 (subst (λ (T : Tree). StandsAs m w.numbers T) (is h).1 stands)
 
-        raising : is_honest device → (m : Image) → MayUpgrade (disk w.device) w.numbers w.tree m → StandsAs m (fresh sectors slots) (empty_tree slots) ⊎ StandsAs m (raised (fresh sectors slots)) (empty_tree slots)
+        raising : is_honest device → (m : Image) → MayUpgrade (disk w.device) w.numbers Two w.tree m → StandsAs m (fresh sectors slots) (empty_tree slots) ⊎ StandsAs m (raised Two (fresh sectors slots)) (empty_tree slots)
         raising h m (inl (inl r)) =
             let stood : StandsAs r.earlier w.numbers w.tree = durable (kept.0.0 h) r.earlier r.could in
             let same : r.tree ≡ w.tree = one_tree r.earlier w.numbers r.tree w.tree r.stood stood in
             inl (small_at m h (subst (λ (T : Tree). StandsAs m w.numbers T) same r.stands))
         raising h m (inl (inr stands)) = inl (small_at m h stands)
-        raising h m (inr stands) = inr (subst (λ (v : Superblock). StandsAs m (raised v) (empty_tree slots)) (is h).0 (subst (λ (T : Tree). StandsAs m (raised w.numbers) T) (is h).1 stands))
+        raising h m (inr stands) = inr (subst (λ (v : Superblock). StandsAs m (raised Two v) (empty_tree slots)) (is h).0 (subst (λ (T : Tree). StandsAs m (raised Two w.numbers) T) (is h).1 stands))

@@ -6,6 +6,7 @@ use Rattle.vol_sector.specs.Disk.{Image, Disk, Leaves, counted}
 use Rattle.vol_sector.specs.Fault.{is_device}
 use Rattle.vol_sector.specs.declared.fault.Refused.{Refused}
 use Rattle.vol_sector.specs.declared.fault.VolumeFault.TheVariants as fault
+use Rattle.vol_inode.specs.declared.version.Version.TheVariants.{Two}
 use Rattle.vol_tree.specs.declared.superblock.Superblock.{Superblock}
 use Rattle.vol_tree.specs.Superblock.{HasRanges}
 use Rattle.vol_tree.specs.Fresh.{fresh, IsNoneOrEmpty}
@@ -14,7 +15,7 @@ use Rattle.vol_tree.specs.Stands.{StandsAs, empty_tree}
 
 -- the image is no volume yet, or the empty one of version 1, or that of version 2
 abbrev pub IsNoneOrEmptyOrLarge : Superblock → Image → Type 0
-IsNoneOrEmptyOrLarge v image = IsNoneOrEmpty v image ⊎ StandsAs image (raised v) (empty_tree v.slots)
+IsNoneOrEmptyOrLarge v image = IsNoneOrEmpty v image ⊎ StandsAs image (raised Two v) (empty_tree v.slots)
 
 module _ {D : Type 0} where
   -- the device that is handed back
@@ -35,7 +36,7 @@ pub record MakesLarge {D : Type 0} (is_honest : D → Type 0) (disk : D → Disk
   pub geometry : (HasRanges (fresh sectors slots) → ⊥) → made ≡ Err (record { device = device; fault = fault.Geometry })
   pub too_small : HasRanges (fresh sectors slots) → sectors_on device < sectors → made ≡ Err (record { device = device; fault = fault.TooSmall })
   pub otherwise : HasRanges (fresh sectors slots) → sectors ≤ sectors_on device → is_honest device → IfErr made (λ r. (r.fault ≡ fault.Device) ⊎ (r.fault ≡ fault.Memory))
-  pub large : is_honest device → OnOk made ((c : Image) → (disk (device_in made)).may_leave c → StandsAs c (raised (fresh sectors slots)) (empty_tree slots))
+  pub large : is_honest device → OnOk made ((c : Image) → (disk (device_in made)).may_leave c → StandsAs c (raised Two (fresh sectors slots)) (empty_tree slots))
   pub crash : is_honest device → Leaves (disk device) (disk (device_in made)) (IsNoneOrEmptyOrLarge (fresh sectors slots))
   pub honest : is_honest device ↔ is_honest (device_in made)
   pub size : sectors_on (device_in made) ≡ sectors_on device

@@ -6,6 +6,7 @@ ghost use Rattle.large_volume.specs.Large.{MakesLarge, device_in};
 ghost use Rattle.large_volume.specs.internal.Raising.{Raises};
 
 use std::alloc::Global;
+use vol_inode::Version;
 use vol_sector::{Device, Refused};
 use vol_tree::Volume;
 
@@ -16,7 +17,7 @@ fn raise<D: Device>(mut volume: Volume<D>) -> Result<D, Refused<D>>
     ensures goes_on { (end : ℕ) → volume.numbers.sectors ≤ end
         → StillGoesOn (D.goes_on end) volume.device (device_in result) }
 {
-    match volume.upgrade() {
+    match volume.upgrade(Version::Two) {
         Ok(()) => Ok(volume.into_device()),
         Err(fault) => Err(Refused {
             device: volume.into_device(),

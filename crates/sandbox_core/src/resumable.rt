@@ -5,7 +5,7 @@ ghost use Rattle.wasm_module.specs.declared.module.Module.{Module as ModuleValue
 ghost use Rattle.wasm_interp.specs.Frames.{frames_of};
 ghost use Rattle.wasi_calls.specs.host.Worlds.{stream_failed};
 ghost use Rattle.sandbox_core.specs.Devices.{devices};
-ghost use Rattle.sandbox_core.specs.Session.{SessionState, Resumes, Finishes, used_by};
+ghost use Rattle.sandbox_core.specs.Session.{SessionState, Resumes, Finishes, limited_to, seeded_by, used_by};
 
 use crate::session::{Finished, Session};
 use crate::shared::SharedSession;
@@ -31,6 +31,14 @@ pub trait Resumable<D: Device, R: Read, W1: Write, W2: Write> {
         requires { used_by (state self.old) + units < 2 ^ 64 }
         ensures { Resumes (devices D.Device R.Read W1.Write W2.Write)
             (state self.old) (state self.new) units result };
+
+    /// Sets how many values the guest's stack has at most.
+    fn limit_values(&mut self, most: usize)
+        ensures { state self.new ≡ limited_to most (state self.old) };
+
+    /// From now on the guest gets random bytes of this seed.
+    fn seed(&mut self, seed: u64)
+        ensures { state self.new ≡ seeded_by seed (state self.old) };
 
     /// The units of fuel used so far.
     fn used(&self) -> u64
@@ -71,6 +79,14 @@ where
         self.resume(units)
     }
 
+    fn limit_values(&mut self, most: usize) {
+        self.limit_values(most)
+    }
+
+    fn seed(&mut self, seed: u64) {
+        self.seed(seed)
+    }
+
     fn used(&self) -> u64 {
         self.used()
     }
@@ -107,6 +123,14 @@ where
 
     fn resume(&mut self, units: u64) -> Pause {
         self.resume(units)
+    }
+
+    fn limit_values(&mut self, most: usize) {
+        self.limit_values(most)
+    }
+
+    fn seed(&mut self, seed: u64) {
+        self.seed(seed)
     }
 
     fn used(&self) -> u64 {

@@ -90,6 +90,13 @@ impl<'a> SharedModule<'a> {
         Ok(SharedModule { module })
     }
 
+    /// The module that was prepared.
+    pub fn module(&self) -> &Valid<'a>
+        ensures { result.now ≡ self.now.valid }
+    {
+        self.module.module()
+    }
+
     /// How many pages the memory of a guest has at most: the settings of its sessions have the same number.
     pub fn pages(&self) -> u32
         ensures { result ≡ self.now.pages }

@@ -6,6 +6,8 @@ use Rattle.vol_sector.specs.declared.fault.Refused.{Refused}
 use Rattle.vol_sector.specs.declared.fault.VolumeFault.{VolumeFault}
 use Rattle.vol_sector.specs.declared.fault.VolumeFault.TheVariants as fault
 use Rattle.vol_tree.specs.declared.superblock.Superblock.{Superblock}
+use Rattle.vol_inode.specs.declared.version.Version.{Version}
+use Rattle.vol_inode.specs.declared.version.Version.TheVariants.{One, Two, Four}
 use Rattle.vol_tree.specs.Superblock.{version_number, IsNoVersion}
 use Rattle.vol_tree.specs.Tree.{Tree}
 use Rattle.vol_tree.specs.Stands.{StandsAs}
@@ -33,15 +35,17 @@ OneTree = (image : Image) (v w : Superblock) (T U : Tree) → StandsAs image v T
 
 -- ---- sectors that stand for a tree are refused only for memory
 
-known_version : (v : Superblock) → IsNoVersion (version_number v.version) → ⊥
-known_version v unknown = absurd (grind arith)
+known_version : (version : Version) → IsNoVersion (version_number version) → ⊥
+known_version One unknown = unknown.0 refl
+known_version Two unknown = unknown.1 refl
+known_version Four unknown = unknown.2 refl
 
 only_memory : (sectors : List (List ℕ)) (numbers : Superblock) (tree : Tree) → StandsOn (length sectors) (image_of sectors) numbers tree → length sectors ≤ 65536
     → (f : VolumeFault) → RefusesSectors sectors f → f ≡ fault.Memory
 only_memory sectors numbers tree on few fault.NotAVolume none =
     absurd (⊎_elim (λ short. omega (arith, short, on.room, on.stands.ranges.least)) (λ other. other (ap (take 8) on.stands.front)) none)
 only_memory sectors numbers tree on few fault.Version wrong =
-    absurd (known_version numbers (subst IsNoVersion (version_is (image_of sectors 0) numbers on.stands.front) wrong.version))
+    absurd (known_version numbers.version (subst IsNoVersion (version_is (image_of sectors 0) numbers on.stands.front) wrong.version))
 only_memory sectors numbers tree on few (fault.Damaged damage) wrong = absurd (wrong.none numbers tree on)
 only_memory sectors numbers tree on few fault.Device wrong = absurd wrong
 only_memory sectors numbers tree on few fault.TooSmall wrong = absurd wrong

@@ -7,7 +7,7 @@ use Rattle.vol_sector.specs.declared.device.DeviceFault.{DeviceFault}
 use Rattle.vol_inode.specs.declared.entry.Entry.{Entry}
 use Rattle.vol_inode.specs.declared.entry.Kind.TheVariants.{Directory, File}
 use Rattle.vol_inode.specs.declared.version.Version.{Version}
-use Rattle.vol_inode.specs.declared.version.Version.TheVariants.{One, Two}
+use Rattle.vol_inode.specs.declared.version.Version.TheVariants.{One, Two, Four}
 use Rattle.vol_inode.specs.Entry.{IsEntry, HasWidths, first_block_of_pointer}
 use Rattle.vol_inode.specs.Space.{size_limit, blocks_for_size}
 use Rattle.vol_body.specs.Body.{data_block, indirect_block, double_indirect_block, triple_indirect_block, IsBody}
@@ -17,6 +17,7 @@ use Rattle.vol_inode.specs.declared.version.TheConstants.{LARGEST_SIZE}
 small_limit : (version : Version) → size_limit version ≤ LARGEST_SIZE
 small_limit One = omega arith
 small_limit Two = omega arith
+small_limit Four = omega arith
 
 first_direct : (k : ℕ) → k < 59 → first_block_of_pointer k ≡ k
 first_direct k lt = grind (arith, nat_tests)

@@ -2,8 +2,9 @@
 -- on the size alone and not on what was written, so a sparse file needs as much as a full one.
 use Rattle.std.specs.Prelude.{◌+◌, ◌-◌, ◌/◌, ℕ, nat_le, if◌then◌else◌}
 use Rattle.vol_inode.specs.declared.pointers.TheConstants.{DIRECT, LISTED, NUMBERS, SERVED, TWICE_LISTED}
+use Rattle.vol_inode.specs.declared.version.TheConstants.{LARGEST_SIZE}
 use Rattle.vol_inode.specs.declared.version.Version.{Version}
-use Rattle.vol_inode.specs.declared.version.Version.TheVariants.{One, Two}
+use Rattle.vol_inode.specs.declared.version.Version.TheVariants.{One, Two, Four}
 
 -- how many sectors hold this many bytes
 abbrev pub blocks_for_size : ℕ → ℕ
@@ -29,3 +30,4 @@ need_of size = let count = blocks_for_size size in
 abbrev pub size_limit : Version → ℕ
 size_limit One = 95232
 size_limit Two = 8483840
+size_limit Four = LARGEST_SIZE

@@ -18,8 +18,8 @@ pub fn keeps_rules(version: Version, entry: &Entry) -> bool
         && unused_pointers_are_zero(entry)
 }
 
-/// The first rule that an entry breaks; where it keeps those of its fields, a byte between them isn't zero. The last
-/// pointer counts as such bytes, since no file is long enough for it.
+/// The first rule that an entry breaks; where it keeps those of its fields, a byte between them isn't zero. In versions
+/// 1 and 2 the last pointer counts as such bytes, since no file is long enough for it.
 pub fn broken_by(version: Version, entry: &Entry) -> Rule {
     if !has_name(entry) && entry.parent == 0 {
         return Rule::Root;
@@ -30,9 +30,11 @@ pub fn broken_by(version: Version, entry: &Entry) -> Rule {
     if !has_size(version, entry) {
         return Rule::Size;
     }
-    let mut without_last = *entry;
-    without_last.pointers[TRIPLE_INDIRECT as usize] = 0;
-    if !unused_pointers_are_zero(&without_last) {
+    let mut known = *entry;
+    if version != Version::Four {
+        known.pointers[TRIPLE_INDIRECT as usize] = 0;
+    }
+    if !unused_pointers_are_zero(&known) {
         return Rule::PointerPastSize;
     }
     Rule::Zeros

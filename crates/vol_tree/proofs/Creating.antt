@@ -6,7 +6,7 @@ use Rattle.vol_sector.specs.Disk.{Image, put}
 use Rattle.vol_inode.specs.declared.entry.Entry.{Entry}
 use Rattle.vol_inode.specs.declared.entry.Kind.{Kind}
 use Rattle.vol_inode.specs.declared.version.Version.{Version}
-use Rattle.vol_inode.specs.declared.version.Version.TheVariants.{One, Two}
+use Rattle.vol_inode.specs.declared.version.Version.TheVariants.{One, Two, Four}
 use Rattle.vol_inode.specs.Entry.{IsEntry, name_of, first_block_of_pointer}
 use Rattle.vol_inode.specs.Name.{IsName}
 use Rattle.vol_inode.specs.Space.{size_limit, blocks_for_size}
@@ -39,6 +39,7 @@ missing_none T parent name (Some found) is none = absurd (false≢true (sym none
 limit : (version : Version) → 0 ≤ size_limit version
 limit One = omega arith
 limit Two = omega arith
+limit Four = omega arith
 
 zero_in : (n i d : ℕ) → i < n → get_or (replicate {A = ℕ} n 0) i d ≡ 0
 zero_in zero i d lt = absurd (omega arith)

@@ -10,7 +10,7 @@ use Rattle.vol_sector.specs.Disk.{Image}
 use Rattle.vol_log.proofs.Commit.{no_places, has_own}
 use Rattle.vol_inode.specs.declared.entry.Entry.{Entry}
 use Rattle.vol_inode.specs.declared.version.Version.{Version}
-use Rattle.vol_inode.specs.declared.version.Version.TheVariants.{One, Two}
+use Rattle.vol_inode.specs.declared.version.Version.TheVariants.{One, Two, Four}
 use Rattle.vol_inode.specs.Entry.{IsEntry}
 use Rattle.vol_inode.specs.Space.{size_limit}
 use Rattle.vol_inode.specs.Spelling.{spelling, unused}
@@ -56,6 +56,7 @@ no_need (suc n) = no_need n
 limit : (version : Version) → 0 ≤ size_limit version
 limit One = omega arith
 limit Two = omega arith
+limit Four = omega arith
 
 pub root_is_entry : (version : Version) → IsEntry version root_entry
 root_is_entry version = record {

@@ -44,10 +44,14 @@ use Rattle.vol_dirs.specs.Slots.{slot_sector}
 pub in_ranges : (v : Superblock) → ((HasRanges v → ⊥) → ⊥) → HasRanges v
 in_ranges v some = record {
   least = elim (cases_lt v.sectors 137) [ inl lt ↦ absurd (some (λ r. omega (arith, r.least))) | inr le ↦ le ];
-  most = elim (cases_lt 65536 v.sectors) [ inl lt ↦ absurd (some (λ r. omega (arith, r.most))) | inr le ↦ le ];
+  most = elim (cases_lt 16777216 v.sectors) [ inl lt ↦ absurd (some (λ r. omega (arith, r.most))) | inr le ↦ le ];
   some_slots = elim (cases_lt v.slots 1) [ inl lt ↦ absurd (some (λ r. omega (arith, r.some_slots))) | inr le ↦ le ];
-  few_slots = elim (cases_lt 8192 v.slots) [ inl lt ↦ absurd (some (λ r. omega (arith, r.few_slots))) | inr le ↦ le ];
+  few_slots = elim (cases_lt 1048576 v.slots) [ inl lt ↦ absurd (some (λ r. omega (arith, r.few_slots))) | inr le ↦ le ];
   room = elim (cases_lt (FIRST_AFTER_LOG + v.slots) v.sectors) [ inl lt ↦ lt | inr le ↦ absurd (some (λ r. omega (arith, r.room))) ];
+  older = λ older. (
+    elim (cases_lt 65536 v.sectors) [ inl lt ↦ absurd (some (λ r. omega (arith, (r.older older).0))) | inr le ↦ le ],
+    elim (cases_lt 8192 v.slots) [ inl lt ↦ absurd (some (λ r. omega (arith, (r.older older).1))) | inr le ↦ le ],
+  );
 }
 
 -- ---- the slots of the empty tree

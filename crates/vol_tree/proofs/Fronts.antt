@@ -2,7 +2,7 @@
 use Rattle.std.proofs.Common.{◌≡◌, ◌⊎◌, ◌≤◌, ◌<◌, ◌++◌, ℕ, List, take, drop, inl, inr, ⊎_elim, Result, Err, false, refl, ap, subst, arith}
 use Rattle.byteorder.specs.Endian.{little_number, little_bytes}
 use Rattle.vol_inode.specs.declared.version.Version.{Version}
-use Rattle.vol_inode.specs.declared.version.Version.TheVariants.{One, Two}
+use Rattle.vol_inode.specs.declared.version.Version.TheVariants.{One, Two, Four}
 use Rattle.vol_sector.specs.Disk.{Image}
 use Rattle.vol_sector.specs.Fault.{is_device, IsDamage}
 use Rattle.vol_sector.proofs.Damages.{damage_not_device, other_than}
@@ -31,6 +31,7 @@ damaged_not_front is = absurd (⊎_elim (λ none. cc) (λ version. cc) is)
 known_version : (version : Version) (rest : List ℕ) → IsNoVersion (little_number 4 (little_bytes 4 (version_number version) ++ rest)) → ⊥
 known_version One rest unknown = unknown.0 refl
 known_version Two rest unknown = unknown.1 refl
+known_version Four rest unknown = unknown.2 refl
 
 -- an image that begins with the numbers of a volume
 pub begins_right : (size : ℕ) (image : Image) (v : Superblock) → 137 ≤ size → image 0 ≡ superblock v → BeginsRight size image

@@ -12,7 +12,7 @@ use Rattle.vol_inode.specs.declared.entry.Entry.{Entry}
 use Rattle.vol_inode.specs.declared.entry.Kind.{Kind}
 use Rattle.vol_inode.specs.declared.entry.Kind.TheVariants as kinds
 use Rattle.vol_inode.specs.declared.version.Version.{Version}
-use Rattle.vol_inode.specs.declared.version.Version.TheVariants.{One, Two}
+use Rattle.vol_inode.specs.declared.version.Version.TheVariants.{One, Two, Four}
 use Rattle.vol_inode.specs.Entry.{HasWidths, IsEntry, name_of}
 use Rattle.vol_inode.specs.Space.{size_limit}
 use Rattle.vol_inode.specs.Spelling.{spelling, kind_byte}
@@ -35,10 +35,16 @@ same_version One One same = refl
 same_version One Two same = absurd (omega arith)
 same_version Two One same = absurd (omega arith)
 same_version Two Two same = refl
+same_version One Four same = absurd (omega arith)
+same_version Two Four same = absurd (omega arith)
+same_version Four One same = absurd (omega arith)
+same_version Four Two same = absurd (omega arith)
+same_version Four Four same = refl
 
 small_version : (v : Version) → version_number v < 256 ^ 4
 small_version One = omega arith
 small_version Two = omega arith
+small_version Four = omega arith
 
 pub version_is : (bytes : List ℕ) (v : Superblock) → bytes ≡ superblock v → little_number 4 (drop 8 bytes) ≡ version_number v.version
 version_is bytes v is = ap (λ (l : List ℕ). little_number 4 (drop 8 l)) is ∙ little_number-reads_back 4 (version_number v.version) (drop 12 (superblock v)) (small_version v.version)
@@ -123,6 +129,7 @@ map_same f g d (x ∷ xs) same =
 pub limit_small : (version : Version) → size_limit version ≤ LARGEST_SIZE
 limit_small One = omega arith
 limit_small Two = omega arith
+limit_small Four = omega arith
 
 pub same_tree_entry : (a b : Image) (version : Version) (e : Entry) → IsEntry version e → SameSectors a b e → entry_of b e ≡ entry_of a e
 same_tree_entry a b version e is same =

@@ -8,7 +8,7 @@ use Rattle.vol_sector.specs.Disk.{Image, Disk, Leaves, counted}
 use Rattle.vol_sector.specs.Past.{StillGoesOn}
 use Rattle.vol_inode.specs.declared.entry.Entry.{Entry}
 use Rattle.vol_inode.specs.declared.entry.Kind.TheVariants as kinds
-use Rattle.vol_inode.specs.declared.version.Version.TheVariants.{Two}
+use Rattle.vol_inode.specs.declared.version.Version.{Version}
 use Rattle.vol_tree.specs.declared.superblock.Superblock.{Superblock}
 use Rattle.vol_tree.specs.declared.errno.Errno.{Errno}
 use Rattle.vol_tree.specs.declared.errno.Errno.TheVariants as errno
@@ -73,13 +73,13 @@ pub record Reflects (disk : Disk) (v : Superblock) (image : Image) : Type 0 wher
 abbrev pub ReflectsOr : Disk → Superblock → Tree → Image → Type 0
 ReflectsOr disk v tree image = Reflects disk v image ⊎ StandsAs image v tree
 
--- the same numbers, with version 2
-abbrev pub raised : Superblock → Superblock
-raised v = record v { version = Two }
+-- the same numbers, with another version
+abbrev pub raised : Version → Superblock → Superblock
+raised to v = record v { version = to }
 
--- in an upgrade the image may also stand for this tree with version 2
-abbrev pub MayUpgrade : Disk → Superblock → Tree → Image → Type 0
-MayUpgrade disk v tree image = ReflectsOr disk v tree image ⊎ StandsAs image (raised v) tree
+-- in an upgrade the image may also stand for this tree with the other version
+abbrev pub MayUpgrade : Disk → Superblock → Version → Tree → Image → Type 0
+MayUpgrade disk v to tree image = ReflectsOr disk v tree image ⊎ StandsAs image (raised to v) tree
 
 abbrev pub is_io : {X : Type 0} → Result X Errno → Bool
 is_io (Ok x) = false

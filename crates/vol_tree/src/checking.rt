@@ -23,7 +23,7 @@ use vol_sector::{Damage, Device, Rule, VolumeFault};
 /// leads up to it.
 fn make_a_tree(alloc: Global, found: &Entries) -> Result<bool, AllocError>
     requires some { 0 < length found.now.parents.items }
-    requires few { length found.now.parents.items ≤ 8192 }
+    requires few { length found.now.parents.items ≤ 1048576 }
     ensures yes { IfOk result (λ tree. IsTrue tree → HaveTree found.now) }
     ensures no { IfOk result (λ tree. HaveTreeSoon found.now → IsTrue tree) }
 {

@@ -130,7 +130,7 @@ fn write_first<D: Device>(device: &mut D, image: &[u8; 512]) -> Result<(), Devic
 
 /// Writes an empty log and only the root, and syncs.
 fn write_after_front<D: Device>(device: &mut D, slots: u32) -> Result<(), DeviceFault>
-    requires few { slots ≤ 8192 }
+    requires few { slots ≤ 1048576 }
     requires room { FIRST_AFTER_LOG + slots ≤ D.size device.old }
     ensures durable { D.honest device.old
         → OnOk result (Only (D.disk device.new).seen (D.disk device.new).may_leave) }
@@ -152,7 +152,7 @@ fn write_after_front<D: Device>(device: &mut D, slots: u32) -> Result<(), Device
 
 /// Writes the slots: the root, and after it slots that aren't used.
 fn write_slots<D: Device>(device: &mut D, slots: u32) -> Result<(), DeviceFault>
-    requires few { slots ≤ 8192 }
+    requires few { slots ≤ 1048576 }
     requires room { FIRST_AFTER_LOG + slots ≤ D.size device.old }
     ensures written { D.honest device.old
         → OnOk result (HasFreshSlots slots (D.disk device.new).seen) }

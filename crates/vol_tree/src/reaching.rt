@@ -22,7 +22,7 @@ pub(crate) fn stand_in_directories(parents: &[u32], directories: &[bool]) -> boo
 /// number of slots: an entry that was passed once is marked, and the next way up ends there.
 pub(crate) fn lead_to_root(alloc: Global, parents: &[u32]) -> Result<bool, AllocError>
     requires some { 0 < length parents.now }
-    requires few { length parents.now ≤ 8192 }
+    requires few { length parents.now ≤ 1048576 }
     ensures yes { IfOk result (λ lead. IsTrue lead → AllLeadUp parents.now) }
     ensures no { IfOk result (λ lead. AllLeadUpSoon parents.now → IsTrue lead) }
 {

@@ -1,6 +1,6 @@
 //! The first sector of a volume.
 
-ghost use Rattle.std.specs.Prelude.{◌≡◌, ◌≢◌, ◌⊎◌, ◌↔◌, Ok, IfOk, IfErr, IsErrOf, IsTrue};
+ghost use Rattle.std.specs.Prelude.{◌≡◌, ◌≢◌, ◌≤◌, ◌⊎◌, ◌↔◌, Ok, IfOk, IfErr, IsErrOf, IsTrue};
 ghost use Rattle.std.specs.Prelude.{take, drop};
 ghost use Rattle.byteorder.specs.Endian.{little_number};
 ghost use Rattle.vol_sector.specs.Fault.{IsDamage};
@@ -21,9 +21,9 @@ const MAGIC: [u8; 8] = *b"WASMVOLU";
 #[derive(Clone, Copy)]
 pub(crate) struct Superblock {
     pub version: Version,
-    /// How many sectors the volume has, 137 to 65,536.
+    /// How many sectors the volume has, 137 to 65,536, and in version 4 to 16,777,216.
     pub sectors: u32,
-    /// How many slots for entries it has, 1 to 8,192.
+    /// How many slots for entries it has, 1 to 8,192, and in version 4 to 1,048,576.
     pub slots: u32,
 }
 
@@ -32,10 +32,18 @@ pub(crate) fn has_ranges(numbers: &Superblock) -> bool
     ensures { IsTrue result ↔ HasRanges numbers.now }
 {
     137 <= numbers.sectors
-        && numbers.sectors <= 65_536
+        && numbers.sectors <= 16_777_216
         && 1 <= numbers.slots
-        && numbers.slots <= 8_192
+        && numbers.slots <= 1_048_576
         && FIRST_AFTER_LOG + numbers.slots < numbers.sectors
+        && (numbers.version == Version::Four || is_of_older_size(numbers))
+}
+
+/// Whether a volume of version 1 or 2 may have so many sectors and slots.
+fn is_of_older_size(numbers: &Superblock) -> bool
+    ensures { IsTrue result ↔ (numbers.now.sectors ≤ 65536) × (numbers.now.slots ≤ 8192) }
+{
+    numbers.sectors <= 65_536 && numbers.slots <= 8_192
 }
 
 /// Reads the numbers of a volume from its first sector.
@@ -57,6 +65,7 @@ pub(crate) fn read_superblock(image: &[u8; 512]) -> Result<Superblock, VolumeFau
     let version = match LittleEndian::read_u32(&image[8..]) {
         1 => Version::One,
         2 => Version::Two,
+        4 => Version::Four,
         _ => return Err(VolumeFault::Version),
     };
     let numbers = Superblock {
@@ -87,11 +96,12 @@ pub(crate) fn write_superblock(numbers: &Superblock) -> [u8; 512]
 }
 
 /// The number of a version.
-fn version_number(version: Version) -> u32
+pub(crate) fn version_number(version: Version) -> u32
     ensures { result ≡ version_number version }
 {
     match version {
         Version::One => 1,
         Version::Two => 2,
+        Version::Four => 4,
     }
 }

@@ -11,7 +11,7 @@ ghost use Rattle.vol_tree.specs.Stats.{IsStats};
 ghost use Rattle.vol_tree.specs.Calls.{created, written, resized, read_bytes, is_file_at, with_unit};
 ghost use Rattle.vol_tree.specs.Calls.{unlinked, directory_removed, renamed, next_child};
 ghost use Rattle.vol_tree.specs.Stands.{StandsAs};
-ghost use Rattle.vol_tree.specs.Superblock.{HasRanges};
+ghost use Rattle.vol_tree.specs.Superblock.{HasRanges, IsOlder};
 ghost use Rattle.vol_tree.specs.Opening.{StandsOn, HoldsOn, NoVolumeOn, HasNoVersion, IsDamaged, IsPast};
 ghost use Rattle.vol_tree.specs.declared.superblock.Superblock.{Superblock};
 ghost use Rattle.vol_sector.specs.Fault.{is_device, IsDamage};
@@ -20,7 +20,6 @@ ghost use Rattle.vol_tree.specs.Opened.{Answers, Tells, TellsBytes, Keeps, Refle
 ghost use Rattle.vol_tree.specs.Opened.{LeavesAlone, IsSerial, GoesOn};
 ghost use Rattle.vol_tree.specs.Opened.{geometry, is_io, raised};
 ghost use Rattle.vol_inode.specs.Name.{IsName};
-ghost use Rattle.vol_inode.specs.declared.version.Version.TheVariants.{One, Two};
 
 use crate::checking::read_parts;
 use crate::opening::read_front;
@@ -498,35 +497,35 @@ impl<D: Device> Volume<D> {
         Ok(self.parts.commit()?)
     }
 
-    /// Commits, and makes a volume of version 1 one of version 2, in which files may be greater.
+    /// Commits, and makes the volume one of a newer version, in which files may be greater.
     ///
-    /// It is refused as `Upgraded` where the volume has version 2, before any device operation, and
-    /// else as `Device`; then it has failed.
-    pub fn upgrade(&mut self) -> Result<(), VolumeFault>
-        ensures newest { self.old.numbers.version ≡ Two
+    /// It is refused as `Upgraded` where the volume has this version or a newer one, before any device operation,
+    /// and else as `Device`; then it has failed.
+    pub fn upgrade(&mut self, to: Version) -> Result<(), VolumeFault>
+        ensures newest { (IsOlder self.old.numbers.version to → ⊥)
             → (self.new ≡ self.old) × (result ≡ Err VolumeFault.Upgraded) }
-        ensures refused { self.old.numbers.version ≡ One
+        ensures refused { IsOlder self.old.numbers.version to
             → IfErr result (λ fault. fault ≡ VolumeFault.Device) }
-        ensures numbers { OnOk result (self.new.numbers ≡ raised self.old.numbers) }
+        ensures numbers { OnOk result (self.new.numbers ≡ raised to self.old.numbers) }
         ensures unchanged { OnErr result (self.new.numbers ≡ self.old.numbers) }
         ensures tree { D.honest self.old.device → self.new.tree ≡ self.old.tree }
         ensures crash { D.honest self.old.device
             → Leaves (D.disk self.old.device) (D.disk self.new.device)
-            (MayUpgrade (D.disk self.old.device) self.old.numbers self.old.tree) }
-        // At Ok each crash leaves the tree in a volume of version 2.
+            (MayUpgrade (D.disk self.old.device) self.old.numbers to self.old.tree) }
+        // At Ok each crash leaves the tree in a volume of that version.
         ensures durable { D.honest self.old.device → OnOk result ((c : Image)
             → (D.disk self.new.device).may_leave c
             → StandsAs c self.new.numbers self.new.tree) }
-        ensures failed { self.old.numbers.version ≡ One → self.new.failed ≡ is_err result }
-        ensures failures { self.old.numbers.version ≡ One → self.old.failed ≡ false
+        ensures failed { IsOlder self.old.numbers.version to → self.new.failed ≡ is_err result }
+        ensures failures { IsOlder self.old.numbers.version to → self.old.failed ≡ false
             → D.failures self.new.device ≡ counted (is_err result) (D.failures self.old.device) }
-        ensures idle { self.old.numbers.version ≡ One → self.old.failed ≡ true
+        ensures idle { IsOlder self.old.numbers.version to → self.old.failed ≡ true
             → (self.new.device ≡ self.old.device) × (is_err result ≡ true) }
         ensures honest { D.honest self.old.device ↔ D.honest self.new.device }
         ensures size { D.size self.new.device ≡ D.size self.old.device }
         ensures goes_on { GoesOn D.goes_on self.old self.new }
     {
-        self.parts.upgrade()
+        self.parts.upgrade(to)
     }
 
     /// The device, as it is now: what isn't committed isn't there yet.

@@ -21,7 +21,7 @@ use Rattle.volume_tasks.proofs.Opened.{damage_is, refused_by}
 use Rattle.volume_tasks.proofs.Refusals.{holds_nothing}
 
 has_ranges : HasRanges fresh_numbers
-has_ranges = record { least = omega arith; most = omega arith; some_slots = omega arith; few_slots = omega arith; room = omega arith }
+has_ranges = record { least = omega arith; most = omega arith; some_slots = omega arith; few_slots = omega arith; room = omega arith; older = λ before. (omega arith, omega arith) }
 
 -- what an image that stands for the empty volume stands for
 same_numbers : (c : Image) (v : Superblock) (T U : Tree) → StandsAs c v T → StandsAs c fresh_numbers U → v ≡ fresh_numbers

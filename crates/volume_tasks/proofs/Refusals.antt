@@ -4,7 +4,7 @@ use Rattle.vol_sector.specs.Disk.{Image}
 use Rattle.vol_sector.specs.declared.fault.VolumeFault.{VolumeFault}
 use Rattle.vol_sector.specs.declared.fault.VolumeFault.TheVariants as fault
 use Rattle.vol_inode.specs.declared.version.Version.{Version}
-use Rattle.vol_inode.specs.declared.version.Version.TheVariants.{One, Two}
+use Rattle.vol_inode.specs.declared.version.Version.TheVariants.{One, Two, Four}
 use Rattle.vol_tree.specs.Superblock.{IsNoVersion, version_number}
 use Rattle.vol_tree.specs.Opening.{NoVolumeOn, HasNoVersion}
 use Rattle.vol_tree.proofs.OneTree.{version_is}
@@ -13,6 +13,7 @@ use Rattle.volume_tasks.specs.Doing.{HoldsNothing}
 known : (v : Version) → IsNoVersion (version_number v) → ⊥
 known One none = none.0 (omega arith)
 known Two none = none.1 (omega arith)
+known Four none = none.2 (omega arith)
 
 no_volume : (size : ℕ) (image : Image) → NoVolumeOn size image → HoldsNothing size image
 no_volume size image (inl few) v m holds = omega (arith, few, holds.room, holds.ranges.least)

@@ -7,8 +7,9 @@ use Rattle.vol_sector.specs.Disk.{Image, Disk, Leaves, counted}
 use Rattle.vol_sector.specs.declared.fault.VolumeFault.{VolumeFault}
 use Rattle.vol_sector.specs.declared.fault.VolumeFault.TheVariants as fault
 use Rattle.vol_sector.specs.declared.fault.VolumeFault.TheVariants.{NotAVolume, Version}
-use Rattle.vol_inode.specs.declared.version.Version.TheVariants.{One, Two}
+use Rattle.vol_inode.specs.declared.version.Version.TheVariants.{Two}
 use Rattle.vol_tree.specs.declared.superblock.Superblock.{Superblock}
+use Rattle.vol_tree.specs.Superblock.{IsOlder}
 use Rattle.vol_tree.specs.Tree.{Tree}
 use Rattle.vol_tree.specs.Stands.{StandsAs}
 use Rattle.vol_tree.specs.Opened.{raised}
@@ -23,10 +24,10 @@ use Rattle.volume_tasks.specs.Tasks.{IsPartOfPut, Prints, Puts, ReflectsAny, pri
 use Rattle.volume_tasks.specs.Changes.{Changes, IsPartOfChange}
 use Rattle.volume_tasks.specs.Replacing.{IsPartOfWhole, PutsWhole, path_beside}
 
--- An upgrade is refused with 35 for version 2, and else only with 33.
+-- An upgrade is refused with 35 for version 2 and each newer, and else only with 33.
 pub record Upgrades (v : Superblock) (done : Result (Unit {0}) Failure) : Type 0 where
-  pub newest : v.version ≡ Two → done ≡ Err (Volume fault.Upgraded)
-  pub refused : v.version ≡ One → IfErr done (λ f. f ≡ Volume fault.Device)
+  pub newest : (IsOlder v.version Two → ⊥) → done ≡ Err (Volume fault.Upgraded)
+  pub refused : IsOlder v.version Two → IfErr done (λ f. f ≡ Volume fault.Device)
 
 -- What a task prints of a volume's tree, and the tree that it leaves, by what is known of the input and the output
 -- before it and after.
@@ -61,7 +62,7 @@ IsRaised (Get path) v T c = ⊥
 IsRaised (Put path) v T c = ⊥
 IsRaised (PutWhole path) v T c = ⊥
 IsRaised Check v T c = ⊥
-IsRaised Upgrade v T c = StandsAs c (raised v) T
+IsRaised Upgrade v T c = StandsAs c (raised Two v) T
 IsRaised (Stat path) v T c = ⊥
 IsRaised (Changing change) v T c = ⊥
 
@@ -73,7 +74,7 @@ Lasts (Get path) v U may_leave = Unit {0}
 Lasts (Put path) v U may_leave = (c : Image) → may_leave c → StandsAs c v U
 Lasts (PutWhole path) v U may_leave = (c : Image) → may_leave c → StandsAs c v U
 Lasts Check v U may_leave = Unit {0}
-Lasts Upgrade v U may_leave = (c : Image) → may_leave c → StandsAs c (raised v) U
+Lasts Upgrade v U may_leave = (c : Image) → may_leave c → StandsAs c (raised Two v) U
 Lasts (Stat path) v U may_leave = Unit {0}
 Lasts (Changing change) v U may_leave = (c : Image) → may_leave c → StandsAs c v U
 

@@ -20,6 +20,7 @@ use crate::replacing::put_whole;
 use sandbox_words::{ListForm, Task};
 use std::alloc::Global;
 use std::io::{Read, Write};
+use vol_inode::Version;
 use vol_sector::{Device, Refused};
 use vol_tree::Volume;
 
@@ -77,7 +78,7 @@ fn done_with<D: Device, R: Read, W: Write>(
         Task::Put { path } => put(volume, path, input),
         Task::PutWhole { path } => put_whole(alloc, volume, path, input),
         Task::Check => check(volume, out),
-        Task::Upgrade => Ok(volume.upgrade()?),
+        Task::Upgrade => Ok(volume.upgrade(Version::Two)?),
         Task::Stat { path } => describe(volume, path, out),
         Task::Change(change) => change_tree(volume, change),
     }

@@ -68,6 +68,14 @@ impl<'a> PreparedModule<'a> {
         }
     }
 
+    /// The module that was prepared.
+    pub fn module(&self) -> &Valid<'a>
+        ensures { result.now ≡ self.now.valid }
+    {
+        let prepared = &*self.prepared;
+        &prepared.valid
+    }
+
     /// How many pages a machine's memory has at most.
     pub fn pages(&self) -> u32
         ensures { result ≡ self.now.pages }

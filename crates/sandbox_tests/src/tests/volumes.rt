@@ -77,20 +77,20 @@ fn guests_print_what_files_hold(rt: HostRuntime) {
     assert_none(&rt, wrong_print(&rt, rt.alloc()));
 }
 
-/// The device with its volume upgraded.
-fn upgraded<D: Device + Drop>(rt: &impl Abort, alloc: Global, device: D) -> D {
+/// The device with its volume made one of a newer version.
+fn upgraded<D: Device + Drop>(rt: &impl Abort, alloc: Global, device: D, to: Version) -> D {
     let mut volume = mounted(alloc, device).expect(rt, "a volume");
-    assert!(rt; volume.upgrade().is_ok());
+    assert!(rt; volume.upgrade(to).is_ok());
     volume.into_device()
 }
 
-/// A device with a fresh volume of this many sectors, which is upgraded where it is to have version 2.
+/// A device with a fresh volume of this many sectors, which is upgraded where it is to have a newer version.
 fn of_version(rt: &impl Abort, alloc: Global, sectors: u32, version: Version) -> Disk {
     let device = formatted_with(alloc, sectors).expect(rt, "a device");
     let disk = faulty(device, 0, u64::MAX);
     match version {
         Version::One => disk,
-        Version::Two => upgraded(rt, alloc, disk),
+        to => upgraded(rt, alloc, disk, to),
     }
 }
 

@@ -67,7 +67,7 @@ none_past T directory a b low high = none a low ∙ sym (none b high)
     none : (k : ℕ) → length T ≤ k → dirents T directory k ≡ []
     none k le = over T directory k k (omega arith) ∙ ap (λ (U : Tree). told_from (k + 1) U directory k) (drop_all k T le)
 
-pub cut_cookie : (T : Tree) (directory cookie last : ℕ) → length T ≤ 8192 → last ≡ min cookie (2 ^ 32 - 1) → dirents T directory last ≡ dirents T directory cookie
+pub cut_cookie : (T : Tree) (directory cookie last : ℕ) → length T ≤ 1048576 → last ≡ min cookie (2 ^ 32 - 1) → dirents T directory last ≡ dirents T directory cookie
 cut_cookie T directory cookie last few is = elim (cases_lt cookie (2 ^ 32)) [
   | inl small ↦ ap (dirents T directory) (let same : last ≡ cookie = omega (arith, is) in same)
   | inr great ↦ none_past T directory last cookie (omega (arith, is, few)) (omega (arith, few))

@@ -9,7 +9,7 @@ use Rattle.wasi_fd.specs.declared.descriptor.Opened.{Opened as Opened'}
 use Rattle.wasi_fd.specs.declared.descriptor.Descriptor.TheVariants.{Entry}
 use Rattle.byteorder.specs.Endian.{little_bytes}
 use Rattle.vol_inode.specs.declared.version.Version.{Version}
-use Rattle.vol_inode.specs.declared.version.Version.TheVariants.{One, Two}
+use Rattle.vol_inode.specs.declared.version.Version.TheVariants.{One, Two, Four}
 use Rattle.vol_inode.specs.Space.{size_limit}
 use Rattle.wasi_calls.specs.files.Rows.{file_write}
 use Rattle.wasi_calls.specs.internal.files.Writing.{written_on, written_to}
@@ -106,6 +106,7 @@ row_to fd o bytes result v p is =
 limited : (version : Version) → size_limit version < 2 ^ 32
 limited One = lit< tt
 limited Two = lit< tt
+limited Four = lit< tt
 
 first_holds : {X : Type 0} (b : Bool) (e : Errno) (r : Result X Errno) (x : X) → cond b (Err e) r ≡ Ok x → b ≡ false
 first_holds true e r x h = cc

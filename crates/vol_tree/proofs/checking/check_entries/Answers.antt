@@ -17,7 +17,7 @@ make_a_tree-requires g c =
     let count = c.in_ok-found.ensures.count in
     record {
       some = subst (λ (n : ℕ). 0 < n) (sym count) ranges.some_slots;
-      few = subst (λ (n : ℕ). n ≤ 8192) (sym count) ranges.few_slots;
+      few = subst (λ (n : ℕ). n ≤ 1048576) (sym count) ranges.few_slots;
     }
 
 pub returns-in_err-found : goal.returns-in_err-found

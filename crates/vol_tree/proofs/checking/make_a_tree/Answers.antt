@@ -26,7 +26,7 @@ lead_to_root-requires c =
     let same = sym c.deref-4.ensures.value in
     record {
       some = subst (λ (ps : List ℕ). 0 < length ps) same c.requires.some;
-      few = subst (λ (ps : List ℕ). length ps ≤ 8192) same c.requires.few;
+      few = subst (λ (ps : List ℕ). length ps ≤ 1048576) same c.requires.few;
     }
 
 pub returns : goal.returns

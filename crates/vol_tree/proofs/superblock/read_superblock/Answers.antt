@@ -2,7 +2,7 @@ use Rattle.std.proofs.Common.{◌≡◌, ◌∙◌, drop, sym, arith}
 use Rattle.byteorder.specs.Endian.{little_number}
 use Rattle.byteorder.specs.Numbers.{little_from-take}
 use Rattle.vol_tree.proofs.superblock.read_superblock.Goals as goal
-use Rattle.vol_tree.proofs.superblock.read_superblock.Goals.{in-1, in-2}
+use Rattle.vol_tree.proofs.superblock.read_superblock.Goals.{in-1, in-2, in-4}
 
 pub returns-else-has_ranges-clause-version : goal.returns-else-has_ranges-clause-version
 returns-else-has_ranges-clause-version c =
@@ -12,5 +12,6 @@ returns-else-has_ranges-clause-version c =
       λ has. absurd (elim c.match-read_u32.branch [
         | in-1 w ↦ has.1.0 (sym number ∙ w.in-1.is)
         | in-2 w ↦ has.1.1 (sym number ∙ w.in-2.is)
+        | in-4 w ↦ has.1.2 (sym number ∙ w.in-4.is)
       ]),
     )

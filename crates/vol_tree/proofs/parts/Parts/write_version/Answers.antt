@@ -12,8 +12,8 @@ pub returns-in_err-write_front : goal.returns-in_err-write_front
 returns-in_err-write_front g c =
     let old = c.args.self.now in
     let disk = g.D.Device.disk (device_of old.log) in
-    let bytes : c.write_superblock.result ≡ superblock (raised old.numbers) = c.write_superblock.ensures in
-    let fronts : LogFronts old.log c.write_front.new.self (superblock (raised old.numbers)) true = record {
+    let bytes : c.write_superblock.result ≡ superblock (raised c.args.to old.numbers) = c.write_superblock.ensures in
+    let fronts : LogFronts old.log c.write_front.new.self (superblock (raised c.args.to old.numbers)) true = record {
       written = λ good. absurd (cc);
       settled = λ good. absurd (cc);
       others = λ h n lt. c.write_front.ensures.others h n lt;
@@ -27,15 +27,15 @@ returns-in_err-write_front g c =
       failures = c.in_err-write_front.ensures.failures c.requires.working;
     } in
     let io = err_is c.from_residual.result c.from_residual.ensures.0 in
-    subst (λ (b : Bool). Upgrades old (record old { log = c.write_front.new.self }) b) (sym io)
-    (not_upgraded g.met.D.Device.may_stay old c.write_front.new.self c.requires.is_open c.requires.working c.requires.empty c.requires.version true fronts refl)
+    subst (λ (b : Bool). Upgrades c.args.to old (record old { log = c.write_front.new.self }) b) (sym io)
+    (not_upgraded g.met.D.Device.may_stay old c.write_front.new.self c.requires.is_open c.requires.working c.requires.empty c.args.to c.requires.version true fronts refl)
 
 pub returns : goal.returns
 returns g c =
     let old = c.args.self.now in
     let disk = g.D.Device.disk (device_of old.log) in
-    let bytes : c.write_superblock.result ≡ superblock (raised old.numbers) = c.write_superblock.ensures in
-    let fronts : LogFronts old.log c.write_front.new.self (superblock (raised old.numbers)) false = record {
+    let bytes : c.write_superblock.result ≡ superblock (raised c.args.to old.numbers) = c.write_superblock.ensures in
+    let fronts : LogFronts old.log c.write_front.new.self (superblock (raised c.args.to old.numbers)) false = record {
       written = λ good h. c.in_ok-write_front.ensures.written h ∙ ap (λ (b : List ℕ). put 0 b disk.seen) bytes;
       settled = λ good h. c.in_ok-write_front.ensures.settled h;
       others = λ h n lt. c.write_front.ensures.others h n lt;
@@ -48,4 +48,4 @@ returns g c =
       goes_on = c.write_front.ensures.goes_on;
       failures = c.in_ok-write_front.ensures.failures c.requires.working;
     } in
-    is_upgraded g.met.D.Device.may_stay old c.write_front.new.self c.requires.is_open c.requires.working c.requires.empty c.requires.version false fronts refl
+    is_upgraded g.met.D.Device.may_stay old c.write_front.new.self c.requires.is_open c.requires.working c.requires.empty c.args.to c.requires.version false fronts refl

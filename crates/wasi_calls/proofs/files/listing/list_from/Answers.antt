@@ -15,11 +15,11 @@ returns-in-Ok g c = record {
   idle = λ failed. absurd (false≢true (sym c.if-failed.false ∙ (c.failed.ensures ∙ failed)));
   count = λ h.
       let T : Tree = c.args.volume.now.tree in
-      let few : length T ≤ 8192 = omega (arith, c.is_a_tree.ensures.count, c.is_a_tree.ensures.ranges.few_slots) in
+      let few : length T ≤ 1048576 = omega (arith, c.is_a_tree.ensures.count, c.is_a_tree.ensures.ranges.few_slots) in
       c.in-Ok.ensures.count h ∙ ap (λ (all : List ℕ). min c.args.len (length all)) (cut_cookie T c.args.directory c.args.cookie c.last_told-last.result few c.last_told-last.ensures);
   listed = λ h.
       let T : Tree = c.args.volume.now.tree in
-      let few : length T ≤ 8192 = omega (arith, c.is_a_tree.ensures.count, c.is_a_tree.ensures.ranges.few_slots) in
+      let few : length T ≤ 1048576 = omega (arith, c.is_a_tree.ensures.count, c.is_a_tree.ensures.ranges.few_slots) in
       c.in-Ok.ensures.listed h
       ∙ ap (λ (all : List ℕ). written c.args.memory.now c.args.start (take c.args.len all)) (cut_cookie T c.args.directory c.args.cookie c.last_told-last.result few c.last_told-last.ensures);
   broke = λ h. tt;
@@ -34,7 +34,7 @@ returns-in-Err g c = record {
   listed = λ h. tt;
   broke = λ h.
       let T : Tree = c.args.volume.now.tree in
-      let few : length T ≤ 8192 = omega (arith, c.is_a_tree.ensures.count, c.is_a_tree.ensures.ranges.few_slots) in
+      let few : length T ≤ 1048576 = omega (arith, c.is_a_tree.ensures.count, c.is_a_tree.ensures.ranges.few_slots) in
       let (io, begun) = c.in-Err.ensures.broke h in
       (io, subst (λ (all : List ℕ). IsBegun c.args.memory.now c.args.start (take c.args.len all) c.list_part.new.memory) (cut_cookie T c.args.directory c.args.cookie c.last_told-last.result few c.last_told-last.ensures) begun);
 }
