@@ -381,8 +381,8 @@ def parent_for(size, tried):
     found = []
     for path in (b"/dev/shm", os.environb.get(b"TMPDIR"), b"/tmp", b"/var/tmp"):
         try:
-            space = os.statvfs(path) if path and os.path.isabs(path) else None
-        except OSError:
+            space = os.statvfs(path) if path and path.decode("utf-8").startswith("/") else None     # the program takes no other names
+        except (OSError, ValueError):
             continue
         if space and os.access(path, os.W_OK | os.X_OK) and space.f_bavail * space.f_frsize > 3 * size + (16 << 20) and path not in found:
             found.append(path)
