@@ -120,8 +120,9 @@ where
     }
 }
 
-/// Runs a session that has used nothing within the limits of a run, with the random bytes of its seed, interactive where it is to be. Gives back what is kept of its
-/// module, and the innermost functions that were at work when it stopped into the room. Where there are stacks, they get its units.
+/// Runs a session that has used nothing within the limits of a run, with the random bytes of its seed, interactive where it is to be.
+/// Gives back what is kept of its module, and the innermost functions that were at work when it stopped into the room. Where there are
+/// stacks, they get its units.
 fn run_within<S, D, R, W1, W2>(
     alloc: Global,
     run: &Run<'_>,

@@ -1,7 +1,6 @@
 pub mod Reaching
 pub mod Headline
 pub mod Safety
-mod Counting
 pub mod Following
 pub mod Slicing
 pub mod Stopping

@@ -11,10 +11,10 @@ run_charged-requires-clause-unused g c =
     ap (λ s. used_by s) (c.interact.ensures ∙ ap (λ s. with_terminals (terminals_of c.args.run.now) s) (c.seed.ensures ∙ ap (λ s. with_seed c.args.run.now.seed s) c.limit_values.ensures)) ∙ c.requires.begun.0
 
 pub seed-requires : goal.seed-requires
-seed-requires g c = ap (λ s. s.host.generator) c.limit_values.ensures ∙ c.requires.begun.1.0
+seed-requires g c = ap (λ s. s.host.generator) c.limit_values.ensures ∙ c.requires.begun.1
 
 pub interact-requires : goal.interact-requires
-interact-requires g c = ap (λ s. s.host.interactive) (c.seed.ensures ∙ ap (λ s. with_seed c.args.run.now.seed s) c.limit_values.ensures) ∙ c.requires.begun.1.1
+interact-requires g c = ap (λ s. s.host.interactive) (c.seed.ensures ∙ ap (λ s. with_seed c.args.run.now.seed s) c.limit_values.ensures) ∙ c.requires.begun.2
 
 pub returns-clause-told : goal.returns-clause-told
 returns-clause-told g c =
