@@ -80,11 +80,10 @@ fn count_of<F: SectorFile>(file: &F, wanted: u32) -> io::Result<u32>
 {
     let there = file.sectors()?.min(u64::from(MOST_SECTORS)) as u32;
     let most = wanted.max(MOST_OF_OLDER);
-    if there <= most {
+    if there <= most || begins_as_version_4(file)? {
         return Ok(there);
     }
-    let is_newest = begins_as_version_4(file)?;
-    Ok(if is_newest { there } else { most })
+    Ok(most)
 }
 
 /// The whole sectors of a file, as many as `count_of` says.
