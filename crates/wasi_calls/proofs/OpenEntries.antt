@@ -35,10 +35,12 @@ some_world table = record {
   tree = [];
   table = table;
   input = [];
+  pieces = [];
   output = [];
   errors = [];
   random = listed [];
   given = record { args = []; env = []; moment = 0 };
+  interactive = None;
   volume_failed = false;
   input_failed = false;
   input_ended = false;
