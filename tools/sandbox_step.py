@@ -56,7 +56,7 @@ import sys
 # `signal`, `argparse`, `subprocess`, `tempfile`, `shutil`, `re`, `json` and `hashlib` take longer to import than a small guest takes to run
 import _signal as signal
 
-from step_volume import FEW_SECTORS, FEW_SLOTS, LOG, MOST_FILE, MOST_SECTORS, MOST_SLOTS, SECTOR, Left, has_parents, make_volume, needs, put, removed
+from step_volume import FEW_SECTORS, FEW_SLOTS, LOG, MOST_FILE, MOST_SECTORS, MOST_SLOTS, SECTOR, Left, has_parents, make_volume, needs, put, removed, version_for
 
 VERSION = b"2"                                 # of what a key says: another one, other keys
 ROOTS = (b"in", b"out", b"tmp")                # what the guest has
@@ -324,7 +324,7 @@ def sizes(tree, room, entries):
     least = data + slots + LOG + -(-(room or 0) // SECTOR)
     if least > MOST_SECTORS:
         raise Refused(f"{least * SECTOR} bytes: a volume has {MOST_SECTORS * SECTOR} at most")
-    most = FEW_SECTORS if least <= FEW_SECTORS else MOST_SECTORS
+    most = FEW_SECTORS if version_for(tree, least, slots) == 2 else MOST_SECTORS
     return max(137, min(least + data + (8 << 20) // SECTOR, most) if room is None else least), slots
 
 

@@ -188,7 +188,7 @@ def random_calls(setting):
 
 def deep_calls(setting):
     """The same on a volume of version 4, whose files may have all levels."""
-    return calls_on(setting, DEEP, 15 if setting.is_quick else 200)
+    return calls_on(setting, DEEP, 120)
 
 
 def calls_on(setting, shape, count):
