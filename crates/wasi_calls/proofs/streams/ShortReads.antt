@@ -39,10 +39,9 @@ pub dealt_once : (a c : Option (List ℕ)) (m m2 : List ℕ) (bs : List Span) (i
     → Came a c m (get_or bs i d).pointer (get_or bs i d).len m2 k → Dealt a c m (list_of bs) m2 k
 dealt_once a c m m2 bs i k d h empty came =
     let before : Dealt a a m (list_of (take i bs)) m 0 = untouched a m (list_of (take i bs)) in
-    let here : Dealt a c m (list_of (take (i + 1) bs)) m2 (0 + k) = dealt_more a a c m m m2 bs i 0 k d h before came (inl (sym empty)) in
-    let same : 0 + k ≡ k = omega arith in
-    let so_many : Dealt a c m (list_of (take (i + 1) bs)) m2 k = subst (λ (n : ℕ). Dealt a c m (list_of (take (i + 1) bs)) m2 n) same here in
-    subst (λ (l : List Buffer). Dealt a c m l m2 k) (parts_of bs (i + 1)) (dealt_rest a c m m2 (list_of (take (i + 1) bs)) (list_of (drop (i + 1) bs)) k so_many)
+    let all : 0 + k ≡ k = omega arith in
+    let here : Dealt a c m (list_of (take (i + 1) bs)) m2 k = subst (λ (n : ℕ). Dealt a c m (list_of (take (i + 1) bs)) m2 n) all (dealt_more a a c m m m2 bs i 0 k d h before came (inl (sym empty))) in
+    subst (λ (l : List Buffer). Dealt a c m l m2 k) (parts_of bs (i + 1)) (dealt_rest a c m m2 (list_of (take (i + 1) bs)) (list_of (drop (i + 1) bs)) k here)
 
 -- ---- either way of reading
 
