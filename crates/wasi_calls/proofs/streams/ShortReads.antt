@@ -1,7 +1,8 @@
 -- Bytes of one read, into the first buffer that has room.
-use Rattle.std.proofs.Common.{◌≡◌, ◌⊎◌, inl, inr, ℕ, ◌+◌, ◌<◌, ◌≤◌, min, max, List, [], ◌∷◌, ◌++◌, length, take, drop, get_or, Bool, true, false, cond, Option, Result, Ok, Err, IfOk, OnErr, refl, sym, ap, ◌∙◌, subst, take-append-drop, map-append, arith}
+use Rattle.std.proofs.Common.{◌≡◌, ◌⊎◌, inl, inr, ℕ, ◌+◌, ◌<◌, ◌≤◌, min, max, List, [], ◌∷◌, ◌++◌, length, take, drop, get_or, Bool, true, false, cond, Option, Result, Ok, Err, IfOk, OnErr, refl, sym, ap, ◌∙◌, subst, take-append-drop, arith}
 use Rattle.std.proofs.KnownBytes.{Consumes-nil}
 use Rattle.std.proofs.lemmas.Bool.{false≢true}
+use Rattle.std.proofs.lemmas.List.{map-append}
 use Rattle.std.proofs.lemmas.List.Sums.{sum_by-append}
 use Rattle.std.specs.Io.KnownBytes.{Consumes}
 use Rattle.vol_body.specs.declared.source.Span.{Span}
@@ -38,7 +39,8 @@ pub dealt_once : (a c : Option (List ℕ)) (m m2 : List ℕ) (bs : List Span) (i
     → Came a c m (get_or bs i d).pointer (get_or bs i d).len m2 k → Dealt a c m (list_of bs) m2 k
 dealt_once a c m m2 bs i k d h empty came =
     let before : Dealt a a m (list_of (take i bs)) m 0 = untouched a m (list_of (take i bs)) in
-    let here : Dealt a c m (list_of (take (i + 1) bs)) m2 (0 + k) = dealt_more a a c m m m2 bs i 0 k d h before came (inl (sym empty)) in
+    let all : 0 + k ≡ k = omega arith in
+    let here : Dealt a c m (list_of (take (i + 1) bs)) m2 k = subst (λ (n : ℕ). Dealt a c m (list_of (take (i + 1) bs)) m2 n) all (dealt_more a a c m m m2 bs i 0 k d h before came (inl (sym empty))) in
     subst (λ (l : List Buffer). Dealt a c m l m2 k) (parts_of bs (i + 1)) (dealt_rest a c m m2 (list_of (take (i + 1) bs)) (list_of (drop (i + 1) bs)) k here)
 
 -- ---- either way of reading

@@ -9,10 +9,10 @@ use Rattle.wasi_calls.proofs.streams.inputs.first_with_room.Goals as goal
 pub loop-index-preserved : goal.loop-index-preserved
 loop-index-preserved c =
     let more = total_more c.args.buffers.now c.loop-index.index (record { pointer = 0; len = 0 }) c.loop-index-test.true in
-    omega (arith, more, c.loop-index.invariant, c.if-buffers.false)
+    omega (arith, more, c.loop-index.invariant, c.if-buffers-index-gt0.false)
 
 pub returns : goal.returns
 returns c = sym (ap (λ (l : List Span). total (list_of l)) (take_all c.loop-index.index c.args.buffers.now c.loop-index-test.false)) ∙ c.loop-index.invariant
 
-pub returns-then-buffers : goal.returns-then-buffers
-returns-then-buffers c = record { inside = c.loop-index-test.true; before = c.loop-index.invariant; room = c.if-buffers.true }
+pub returns-then-buffers-index-gt0 : goal.returns-then-buffers-index-gt0
+returns-then-buffers-index-gt0 c = record { inside = c.loop-index-test.true; before = c.loop-index.invariant; room = c.if-buffers-index-gt0.true }

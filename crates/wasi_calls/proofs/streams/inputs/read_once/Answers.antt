@@ -59,7 +59,7 @@ returns-in-Ok g c = record {
   long = c.in-Ok.ensures.long;
   dealt = let first = c.in-Some.ensures in
       dealt_once _ _ c.args.memory.now c.read_some.new.memory c.args.buffers.now c.in-Some.index c.in-Ok.count no_buffer first.inside first.before c.in-Ok.ensures.came;
-  some = λ goes_on. omega (arith, c.in-Ok-eq0.field-0-test);
+  some = λ goes_on. omega (arith, c.in-Ok.count-test.1);
   short = λ goes_on ended. absurd (false≢true (sym goes_on ∙ ended));
   still = tt;
   none = λ ended. absurd (false≢true (sym c.if-input.false ∙ ended));
