@@ -1,6 +1,6 @@
 -- One resume more after others.
 use Rattle.std.proofs.Common.{◌≡◌, ℕ, ◌+◌, ◌-◌, ◌^◌, min, Bool, true, false, if◌then◌else◌, List, [], ◌∷◌, ◌++◌, refl, sym, ◌∙◌, ap, subst, zero-add, true≢false, arith}
-use Rattle.std.specs.Prelude.{◌<◌, replicate, slice_index, suc, zero}
+use Rattle.std.specs.Prelude.{◌<◌, length, replicate, slice_index, suc, zero}
 use Rattle.std.specs.List.{count_by}
 use Rattle.std.proofs.lemmas.List.Sums.{sum_by-append}
 use Rattle.wasm_steps.specs.declared.pause.Pause.{Pause}
