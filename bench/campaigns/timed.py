@@ -103,7 +103,7 @@ TIMED = [
     Timed("clzip", "clzip", ["-c", "-3"], lambda: prose(2_000)),
     Timed("brotli", "brotli", ["-c", "-q", "6"], lambda: prose(9_000)),
     Timed("lz4", "lz4", ["-c", "-9"], lambda: prose(5_000)),
-    Timed("compress", "compress", ["-c"], lambda: prose(24_000)),
+    Timed("compress", "compress", ["-c"], lambda: prose(32_000)),
     Timed("cmark", "cmark", ["-t", "html"], lambda: prose(12_000)),
     Timed("par", "par", ["60", "j1"], lambda: prose(1_500)),
     Timed("awk", "awk", ["{ gsub(/[aeiou]/, \"<&>\"); n[$2]++; t += length($0) } END { for (w in n) s += n[w]; print NR, s, t }"], lambda: prose(1_500)),

@@ -13,6 +13,7 @@
 #   @script FILE                  the same as text, without a name
 #   @see PAGES                    other pages
 BEGIN {
+  top = ENVIRON["checkout"] # (a backslash in a name would mean something else by -v)
   for (i = 32; i < 127; i++) char[i] = sprintf("%c", i)
   plain["\\"] = code["\\"] = "\\e"
   code["-"] = "\\-"; code["'"] = "\\(aq"; code["`"] = "\\(ga"; code["^"] = "\\(ha"; code["~"] = "\\(ti"

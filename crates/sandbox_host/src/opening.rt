@@ -194,7 +194,11 @@ fn open_from(
     match begin_from(alloc, module, supplies, origin, why) {
         Ok(begun) => {
             let bytes = ModuleBytes::new(module);
-            keep(alloc, session, Held::Running(HostSession::Own(begun), bytes))
+            keep(
+                alloc,
+                session,
+                Held::Running(HostSession::Own(begun), bytes),
+            )
         }
         Err(number) => number,
     }

@@ -14,7 +14,7 @@ returns-in-Ok c =
       misuse = λ is_open. absurd (false≢true (sym is_open ∙ closed));
       loaded = λ _ e. (subst (λ (h : Option Held). IsSomeAnd (loaded h) (IsLoaded c.args.bytes.now)) (sym (c.keep.ensures.kept e)) c.in-Ok.ensures.loaded, ap prepared (c.keep.ensures.kept e), refl);
       refused = λ _ e. let no = c.keep.ensures.refused e in (no.1, inr (no.0, refl));
-      bytes = λ e. ap bytes_of (c.keep.ensures.kept e);
+      bytes = λ e. ap bytes_of (c.keep.ensures.kept e) ∙ c.new.ensures;
     }
 
 pub returns-in-Err : goal.returns-in-Err
