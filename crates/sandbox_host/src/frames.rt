@@ -125,7 +125,9 @@ pub fn frame_at(alloc: Global, session: &mut Handle, number: usize, told: &mut F
         return MISUSE;
     };
     let answer = match &mut *held {
-        Held::Running(running, bytes) => frame_of(alloc, running, bytes, number, told),
+        Held::Running(running) => {
+            frame_of(alloc, &running.session, &mut running.bytes, number, told)
+        }
         _ => MISUSE,
     };
     session.put(held);
