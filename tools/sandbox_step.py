@@ -56,7 +56,7 @@ import sys
 # `signal`, `argparse`, `subprocess`, `tempfile`, `shutil`, `re`, `json` and `hashlib` take longer to import than a small guest takes to run
 import _signal as signal
 
-from step_volume import LOG, MOST_FILE, MOST_SECTORS, MOST_SLOTS, SECTOR, Left, has_parents, make_volume, needs, put, removed
+from step_volume import FEW_SECTORS, FEW_SLOTS, LOG, MOST_FILE, MOST_SECTORS, MOST_SLOTS, SECTOR, Left, has_parents, make_volume, needs, put, removed, version_for
 
 VERSION = b"2"                                 # of what a key says: another one, other keys
 ROOTS = (b"in", b"out", b"tmp")                # what the guest has
@@ -64,7 +64,7 @@ LISTS, TEXTS, FLAGS = ("in", "out", "out-dir", "env", "exit"), ("stdin", "stdout
 U64 = (1 << 64) - 1
 # option: what it is without it, the least and the most
 NUMBERS = {"fuel": (1_000_000_000, 0, U64), "pages": (1_024, 0, 65_536), "values": (None, 0, U64), "moment": (None, 0, U64), "seed": (None, 0, U64),
-           "wall": (600, 1, 2_000_000), "output": (64 << 20, 0, 1 << 40), "memory": (None, 1, 1 << 62), "room": (None, 0, 1 << 32), "entries": (None, 0, MOST_SLOTS)}
+           "wall": (600, 1, 2_000_000), "output": (64 << 20, 0, 1 << 40), "memory": (None, 1, 1 << 62), "room": (None, 0, 1 << 33), "entries": (None, 0, MOST_SLOTS)}
 # 5,000,000 rounds of: local.get 0, i32.const 1, i32.sub, local.tee 0, br_if 0; with the units that they take
 KNOWN = (b"\0asm\1\0\0\0\1\4\1\x60\0\0\3\2\1\0\7\x0a\1\6_start\0\0\x0a\x19\1\x17\1\1\x7f\x41\xc0\x96\xb1\2\x21\0\3\x40\x20\0\x41\1\x6b\x22\0\x0d\0\x0b\x0b")
 KNOWN_UNITS = b"30000002"
@@ -320,11 +320,12 @@ def sizes(tree, room, entries):
     least = slots + (entries or 0)
     if least > MOST_SLOTS:
         raise Refused(f"{least} entries: a volume has {MOST_SLOTS} at most")
-    slots = min(2 * slots + 1_024, MOST_SLOTS) if entries is None else least
+    slots = min(2 * slots + 1_024, FEW_SLOTS if least <= FEW_SLOTS else MOST_SLOTS) if entries is None else least
     least = data + slots + LOG + -(-(room or 0) // SECTOR)
     if least > MOST_SECTORS:
         raise Refused(f"{least * SECTOR} bytes: a volume has {MOST_SECTORS * SECTOR} at most")
-    return max(137, min(least + data + (8 << 20) // SECTOR, MOST_SECTORS) if room is None else least), slots
+    most = FEW_SECTORS if version_for(tree, least, slots) == 2 else MOST_SECTORS
+    return max(137, min(least + data + (8 << 20) // SECTOR, most) if room is None else least), slots
 
 
 class Room:

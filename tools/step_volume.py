@@ -6,7 +6,9 @@ import os
 import stat
 import struct
 
-SECTOR, LOG, MOST_SECTORS, MOST_SLOTS, MOST_FILE = 512, 122, 65_536, 8_192, 8_483_840
+SECTOR, LOG = 512, 122
+FEW_SECTORS, FEW_SLOTS, SMALL_FILE = 65_536, 8_192, 8_483_840                     # the most of version 2
+MOST_SECTORS, MOST_SLOTS, MOST_FILE = 16_777_216, 1_048_576, 1_082_225_664        # and of version 4
 ZEROS, MOST_PARTS = bytes(SECTOR), 1_000           # of a write: the kernel takes 1,024
 
 
@@ -37,35 +39,43 @@ def removed(path):
 
 def needs(size):
     blocks = -(-size // SECTOR)
-    return blocks + (blocks > 58) + (1 + -(-(blocks - 186) // 128) if blocks > 186 else 0)
+    return blocks + (blocks > 58) + (1 + -(-(blocks - 186) // 128) if blocks > 186 else 0) + (-(-(blocks - 186) // 16_384) if blocks > 16_570 else 0)
 
 
 def pointers(blocks, first):
-    """The 60 pointers of a file whose blocks stand from `first` on, and the pointer sectors, which stand behind them."""
+    """The 61 pointers of a file whose blocks stand from `first` on, and the pointer sectors, which stand behind them."""
     numbers, behind = range(first, first + blocks), []
     def sector(some):
         behind.append(struct.pack(f"<{len(some)}I", *some).ljust(SECTOR, b"\0"))
         return first + blocks + len(behind) - 1
     indirect = sector(numbers[58:186]) if blocks > 58 else 0
-    double = sector([sector(numbers[at:at + 128]) for at in range(186, blocks, 128)]) if blocks > 186 else 0
-    return struct.pack("<60I", *numbers[:58], *[0] * (58 - min(blocks, 58)), indirect, double), behind
+    inner_blocks = [sector(numbers[at:at + 128]) for at in range(186, blocks, 128)]
+    double, *others = [sector(inner_blocks[at:at + 128]) for at in range(0, len(inner_blocks), 128)] or [0]
+    triple = sector(others) if others else 0
+    return struct.pack("<61I", *numbers[:58], *[0] * (58 - min(blocks, 58)), indirect, double, triple), behind
+
+
+def version_for(tree, sectors, slots):
+    """Version 2 where such a volume has room for the tree, so that what fits there comes out as it always did; else version 4."""
+    is_small = sectors <= FEW_SECTORS and slots <= FEW_SLOTS and all(len(it) <= SMALL_FILE for it in tree.values() if it)
+    return 2 if is_small else 4
 
 
 def make_volume(path, tree, sectors, slots):
-    """A volume of version 2 that holds a tree, bytes or None by path: the same tree gives the same bytes."""
+    """A volume that holds a tree, bytes or None by path: the same tree gives the same bytes."""
     serials, table, data, free = {b"": 1}, [struct.pack("<B507x4x", 3)], [], LOG + slots
     for whole, inside in sorted(tree.items()):
         above, _, name = whole.rpartition(b"/")
         serials[whole] = len(table) + 1
         blocks = -(-len(inside or b"") // SECTOR)
         inner_pointers, behind = pointers(blocks, free) if blocks else (b"", [])
-        table.append(struct.pack("<BB2xII256s240s4x", 3 if inside is None else 4, len(name), serials[above], len(inside or b""), name, inner_pointers))
+        table.append(struct.pack("<BB2xII256s244s", 3 if inside is None else 4, len(name), serials[above], len(inside or b""), name, inner_pointers))
         if blocks:
             data += [inside, ZEROS[:-len(inside) % SECTOR], *behind]
             free += blocks + len(behind)
     with open(path, "xb", buffering=0) as file:
         file.truncate(sectors * SECTOR)
-        for at, parts in [(0, [struct.pack("<8sIII", b"WASMVOLU", 2, sectors, slots)]), (LOG, [b"".join(table)]), (LOG + slots, data)]:
+        for at, parts in [(0, [struct.pack("<8sIII", b"WASMVOLU", version_for(tree, sectors, slots), sectors, slots)]), (LOG, [b"".join(table)]), (LOG + slots, data)]:
             put_all(file.fileno(), parts, at * SECTOR)
 
 
@@ -91,7 +101,8 @@ class Left:
     def __init__(self, path, sectors, slots):
         self.fd = os.open(path, os.O_RDONLY | os.O_CLOEXEC)
         head, table = os.pread(self.fd, 2 * SECTOR, 0), os.pread(self.fd, slots * SECTOR, LOG * SECTOR)
-        if len(table) != slots * SECTOR or head[:20] != struct.pack("<8sIII", b"WASMVOLU", 2, sectors, slots) or any(head[SECTOR:]):
+        known = [struct.pack("<8sIII", b"WASMVOLU", version, sectors, slots) for version in (2, 4)]
+        if len(table) != slots * SECTOR or head[:20] not in known or any(head[SECTOR:]):
             raise ValueError("it isn't as a run leaves it")
         below, folders = {}, memoryview(table).cast("I")[1::SECTOR // 4].tolist()      # of each slot the folder that it is in
         for serial in [at + 1 for at, kind in enumerate(table[::SECTOR]) if kind]:
@@ -117,10 +128,12 @@ class Left:
     def read(self, path):
         slot = self.slots[path]
         size, = struct.unpack_from("<I", slot, 8)
-        blocks, direct = -(-size // SECTOR), struct.unpack_from("<60I", slot, 268)
+        blocks, direct = -(-size // SECTOR), struct.unpack_from("<61I", slot, 268)
         numbers = [*direct[:58], *(self.numbers_in(direct[58]) if blocks > 58 else ())]
-        for inner_block in self.numbers_in(direct[59]) if blocks > 186 else ():
-            numbers += self.numbers_in(inner_block)
+        doubles = [direct[59], *(self.numbers_in(direct[60]) if blocks > 16_570 else ())] if blocks > 186 else []
+        for double in doubles[:-(-(blocks - 186) // 16_384)]:
+            for inner_block in self.numbers_in(double):
+                numbers += self.numbers_in(inner_block)
         parts, at = [], 0
         while at < blocks:
             first, count = numbers[at], 1

@@ -6,6 +6,7 @@ import struct
 import subprocess
 
 from common import TOP, Wrong, answer, succeeded
+from plain_volume import Writer
 
 SMALL = ["examples/hi.wasm", "examples/c/three.wasm", "examples/c/outside.wasm", "bench/kernels/empty.small.wasm"]
 LARGE = ["examples/c/wc.wasm", "bench/kernels/checksums.small.wasm", "examples/rust/words.wasm", "examples/c/keys.wasm"]
@@ -136,6 +137,15 @@ def begun_volume(setting):
         return it.read()
 
 
+def huge_volume():
+    """One of version 4 with the same paths, and a file that has a double-indirect block."""
+    it = Writer(4, 700, 16)
+    it.whole(b"store", b"colour=blue\n")
+    it.whole(b"b", b"b" * 31_000)
+    it.file(b"c", 160_000, dict.fromkeys((0, 57, 58, 186, 311), b"c" * 512), it.directory(b"d"))
+    return it.image()
+
+
 def installed(image):
     """The image with its log installed, where the log's header is right."""
     count = struct.unpack_from("<I", image, 512)[0]
@@ -186,9 +196,9 @@ def tried_volume(setting, image):
 def damaged_volumes(setting):
     """Random damage of a volume with files, and all commands on it."""
     chance = random.Random(setting.seed)
-    image = begun_volume(setting)
+    images = begun_volume(setting), huge_volume()
     count = 200 if setting.is_quick else 10_000
-    found = collections.Counter(setting.each(lambda it: tried_volume(setting, it), (damaged(chance, image) for _ in range(count))))
+    found = collections.Counter(setting.each(lambda it: tried_volume(setting, it), (damaged(chance, chance.choice(images)) for _ in range(count))))
     return found.total() * 6, told(found)
 
 

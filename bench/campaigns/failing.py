@@ -246,7 +246,7 @@ def output_of_guest(setting):
         told = f"output number {call + 1} with {error}: "
         wanted((trace.status, trace.said) == (120, "sandbox: trap: unreachable\n"), f"{told}status {trace.status}, {trace.said!r}")
         wanted(list(map(int, trace.out.split())) == scene.answers[:call], f"{told}{len(trace.out)} bytes of output")
-        wanted(steps.tree_of(crashes.read(path)) == scene.trees[call + 1].entries, f"{told}not all calls are kept")
+        wanted(steps.contents_of(crashes.read(path)) == scene.trees[call + 1].entries, f"{told}not all calls are kept")
         succeeded(setting, "check", path)
         return 1
 

@@ -72,7 +72,7 @@ def after_each(tree, members):
 
 
 def tree_in(path):
-    return tree_of(crashes.read(path), int(SLOTS))
+    return tree_of(crashes.read(path))
 
 
 def imported(setting):

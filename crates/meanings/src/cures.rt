@@ -42,7 +42,7 @@ pub static FAULT_CURES: [Meaning; 25] = cures! {
 /// Of the errnos that a command on a path ends with, what helps.
 pub static ERRNO_CURES: [Meaning; 11] = cures! {
     20 "take another name, or remove it first"
-    22 "95232 bytes at most, and 8483840 after sandbox upgrade"
+    22 "95232 bytes at most, 8483840 after sandbox upgrade, 1082225664 after upgrade --huge"
     25 "names in a volume are text"
     28 "a PATH begins with /, the root stays, and no directory goes into itself"
     31 "name a file"

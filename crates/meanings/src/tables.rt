@@ -48,7 +48,7 @@ macro_rules! faults {
                 32 "the volume is damaged"
                 33 "the volume's device failed"
                 34 "too few sectors"
-                35 "the volume has version 2 already"
+                35 "the volume has this version already, or a newer one"
                 36 "a number of sectors or slots is out of its range"
                 41 "a file or a standard stream can't be opened, locked, read or written"
             }

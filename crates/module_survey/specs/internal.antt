@@ -1,4 +1,5 @@
 -- Definitions that only private contracts and proofs cite. `Views` reads the code's borrowed sections as those of
--- `Places`, and `Counting` says which index a module's own function gets.
+-- `Places`, `Counting` says which index a module's own function gets, and `Starts` what the table of their entries is.
 pub mod Views
 pub mod Counting
+pub mod Starts

@@ -11,6 +11,7 @@ mod printing;
 mod refusal;
 mod sections;
 mod sites;
+mod starts;
 mod surveying;
 mod words;
 
@@ -19,4 +20,5 @@ pub use links::Links;
 pub use naming::{add_called, called};
 pub use places::{function_name, instruction_offset, instructions_stand_in_the_bytes};
 pub use sites::add_site;
+pub use starts::ModuleBytes;
 pub use surveying::survey;

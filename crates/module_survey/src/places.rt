@@ -54,7 +54,7 @@ fn nth_entry(before: usize, entries: &[u8]) -> Option<(&[u8], &[u8])>
 }
 
 /// The content of the entry of the module's own function, and how many bytes of the module stand behind it.
-fn own_entry(bytes: &[u8], own: usize) -> Option<(&[u8], usize)>
+pub(crate) fn own_entry(bytes: &[u8], own: usize) -> Option<(&[u8], usize)>
     ensures { option_map {U = List ℕ × ℕ} (λ e. (e.0.now, e.1)) result ≡ option_map {U = List ℕ × ℕ} (λ e. (e.0, length e.1)) (own_entry bytes.now own) }
 {
     let section = module_section(Wanted::Code, bytes)?;

@@ -111,7 +111,7 @@ where
 {
     let mut functions = Vec::new(alloc);
     let mut until = session.used();
-    let mut tally = Tally { calls: 0, syncs: 0 };
+    let mut tally = Tally::none();
     loop {
         let (end, counted) = run_charged(session, until, tally, profile, &mut functions);
         if let Some(outcome) = end {

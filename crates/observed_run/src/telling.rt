@@ -81,7 +81,7 @@ where
         (S.state session) fuel result.report result.tally room.new result.depth }
 {
     let mut session = session;
-    let (end, tally) = run_slice(&mut session, fuel, Tally { calls: 0, syncs: 0 });
+    let (end, tally) = run_slice(&mut session, fuel, Tally::none());
     let depth = tell_frames(&session, room);
     let (kept, report) = finish_run(session, outcome_of(end));
     Told {

@@ -9,7 +9,7 @@ use Rattle.sandbox_words.specs.declared.request.Run.{Run}
 use Rattle.sandbox_words.specs.Request.{Text}
 use Rattle.sandbox_command.specs.Reporting.{counting}
 use Rattle.sandbox_command.specs.Running.{counted_devices}
-use Rattle.sandbox_command.specs.Supplies.{AreSettings, names_of as named, split_at_equals}
+use Rattle.sandbox_command.specs.Supplies.{AreSettings, names_of as named, split_at_equals, terminals_of}
 use Rattle.same_run.specs.SameRun.{AreSameSupplies}
 use Rattle.same_run.specs.SameProgram.{HandOutTheSame, SameProgramRun}
 use Rattle.same_run.proofs.Sameness.{same_report}
@@ -60,7 +60,7 @@ module _ {D R W1 W2 D' R' W1' W2' : Type 0}
   same_program_run m run run' random settings settings' volume volume' input input' out out' err err' left left' valid same has has' tree room honest honest' ran ran' =
       same_report (counted_devices is_honest disk sectors_on failures goes_on remaining out_contents err_contents)
       (counted_devices is_honest' disk' sectors_on' failures' goes_on' remaining' out_contents' err_contents')
-      m run.seed run'.seed (counting run (given settings volume input out err)) (counting run' (given settings' volume' input' out' err')) ran.session ran'.session
+      m run.seed run'.seed (terminals_of run) (terminals_of run') (counting run (given settings volume input out err)) (counting run' (given settings' volume' input' out' err')) ran.session ran'.session
       run.limits.fuel run'.limits.fuel ran.report ran'.report valid
       (record { supplies = same_supplies run run' random settings settings' same has has'; tree = tree; room = room })
-      same.seed same.fuel ran.opens ran'.opens ran.shares ran'.shares honest honest' ran.counted.reports ran'.counted.reports
+      same.seed same.terminals same.fuel ran.opens ran'.opens ran.shares ran'.shares honest honest' ran.counted.reports ran'.counted.reports

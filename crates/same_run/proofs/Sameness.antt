@@ -21,6 +21,7 @@ use Rattle.wasm_interp.specs.Promise.{Starts}
 use Rattle.wasi_calls.specs.declared.host.settings.Preopen.{Preopen}
 use Rattle.wasi_calls.specs.declared.host.settings.Settings.{Settings}
 use Rattle.wasi_calls.specs.declared.host.wasi_host.HostParts.{HostParts}
+use Rattle.wasi_calls.specs.declared.streams.Terminals.{Terminals}
 use Rattle.wasi_calls.specs.host.Making.{HasPreopens, directory_named, preopened, preopens_of, table_with}
 use Rattle.wasi_calls.specs.host.Links.{link}
 use Rattle.wasi_calls.specs.host.Worlds.{HostState, StreamBytes, MayFollow, before_moving, after_moving, given_of, world_of}
@@ -124,21 +125,29 @@ module _ {D R W1 W2 D' R' W1' W2' : Type 0} (on : Devices D R W1 W2) (on' : Devi
   same_run i c fuel fuel' h last h' last' outcome outcome' used used' is_honest is_honest' alike same_fuel run run' within within' (served, served') =
       record { some = some_bytes on run is_honest; some' = some_bytes on' run' is_honest'; same = the_same }
     where
-      the_same : (input : List ℕ) (moved moved' : StreamBytes) → ReadAndWrote on run moved → ReadAndWrote on' run' moved' → GaveOf input last moved → GaveOf input last' moved'
+      the_same : (input pieces : List ℕ) (moved moved' : StreamBytes) → ReadAndWrote on run moved → ReadAndWrote on' run' moved' → GaveOf input pieces last moved → GaveOf input pieces last' moved'
           → AreTheSame on on' run run' moved moved'
-      the_same input moved moved' did did' (left, all, over) (left', all', over') =
-          let others : StreamBytes = record { input = left; output = []; errors = [] } in
-          let others' : StreamBytes = record { input = left'; output = []; errors = [] } in
-          let before : before_moving moved' others' ≡ before_moving moved others = λ k. record { input = (sym all' ∙ all) k; output = []; errors = [] } in
+      the_same input pieces moved moved' did did' gave gave' =
+          let left : List ℕ = gave.left in
+          let left' : List ℕ = gave'.left in
+          let later : List ℕ = gave.later in
+          let later' : List ℕ = gave'.later in
+          let others : StreamBytes = record { input = left; pieces = later; output = []; errors = [] } in
+          let others' : StreamBytes = record { input = left'; pieces = later'; output = []; errors = [] } in
+          let before : before_moving moved' others' ≡ before_moving moved others =
+          λ k. record { input = (sym gave'.bytes ∙ gave.bytes) k; pieces = (sym gave'.lengths ∙ gave.lengths) k; output = []; errors = [] } in
           let first : IsSameWorld (world_of h (before_moving moved others)) (world_of h' (before_moving moved' others')) =
           alike (before_moving moved others) ∙ ap (λ (b : StreamBytes). unplaced_world (world_of h' b)) (sym before) in
-          let (one, one_served, one_last, one_answers) = ran_over on run moved did served others over in
-          let (other, other_served, other_last, other_answers) = ran_over on' run' moved' did' served' others' over' in
+          let (one, one_served, one_last, one_answers) = ran_over on run moved did served others gave.ended in
+          let (other, other_served, other_last, other_answers) = ran_over on' run' moved' did' served' others' gave'.ended in
           let same = ends_alike World world.Calls i IsSameWorld has_failed answers_alike failures_stay (world_of h (before_moving moved others)) (world_of h' (before_moving moved' others'))
           (world_of last (after_moving moved others)) (world_of last' (after_moving moved' others')) c fuel fuel' outcome outcome' used used' first same_fuel one other within within' one_served other_served in
           let lefts : left ≡ left' = ap (λ (w : World). w.input) same.hosts in
           let inputs : moved.input ≡ moved'.input = append_cancel_right moved.input moved'.input left
-          (sym all ∙ (all' ∙ ap (λ (xs : List ℕ). moved'.input ++ xs) (sym lefts))) in
+          (sym gave.bytes ∙ (gave'.bytes ∙ ap (λ (xs : List ℕ). moved'.input ++ xs) (sym lefts))) in
+          let laters : later ≡ later' = ap (λ (w : World). w.pieces) same.hosts in
+          let found : moved.pieces ≡ moved'.pieces = append_cancel_right moved.pieces moved'.pieces later
+          (sym gave.lengths ∙ (gave'.lengths ∙ ap (λ (xs : List ℕ). moved'.pieces ++ xs) (sym laters))) in
           let outputs : moved.output ≡ moved'.output = ap (λ (w : World). w.output) same.hosts in
           let errors : moved.errors ≡ moved'.errors = ap (λ (w : World). w.errors) same.hosts in
           record {
@@ -147,24 +156,26 @@ module _ {D R W1 W2 D' R' W1' W2' : Type 0} (on : Devices D R W1 W2) (on' : Devi
             configuration = sym one_last ∙ (same.lasts ∙ other_last);
             calls = sym one_answers ∙ (same.told_same ∙ other_answers);
             tree = ap (λ (w : World). w.tree) same.hosts;
-            bytes = λ k. record { input = inputs k; output = outputs k; errors = errors k };
+            bytes = λ k. record { input = inputs k; pieces = found k; output = outputs k; errors = errors k };
           }
 
   -- ---- sessions
 
-  show_alike : (m : Module) (seed seed' : Option ℕ) (parts : HostParts D R W1 W2) (parts' : HostParts D' R' W1' W2') (s : SessionState D R W1 W2) (s' : SessionState D' R' W1' W2')
-      → AreAlike on on' parts parts' → seed ≡ seed' → OpensWith seed m parts s → OpensWith seed' m parts' s' → Shares on.device parts s → Shares on'.device parts' s'
+  show_alike : (m : Module) (seed seed' : Option ℕ) (terminals terminals' : Option Terminals) (parts : HostParts D R W1 W2) (parts' : HostParts D' R' W1' W2') (s : SessionState D R W1 W2) (s' : SessionState D' R' W1' W2')
+      → AreAlike on on' parts parts' → seed ≡ seed' → terminals ≡ terminals' → OpensWith seed terminals m parts s → OpensWith seed' terminals' m parts' s' → Shares on.device parts s → Shares on'.device parts' s'
       → on.device.honest parts.volume.device → on'.device.honest parts'.volume.device → ShowAlike on on' s.host s'.host
-  show_alike m seed seed' parts parts' s s' alike same_seed opens opens' shares shares' is_honest is_honest' b = λ k. record {
+  show_alike m seed seed' terminals terminals' parts parts' s s' alike same_seed same_terminals opens opens' shares shares' is_honest is_honest' b = λ k. record {
     volume = room k;
     tree = tree k;
     table = λ n. table n k;
     input = b.input;
+    pieces = b.pieces;
     input_ended = ended k;
     output = b.output;
     errors = b.errors;
     random = random k;
     given = given k;
+    interactive = talks k;
     volume_failed = failed k;
     input_failed = input_failed k;
     output_failed = output_failed k;
@@ -193,6 +204,9 @@ module _ {D R W1 W2 D' R' W1' W2' : Type 0} (on : Devices D R W1 W2) (on' : Devi
       random : supply s.host.generator s.host.settings.random.now ≡ supply s'.host.generator s'.host.settings.random.now
       random = λ k. supply ((opens.supply ∙ (ap (option_map seeded) same_seed ∙ sym opens'.supply)) k) (bytes k)
 
+      talks : s.host.interactive ≡ s'.host.interactive
+      talks = opens.interactive ∙ (same_terminals ∙ sym opens'.interactive)
+
       failed : s.host.volume.failed ≡ s'.host.volume.failed
       failed = shares.reads.kept.failed ∙ sym shares'.reads.kept.failed
 
@@ -206,10 +220,10 @@ module _ {D R W1 W2 D' R' W1' W2' : Type 0} (on : Devices D R W1 W2) (on' : Devi
       errors_failed = ap (λ x. x.failed) opens.err ∙ sym (ap (λ x. x.failed) opens'.err)
 
   pub same_report : SameReport on on'
-  same_report m seed seed' parts parts' s s' fuel fuel' report report' valid alike same_seed same_fuel opens opens' shares shares' is_honest is_honest' reports reports' = record {
+  same_report m seed seed' terminals terminals' parts parts' s s' fuel fuel' report report' valid alike same_seed same_terminals same_fuel opens opens' shares shares' is_honest is_honest' reports reports' = record {
     first = (first.instance, first_configuration first.entered first.store, first.stands, stands');
     alike = λ i c stands stands' served. same_run i c fuel fuel' s.host reports.last.host s'.host reports'.last.host report.outcome report'.outcome _ _
-        (shares.reads.kept.honest.0 is_honest) (shares'.reads.kept.honest.0 is_honest') (show_alike m seed seed' parts parts' s s' alike same_seed opens opens' shares shares' is_honest is_honest')
+        (shares.reads.kept.honest.0 is_honest) (shares'.reads.kept.honest.0 is_honest') (show_alike m seed seed' terminals terminals' parts parts' s s' alike same_seed same_terminals opens opens' shares shares' is_honest is_honest')
         same_fuel (reports.run i c stands) (reports'.run i c stands')
         (subst (λ (n : ℕ). n ≤ fuel) reports.used reports.within) (subst (λ (n : ℕ). n ≤ fuel') reports'.used reports'.within) served;
   }

@@ -19,6 +19,7 @@ use Rattle.wasm_store.specs.declared.call.HostCall.TheVariants as call
 use Rattle.wasi_calls.specs.World.{World, with_descriptor, moved_to, is_of, holds_below, held_open, least_closed, has_stream_failed, with_output}
 use Rattle.wasi_calls.specs.Checks.{Checked, ◌>>=◌, and_then, guard, Done, only_world, with_result, Refusals, of_kind, has, get, descriptor, opened_entry, entry_at}
 use Rattle.wasi_calls.specs.supplies.Rows.{sizes_get, texts_get, clock_res_get, clock_time_get, random_get}
+use Rattle.wasi_calls.specs.declared.streams.Terminals.{Terminals}
 use Rattle.wasi_calls.specs.descriptors.Rows.{fd_close, fd_fdstat_get, fd_filestat_get, fd_prestat_get, fd_prestat_dir_name, fd_seek, fd_tell, fdstat, stat_of, guest_name}
 use Rattle.wasi_calls.specs.files.Rows.{fd_read, fd_pread, fd_write, fd_pwrite, fd_filestat_set_size, fd_sync, fd_readdir, read_from, write_to, file_write}
 use Rattle.wasi_calls.specs.paths.Rows.{path_create_directory, path_filestat_get, path_open, path_remove_directory, path_rename, path_unlink_file, open_checks, open_entry, new_number, new_descriptor, rename_to}
@@ -98,9 +99,9 @@ has_kept : (d : Descriptor) (rights : ℕ) → has d rights ≡ has (unplaced d)
 has_kept (Stream s) rights = refl
 has_kept (Entry o) rights = refl
 
-fdstat_kept : (d : Descriptor) → fdstat d ≡ fdstat (unplaced d)
-fdstat_kept (Stream s) = refl
-fdstat_kept (Entry o) = refl
+fdstat_kept : (t : Option Terminals) (d : Descriptor) → fdstat t d ≡ fdstat t (unplaced d)
+fdstat_kept t (Stream s) = refl
+fdstat_kept t (Entry o) = refl
 
 stat_kept : (w : World) (d : Descriptor) → stat_of w d ≡ stat_of (U w) (unplaced d)
 stat_kept w (Stream s) = refl
@@ -183,7 +184,7 @@ close : (w : World) (fd : ℕ) → Both IsUnplaced (fd_close w fd) (fd_close (U 
 close w fd = after _ unplaced _ _ _ _ (got w fd) (λ d. ends _ _ _ (ap only_world (placed fd None w)))
 
 fdstat_get : (w : World) (m : List ℕ) (fd r : ℕ) → Both IsUnplaced (fd_fdstat_get w m fd r) (fd_fdstat_get (U w) m fd r)
-fdstat_get w m fd r = after _ unplaced _ _ _ _ (got w fd) (λ d. guarded _ _ _ _ _ _ refl (ends _ _ _ (ap (with_result (U w) r) (sym (fdstat_kept d)))))
+fdstat_get w m fd r = after _ unplaced _ _ _ _ (got w fd) (λ d. guarded _ _ _ _ _ _ refl (ends _ _ _ (ap (with_result (U w) r) (sym (fdstat_kept w.interactive d)))))
 
 filestat_get : (w : World) (m : List ℕ) (fd r : ℕ) → Both IsUnplaced (fd_filestat_get w m fd r) (fd_filestat_get (U w) m fd r)
 filestat_get w m fd r = after _ unplaced _ _ _ _ (described w fd _ _) (λ d. guarded _ _ _ _ _ _ refl (same _ _ _ _ _ (stat_kept w d) (λ _. ends _ _ _ refl)))

@@ -15,22 +15,22 @@ use Rattle.same_run.specs.Growth.{RefusesMemory, WasRefusedMemory}
 -- ---- bytes that move, one part after another
 
 abbrev nothing : StreamBytes
-nothing = record { input = []; output = []; errors = [] }
+nothing = record { input = []; pieces = []; output = []; errors = [] }
 
 same_output : (others : StreamBytes) → after_moving nothing others ≡ others
-same_output others = λ i. record { input = others.input; output = append-nil others.output i; errors = append-nil others.errors i }
+same_output others = λ i. record { input = others.input; pieces = others.pieces; output = append-nil others.output i; errors = append-nil others.errors i }
 
 abbrev both : StreamBytes → StreamBytes → StreamBytes
-both a b = record { input = a.input ++ b.input; output = a.output ++ b.output; errors = a.errors ++ b.errors }
+both a b = record { input = a.input ++ b.input; pieces = a.pieces ++ b.pieces; output = a.output ++ b.output; errors = a.errors ++ b.errors }
 
 abbrev beside_second : StreamBytes → StreamBytes → StreamBytes
-beside_second a others = record { input = others.input; output = others.output ++ a.output; errors = others.errors ++ a.errors }
+beside_second a others = record { input = others.input; pieces = others.pieces; output = others.output ++ a.output; errors = others.errors ++ a.errors }
 
 before_both : (a b others : StreamBytes) → before_moving a (before_moving b others) ≡ before_moving (both a b) others
-before_both a b others = λ i. record { input = sym (append_assoc a.input b.input others.input) i; output = others.output; errors = others.errors }
+before_both a b others = λ i. record { input = sym (append_assoc a.input b.input others.input) i; pieces = sym (append_assoc a.pieces b.pieces others.pieces) i; output = others.output; errors = others.errors }
 
 after_both : (a b others : StreamBytes) → after_moving b (beside_second a others) ≡ after_moving (both a b) others
-after_both a b others = λ i. record { input = others.input; output = append_assoc others.output a.output b.output i; errors = append_assoc others.errors a.errors b.errors i }
+after_both a b others = λ i. record { input = others.input; pieces = others.pieces; output = append_assoc others.output a.output b.output i; errors = append_assoc others.errors a.errors b.errors i }
 
 -- a reader that gave all that it told has none later on
 no_more : (xs ys : List ℕ) → [] ≡ xs ++ ys → ys ≡ []
@@ -58,7 +58,7 @@ module _ {D R W1 W2 : Type 0} (on : Devices D R W1 W2) where
   Moves = StreamsMove on.input.remaining on.out.contents on.err.contents
 
   rest : (h : H) → Moves h h nothing
-  rest h = record { input = Consumes-nil (on.input.remaining h.input.reader); output = Appends-nil (on.out.contents h.out.writer); errors = Appends-nil (on.err.contents h.err.writer); ended = λ is. (refl, is); end = λ is. inl is }
+  rest h = record { input = Consumes-nil (on.input.remaining h.input.reader); output = Appends-nil (on.out.contents h.out.writer); errors = Appends-nil (on.err.contents h.err.writer); ended = λ is. (refl, is); end = λ is. inl is; pieces = λ is. (refl, is) }
 
   moves_on : (h g h' : H) (a b : StreamBytes) → Moves h g a → Moves g h' b → Moves h h' (both a b)
   moves_on h g h' a b first second = record {
@@ -76,6 +76,10 @@ module _ {D R W1 W2 : Type 0} (on : Devices D R W1 W2) where
       ]
       | inr none ↦ inr (none_before _ _ _ a.input first.input none)
     ];
+    pieces = λ is.
+        let one = first.pieces is in
+        let two = second.pieces one.1 in
+        ((λ i. one.0 i ++ two.0 i), two.1);
   }
 
   -- what may follow the second is what may follow the first, with the bytes of the second

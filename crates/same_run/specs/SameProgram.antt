@@ -10,17 +10,19 @@ use Rattle.sandbox_core.specs.Session.{given}
 use Rattle.sandbox_words.specs.declared.request.Run.{Run}
 use Rattle.sandbox_words.specs.Request.{Text, texts, arguments_of}
 use Rattle.sandbox_command.specs.declared.program.Executed.{Executed}
-use Rattle.sandbox_command.specs.Supplies.{AreSettings, directories_of}
+use Rattle.sandbox_command.specs.Supplies.{AreSettings, directories_of, terminals_of}
 use Rattle.sandbox_command.specs.Running.{Ran, counted_devices}
 use Rattle.same_run.specs.SameRun.{TellTheSame}
 
--- What the words of two runs hand out is the same: arguments, environment, directories, moment, seed, pages and fuel.
+-- What the words of two runs hand out is the same: arguments, environment, directories, moment, seed, pages and fuel; and both are
+-- interactive with the same terminals, or neither.
 pub record HandOutTheSame (run run' : Run) : Type 0 where
   pub arguments : arguments_of run ≡ arguments_of run'
   pub environment : texts run.env.items ≡ texts run'.env.items
   pub directories : directories_of run ≡ directories_of run'
   pub moment : run.moment ≡ run'.moment
   pub seed : run.seed ≡ run'.seed
+  pub terminals : terminals_of run ≡ terminals_of run'
   pub pages : run.limits.pages ≡ run'.limits.pages
   pub fuel : run.limits.fuel ≡ run'.limits.fuel
 

@@ -12,6 +12,7 @@ use Rattle.wasm_interp.specs.Machine.{Represents}
 use Rattle.wasi_calls.specs.declared.host.settings.Preopen.{Preopen}
 use Rattle.wasi_calls.specs.declared.host.settings.Settings.{Settings}
 use Rattle.wasi_calls.specs.declared.host.wasi_host.HostParts.{HostParts}
+use Rattle.wasi_calls.specs.declared.streams.Terminals.{Terminals}
 use Rattle.wasi_calls.specs.World.{World}
 use Rattle.wasi_calls.specs.Calls as world
 use Rattle.wasi_calls.specs.host.Worlds.{HostState, StreamBytes, StreamsMove, MayFollow, before_moving, after_moving}
@@ -40,9 +41,14 @@ pub record AreSameSupplies (s s' : Settings) : Type 0 where
   pub random : s.random.now ≡ s'.random.now
   pub pages : s.pages ≡ s'.pages
 
--- The reader gave a beginning of these bytes, and all of them where the input has ended.
-abbrev pub GaveOf : {D R W1 W2 : Type 0} → List ℕ → HostState D R W1 W2 → StreamBytes → Type 0
-GaveOf input last moved = (left : List ℕ) × (input ≡ moved.input ++ left) × (last.input.ended ≡ true → left ≡ [])
+-- The reader gave a beginning of these bytes, and all of them where the input has ended. In an interactive run its reads found
+-- pieces of them that have a beginning of these lengths; without one there are none (`StreamsMove`).
+pub record GaveOf {D R W1 W2 : Type 0} (input pieces : List ℕ) (last : HostState D R W1 W2) (moved : StreamBytes) : Type 0 where
+  pub left : List ℕ
+  pub bytes : input ≡ moved.input ++ left
+  pub ended : last.input.ended ≡ true → left ≡ []
+  pub later : List ℕ
+  pub lengths : pieces ≡ moved.pieces ++ later
 
 module _ {D R W1 W2 : Type 0} (on : Devices D R W1 W2) {i : Instance} {c : Configuration} {fuel : ℕ}
     {h last : HostState D R W1 W2} {outcome : Outcome} {used : ℕ} where
@@ -79,8 +85,8 @@ module _ {D R W1 W2 D' R' W1' W2' : Type 0} (on : Devices D R W1 W2) (on' : Devi
         (run' : RunsWithin (Calls on') i h' c fuel' last' outcome' used') : Type 0 where
       pub some : (moved : StreamBytes) × ReadAndWrote on run moved
       pub some' : (moved : StreamBytes) × ReadAndWrote on' run' moved
-      pub same : (input : List ℕ) (moved moved' : StreamBytes) → ReadAndWrote on run moved → ReadAndWrote on' run' moved'
-          → GaveOf input last moved → GaveOf input last' moved' → AreTheSame run run' moved moved'
+      pub same : (input pieces : List ℕ) (moved moved' : StreamBytes) → ReadAndWrote on run moved → ReadAndWrote on' run' moved'
+          → GaveOf input pieces last moved → GaveOf input pieces last' moved' → AreTheSame run run' moved moved'
 
     -- The host failed in neither: no growth within the limit and no room for the stacks was refused, no stream failed, and
     -- no device.
@@ -114,13 +120,14 @@ module _ {D R W1 W2 D' R' W1' W2' : Type 0} (on : Devices D R W1 W2) (on' : Devi
         → AreServed (reports.run i c stands) (reports'.run i c stands')
         → RunAlike (reports.run i c stands) (reports'.run i c stands')
 
-  -- Two sessions of a valid module, with the same supplies, the same tree and the same seed or none, that were run with
-  -- the same fuel, on devices that keep their models: the reports are those of the same run.
+  -- Two sessions of a valid module, with the same supplies, the same tree and the same seed or none, both interactive with the
+  -- same terminals or neither, that were run with the same fuel, on devices that keep their models: the reports are those of
+  -- the same run.
   abbrev pub SameReport : Type 0
-  SameReport = (m : Module) (seed seed' : Option ℕ) (parts : HostParts D R W1 W2) (parts' : HostParts D' R' W1' W2')
+  SameReport = (m : Module) (seed seed' : Option ℕ) (terminals terminals' : Option Terminals) (parts : HostParts D R W1 W2) (parts' : HostParts D' R' W1' W2')
       (s : SessionState D R W1 W2) (s' : SessionState D' R' W1' W2') (fuel fuel' : ℕ)
       (report : Report D R W1 W2) (report' : Report D' R' W1' W2')
-      → IsValid m → AreAlike parts parts' → seed ≡ seed' → fuel ≡ fuel'
-      → OpensWith seed m parts s → OpensWith seed' m parts' s' → Shares on.device parts s → Shares on'.device parts' s'
+      → IsValid m → AreAlike parts parts' → seed ≡ seed' → terminals ≡ terminals' → fuel ≡ fuel'
+      → OpensWith seed terminals m parts s → OpensWith seed' terminals' m parts' s' → Shares on.device parts s → Shares on'.device parts' s'
       → on.device.honest parts.volume.device → on'.device.honest parts'.volume.device
       → (reports : Reports on s fuel report) → (reports' : Reports on' s' fuel' report') → TellTheSame reports reports'

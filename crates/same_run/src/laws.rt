@@ -23,7 +23,7 @@ pub fn one_next_step<H: Host>()
 {}
 
 /// A world answers the same to the same question, unless the volume or a stream failed in the call; and what has failed
-/// stays failed. A read that gave fewer bytes than are there, a clock that told the time of day, or a list of a directory in
+/// stays failed. A read that gave fewer bytes than are there (or than an interactive one finds), a clock that told the time of day, or a list of a directory in
 /// the order of some table would make this false.
 pub fn worlds_answer_once()
     ensures once { AnswersOnce World world.Calls has_failed }

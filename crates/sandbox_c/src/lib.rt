@@ -7,7 +7,7 @@ ghost use Rattle.vol_sector.specs.Record.{image_of};
 ghost use Rattle.vol_tree.specs.Fresh.{fresh};
 ghost use Rattle.vol_tree.specs.Stands.{StandsAs, empty_tree};
 ghost use Rattle.wasm_module.specs.declared.module.Module.{Module as ModuleValue};
-ghost use Rattle.sandbox_host.specs.Sessions.{running, finished, loaded, prepared, has_session, has_module, module_of, output, most_of, was_filled, sectors};
+ghost use Rattle.sandbox_host.specs.Sessions.{running, finished, loaded, prepared, bytes_of, has_session, has_module, module_of, output, most_of, was_filled, sectors};
 ghost use Rattle.sandbox_host.specs.Sessions.{IsLoaded, IsShown, Begins, BeginsFrom, Paused, Finishes};
 ghost use Rattle.sandbox_host.specs.Recording.{recorded, operation_of, told_operation};
 ghost use Rattle.sandbox_host.specs.Supplies.{most_pages};
@@ -26,7 +26,7 @@ use std::alloc::Global;
 /// The version of the archive.
 #[unsafe(no_mangle)]
 pub extern "C" fn sandbox_version() -> u32
-    ensures { result ≡ 9007 }
+    ensures { result ≡ 9008 }
 {
     sandbox_host::VERSION
 }
@@ -84,6 +84,7 @@ pub extern "C" fn sandbox_open(
         → IsSomeAnd (running session.new.held) (BeginsFrom «module».now supplies.now origin) × (why.new ≡ why.old)) }
     ensures refused { is_none session.old.held ≡ true → IfSome (origin_of volume.now) (λ origin. result ≢ 0
         → (session.new.held ≡ None) × NotOpened «module».now supplies.now origin result why.old why.new) }
+    ensures bytes { result ≡ 0 → bytes_of session.new.held ≡ «module».now }
 {
     sandbox_host::open(alloc, session, module, supplies, volume, why)
 }
@@ -102,6 +103,7 @@ pub extern "C" fn sandbox_load(
         → IsSomeAnd (loaded «module».new.held) (IsLoaded bytes.now) × (prepared «module».new.held ≡ None) × (why.new ≡ why.old) }
     ensures refused { is_none «module».old.held ≡ true → result ≢ 0 → («module».new.held ≡ None)
         × (((result ≡ why.new.fault) × NotLoaded bytes.now why.new) ⊎ ((result ≡ 40) × (why.new ≡ why.old))) }
+    ensures bytes { result ≡ 0 → bytes_of «module».new.held ≡ bytes.now }
 {
     sandbox_host::load_module(alloc, module, bytes, why)
 }
@@ -123,6 +125,7 @@ pub extern "C" fn sandbox_prepare(
         → IsSomeAnd (prepared «module».new.held) (λ ready. ready.pages ≡ most_pages limits.now) }
     ensures refused { is_none «module».old.held ≡ true → result ≢ 0 → («module».new.held ≡ None)
         × NotPrepared bytes.now limits.now result why.old why.new }
+    ensures bytes { result ≡ 0 → bytes_of «module».new.held ≡ bytes.now }
 {
     sandbox_host::prepare(alloc, module, bytes, limits, why)
 }
@@ -140,6 +143,7 @@ pub extern "C" fn sandbox_module_share(
         → (loaded other.new.held ≡ Some ready.valid) × (prepared other.new.held ≡ Some ready)) }
     ensures refused { is_none other.old.held ≡ true → has_module «module».old.held ≡ true → IfSome (prepared «module».old.held) (λ ready. result ≢ 0
         → (result ≡ 40) × (other.new.held ≡ None)) }
+    ensures bytes { result ≡ 0 → bytes_of other.new.held ≡ bytes_of «module».old.held }
     ensures kept { «module».new.held ≡ «module».old.held }
 {
     sandbox_host::share(alloc, other, module)
@@ -163,6 +167,7 @@ pub extern "C" fn sandbox_open_loaded(
     ensures refused { is_none session.old.held ≡ true → IfSome (origin_of volume.now) (λ origin.
         IfSome (loaded «module».old.held) (λ m. result ≢ 0 → (session.new.held ≡ session.old.held)
         × («module».new.held ≡ «module».old.held) × NotBegunOf (prepared «module».old.held) m supplies.now origin result)) }
+    ensures bytes { result ≡ 0 → bytes_of session.new.held ≡ bytes_of «module».old.held }
 {
     sandbox_host::open_loaded(alloc, session, module, supplies, volume)
 }
@@ -180,6 +185,7 @@ pub extern "C" fn sandbox_resume(
     ensures resumed { IfSome (running session.old.held) (λ old. (result ≡ 0)
         × IsSomeAnd (running session.new.held) (λ new. Paused units old new told.new)) }
     ensures prepared { prepared session.new.held ≡ prepared session.old.held }
+    ensures bytes { bytes_of session.new.held ≡ bytes_of session.old.held }
 {
     sandbox_host::resume(alloc, session, units, told)
 }
@@ -223,7 +229,7 @@ pub extern "C" fn sandbox_frame_at(
     ensures none { IfSome (running session.old.held) (λ s. slice_get (frames_of s.machine) number ≡ None
         → (result ≡ 101) × (told.new ≡ told.old)) }
     ensures told { IfSome (running session.old.held) (λ s. IfSome (slice_get (frames_of s.machine) number) (λ frame. (result ≡ 0)
-        × TellsFrame s.machine.valid frame told.new)) }
+        × TellsFrame (bytes_of session.old.held) s.machine.valid number frame told.new)) }
     ensures kept { session.new.held ≡ session.old.held }
 {
     sandbox_host::frame_at(alloc, session, number, told)
@@ -246,6 +252,7 @@ pub extern "C" fn sandbox_finish(alloc: Global, session: &mut Handle) -> u32
     ensures finished { IfSome (running session.old.held) (λ s.
         IsSomeAnd (finished session.new.held) (λ e. Finishes s e result)) }
     ensures prepared { prepared session.new.held ≡ prepared session.old.held }
+    ensures bytes { bytes_of session.new.held ≡ bytes_of session.old.held }
 {
     sandbox_host::finish(alloc, session)
 }
@@ -303,6 +310,7 @@ pub extern "C" fn sandbox_close_loaded(
     ensures closed { IfSome (finished session.old.held) (λ e. is_none «module».old.held ≡ true
         → (result ≡ 0) × (session.new.held ≡ None) × (loaded «module».new.held ≡ Some (module_of e.loaded))
         × (prepared «module».new.held ≡ prepared session.old.held)) }
+    ensures bytes { result ≡ 0 → bytes_of «module».new.held ≡ bytes_of session.old.held }
 {
     sandbox_host::close_loaded(alloc, session, module)
 }

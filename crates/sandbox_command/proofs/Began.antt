@@ -47,14 +47,6 @@ module _ (H : Type 0) (Calls : CallsOf H) (disk : H → Disk) (numbers : H → S
           (h, record { at = c; before = []; after = es; parts = refl; comes = stays; goes_on = run }, subst (λ (U : Tree). StandsAs m (numbers h) U) is r.stands)
       on m (inr other) = other
 
--- what a host is made of, of streams that are counted from here on
-pub counting_from : {D R W1 W2 : Type 0} (run : Run) (parts : HostParts D R W1 W2) (input : Counted R) (out : Counted W1) (err : Counted W2)
-    → input ≡ from_here (2 ^ 64 - 1) parts.input → out ≡ from_here (output_of run) parts.out → err ≡ from_here (output_of run) parts.err
-    → given parts.settings parts.volume input out err ≡ counting run parts
-counting_from run parts input out err in_is out_is err_is =
-    ap (λ r. given parts.settings parts.volume r out err) in_is ∙ ap (λ w. given parts.settings parts.volume (from_here (2 ^ 64 - 1) parts.input) w err) out_is
-    ∙ ap (λ w. given parts.settings parts.volume (from_here (2 ^ 64 - 1) parts.input) (from_here (output_of run) parts.out) w) err_is
-
 -- the device of what is handed back
 pub device_back : {D : Type 0} (v : Opened D) (result : Result (Opened D) (Refused D)) → IsHandedBack v result → returned_device result ≡ v.device
 device_back v (Ok w) same = ap (λ o. o.device) same

@@ -1,5 +1,5 @@
 -- Where the fuel of a run went: its stacks, and what is told of them.
-use Rattle.std.proofs.Common.{◌≡◌, ℕ, List, Option, Some, None, refl, sym, subst}
+use Rattle.std.proofs.Common.{◌≡◌, ℕ, List, Option, Some, None, length, refl, sym, subst}
 use Rattle.std.specs.Prelude.{IfSome}
 use Rattle.std.specs.Borrow.{Bor}
 use Rattle.run_profile.specs.Stacks.{Stacks}
@@ -16,11 +16,11 @@ use Rattle.sandbox_command.specs.declared.profiling.FuelUse.{FuelUse}
 use Rattle.sandbox_command.specs.declared.stopping.Stopped.{Stopped}
 use Rattle.sandbox_command.specs.Alone.{IsLedger, file_of, stacks_of}
 use Rattle.sandbox_command.specs.Places.{IsOfName}
-use Rattle.sandbox_command.specs.Profiling.{AreCharged, ReportsCharged, IsThere, IsFuelUse, IsUseOf, TellsUse, no_stacks}
+use Rattle.sandbox_command.specs.Profiling.{AreCharged, ReportsCharged, IsThere, IsFuelUse, IsUseWith, TellsUse, no_stacks}
 
 module _ {D R W1 W2 : Type 0} (every : ℕ) (first : SessionState D R W1 W2) (resumes : History (SessionState D R W1 W2)) (used : ℕ) (m : Module) where
   -- what is told of stacks that have the units of a run
-  pub use_of : (stacks : Option Stacks) (usage : Option FuelUse) → IsUseOf stacks m usage → AreCharged every first resumes used stacks → IsFuelUse every first resumes used m usage
+  pub use_of : (stacks : Option Stacks) (usage : Option FuelUse) → IsUseWith stacks (length m.imports) usage → AreCharged every first resumes used stacks → IsFuelUse every first resumes used m usage
   use_of None usage is charged = subst (λ (u : Option FuelUse). IsFuelUse every first resumes used m u) (sym is) tt
   use_of (Some stacks) usage is charged = subst (λ (u : Option FuelUse). IsFuelUse every first resumes used m u) (sym is) (charged, refl)
 
@@ -34,9 +34,9 @@ charged_from on session fuel slice every report tally room depth old new none is
 }
 
 -- and it is told where there are some
-pub told_use : (given : Option Stacks) (stacks : Option Stacks) (m : Module) (usage : Option FuelUse) → (IsThere given → IsThere stacks) → IsUseOf stacks m usage → IsThere given → IsThere usage
-told_use given None m usage kept is some = absurd (kept some)
-told_use given (Some stacks) m usage kept is some = subst IsThere (sym is) tt
+pub told_use : (given : Option Stacks) (stacks : Option Stacks) (imported : ℕ) (usage : Option FuelUse) → (IsThere given → IsThere stacks) → IsUseWith stacks imported usage → IsThere given → IsThere usage
+told_use given None imported usage kept is some = absurd (kept some)
+told_use given (Some stacks) imported usage kept is some = subst IsThere (sym is) tt
 
 pub tells_use : (given : Option Stacks) (end : Option Stopped) (stopped : Stopped) → end ≡ Some stopped → (IsThere given → IsThere stopped.fuel_use) → TellsUse given end
 tells_use None end stopped is tells = tt

@@ -1,5 +1,5 @@
 -- A run is what is said of it: one that gets no volume, or no session, or whose guest ran.
-use Rattle.std.proofs.Common.{◌≡◌, ◌-◌, ◌^◌, ℕ, true, List, take, Option, Some, inl, inr, sym, ◌∙◌, ap, subst}
+use Rattle.std.proofs.Common.{◌≡◌, ℕ, true, List, length, Option, Some, inl, inr, sym, ◌∙◌, ap, subst}
 use Rattle.std.specs.Io.KnownBytes.{Keeps}
 use Rattle.std.proofs.KnownBytes.{Keeps-refl}
 use Rattle.vol_sector.specs.Disk.{Leaves}
@@ -10,13 +10,8 @@ use Rattle.wasm_module.specs.declared.module.Module.{Module}
 use Rattle.wasm_steps.specs.Configuration.{first_configuration}
 use Rattle.wasi_calls.specs.declared.host.wasi_host.HostParts.{HostParts}
 use Rattle.sandbox_core.specs.declared.session.RefusedSession.{RefusedSession}
-use Rattle.sandbox_core.specs.declared.report.Report.{Report}
-use Rattle.sandbox_core.specs.declared.tally.Tally.{Tally}
 use Rattle.sandbox_core.specs.Devices.{Calls, Devices, disk_of, numbers_of, tree_of}
 use Rattle.vol_tree.proofs.GoingOn.{goes_then}
-use Rattle.wasm_interp.specs.declared.frames.Frame.{Frame}
-use Rattle.wasm_interp.specs.Frames.{frames_of}
-use Rattle.run_profile.specs.Stacks.{Stacks}
 use Rattle.sandbox_core.specs.Runs.{StandsInRun}
 use Rattle.sandbox_core.specs.Session.{HandsBack, IsRefused, Opens, SessionState, Shares, given, limited_to}
 use Rattle.sandbox_core.proofs.Headline.{reach_moves}
@@ -27,19 +22,18 @@ use Rattle.volume_tasks.specs.Volumes.{IsOpenFor, IsRefusedFor}
 use Rattle.sandbox_words.specs.declared.request.Run.{Run}
 use Rattle.sandbox_words.specs.Request.{Text}
 use Rattle.sandbox_command.specs.declared.program.Executed.{Executed}
-use Rattle.sandbox_command.specs.declared.stopping.Stopped.{Stopped}
-use Rattle.sandbox_command.proofs.Frames.{first_frames}
 use Rattle.sandbox_command.proofs.Charged.{use_of}
-use Rattle.sandbox_command.specs.Profiling.{IsUseOf, ReportsCharged, slice_of}
-use Rattle.sandbox_command.specs.internal.Seeds.{with_seed}
+use Rattle.sandbox_command.specs.Profiling.{IsUseWith, slice_of}
+use Rattle.sandbox_command.specs.internal.Seeds.{prepared_by}
+use Rattle.sandbox_command.specs.internal.Sessions.{RunsSession}
 use Rattle.sandbox_command.specs.Execution.{RunsOn}
-use Rattle.sandbox_command.specs.Reporting.{counting, from_here, kept_where_not_begun, kept_where_refused, not_run, output_of, run_summary, session_reason, volume_of}
-use Rattle.sandbox_command.specs.Running.{Launches, counted_devices, returned_device}
-use Rattle.sandbox_command.specs.Status.{EndsWith, session_status, volume_status}
+use Rattle.sandbox_command.specs.Reporting.{counting, kept_where_not_begun, kept_where_refused, not_run, session_reason, volume_of}
+use Rattle.sandbox_command.specs.Running.{Launches, counted_devices}
+use Rattle.sandbox_command.specs.Status.{session_status, volume_status}
 use Rattle.sandbox_command.specs.Streams.{IsSilent}
 use Rattle.sandbox_command.specs.Supplies.{AreSettings}
-use Rattle.sandbox_command.proofs.Began.{began, counting_from, device_back, launch_honest, opened_honest, whole_crash}
-use Rattle.sandbox_command.proofs.Seeding.{opens_seeded, shares_seeded}
+use Rattle.sandbox_command.proofs.Began.{began, device_back, launch_honest, opened_honest, whole_crash}
+use Rattle.sandbox_command.proofs.Seeding.{opens_prepared, shares_prepared}
 
 -- the streams that came in
 pub kept_streams : {D R W1 W2 : Type 0} (outs : W1 → Option (List ℕ)) (errs : W2 → Option (List ℕ)) (input : R) (out : W1) (err : W2) (left : Executed D R W1 W2)
@@ -88,55 +82,55 @@ module _ {D R W1 W2 : Type 0} (device : Ghosts D) (remaining : R → Option (Lis
 
   -- ---- its session, whose streams are counted from its beginning on
 
-  module _ (parts : HostParts D R W1 W2) (input : Counted R) (out : Counted W1) (err : Counted W2) (in_is : input ≡ from_here (2 ^ 64 - 1) parts.input) (out_is : out ≡ from_here (output_of run) parts.out) (err_is : err ≡ from_here (output_of run) parts.err) where
+  abbrev Launched : HostParts D R W1 W2 → Executed D R W1 W2 → Type 0
+  Launched parts left = Launches device.honest device.disk device.size device.failures device.goes_on remaining outs errs m run parts left
+
+  module _ (parts : HostParts D R W1 W2) (taken : HostParts D (Counted R) (Counted W1) (Counted W2)) (same : taken ≡ counting run parts) where
     abbrev on : Devices D (Counted R) (Counted W1) (Counted W2)
     on = counted_devices device.honest device.disk device.size device.failures device.goes_on remaining outs errs
 
-    abbrev handed : HostParts D (Counted R) (Counted W1) (Counted W2)
-    handed = given parts.settings parts.volume input out err
+    abbrev handed : HostParts D (Counted R) (Counted W1) (Counted W2) → HostParts D (Counted R) (Counted W1) (Counted W2)
+    handed p = given p.settings p.volume p.input p.out p.err
 
-    pub ran : (begun : SessionState D (Counted R) (Counted W1) (Counted W2)) → Opens m handed begun → Shares device handed begun
-        → (report : Report D (Counted R) (Counted W1) (Counted W2)) (tally : Tally) (room : List Frame) (depth : ℕ) (stacks : Option Stacks) → ReportsCharged on (with_seed run.seed (limited_to run.limits.values begun)) run.limits.fuel (slice_of run) report tally room depth stacks
-        → (stopped : Stopped) → stopped.depth ≡ depth → stopped.innermost.items ≡ take depth room → IsUseOf stacks m stopped.fuel_use
-        → (left : Executed D R W1 W2) → left.stopped ≡ Some stopped → EndsWith report.outcome report.volume left.flushed left.status → left.summary ≡ Some (run_summary run report tally left.status left.flushed)
-        → left.device ≡ returned_device report.volume → left.input ≡ report.input.stream → Keeps (outs report.out.stream) (outs left.out) → Keeps (errs report.err.stream) (errs left.err)
-        → Launches device.honest device.disk device.size device.failures device.goes_on remaining outs errs m run parts left
-    ran begun opening sharing report tally room depth stacks reported stopped depth_is taken used left stopped_is ends summary is from out_keeps err_keeps =
-        let told = reported.told in
-        let counted = told.counted in
-        let same = counting_from run parts input out err in_is out_is err_is in
+    pub ran : (begun : SessionState D (Counted R) (Counted W1) (Counted W2)) → Opens m (handed taken) begun → Shares device (handed taken) begun
+        → (imported : ℕ) → imported ≡ length m.imports → (left : Executed D R W1 W2)
+        → RunsSession device.honest device.disk device.size device.failures device.goes_on remaining outs errs run imported begun left → Launched parts left
+    ran begun opening sharing imported counts left it =
+        let counted = it.reported.told.counted in
         let limited = limited_to run.limits.values begun in
-        let s = with_seed run.seed limited in
-        let opens = opens_seeded m (counting run parts) limited run.seed
-        (opens_limited m (counting run parts) begun run.limits.values (subst (λ (p : HostParts D (Counted R) (Counted W1) (Counted W2)). Opens m p begun) same opening)) in
-        let shares = shares_seeded device (counting run parts) limited run.seed
-        (shares_limited device (counting run parts) begun run.limits.values (subst (λ (p : HostParts D (Counted R) (Counted W1) (Counted W2)). Shares device p begun) same sharing)) in
+        let s = prepared_by run limited in
+        let opens = opens_prepared m (counting run parts) limited run
+        (opens_limited m (counting run parts) begun run.limits.values (subst (λ (p : HostParts D (Counted R) (Counted W1) (Counted W2)). Opens m (handed p) begun) same opening)) in
+        let shares = shares_prepared device (counting run parts) limited run
+        (shares_limited device (counting run parts) begun run.limits.values (subst (λ (p : HostParts D (Counted R) (Counted W1) (Counted W2)). Shares device (handed p) begun) same sharing)) in
         let i = opens.starts.instance in
         let slice = slice_of run in
         let first = first_configuration opens.starts.entered opens.starts.store in
         let reports = counted.reports in
         let last = reports.last.host in
         let run = reports.run i first opens.starts.stands in
-        let back = is ∙ device_back reports.volume.new report.volume reports.volume.handed_back in
+        let back = it.device ∙ device_back reports.volume.new it.report.volume reports.volume.handed_back in
         inr (record {
           session = s;
           opens = opens;
           shares = shares;
-          report = report;
-          tally = tally;
+          report = it.report;
+          tally = it.tally;
           counted = counted;
-          stopped = stopped;
-          is_stopped = stopped_is;
-          frames = first_frames (frames_of reports.last.machine) room depth stopped told.frames depth_is taken;
-          fuel_use = use_of slice s reports.resumes report.used m stacks stopped.fuel_use used reported.charged;
+          stopped = it.stopped;
+          is_stopped = it.is_stopped;
+          frames = it.frames;
+          answers = it.answers;
+          fuel_use = use_of slice s reports.resumes it.report.used m it.stacks it.stopped.fuel_use
+              (subst (λ (n : ℕ). IsUseWith it.stacks n it.stopped.fuel_use) counts it.fuel_use) it.reported.charged;
           goes = λ end le earlier before. subst (λ (d : D). device.goes_on end earlier d) (sym back)
               (goes_then device.goes_on parts.volume s.host.volume reports.volume.new shares.reads.kept.numbers shares.reads.goes reports.goes end le earlier before);
-          ends = ends;
-          summary = summary;
-          device = is;
-          input = from ∙ ap (λ (r : Counted R). r.stream) reports.input;
-          out = subst (λ (w : Counted W1). Keeps (outs w.stream) (outs left.out)) reports.out out_keeps;
-          err = subst (λ (w : Counted W2). Keeps (errs w.stream) (errs left.err)) reports.err err_keeps;
+          ends = it.ends;
+          summary = it.summary;
+          device = it.device;
+          input = it.input ∙ ap (λ (r : Counted R). r.stream) reports.input;
+          out = subst (λ (w : Counted W1). Keeps (outs w.stream) (outs left.out)) reports.out it.out;
+          err = subst (λ (w : Counted W2). Keeps (errs w.stream) (errs left.err)) reports.err it.err;
           over_paths = λ h. reach_moves on i s.host last first run.last run.answers run.reach (shares.reads.kept.honest.0 h);
           crash = λ h lasts.
               subst (λ (d : D). Leaves (device.disk parts.volume.device) (device.disk d) (StandsInRun (Calls on) numbers_of tree_of run))
@@ -146,21 +140,23 @@ module _ {D R W1 W2 : Type 0} (device : Ghosts D) (remaining : R → Option (Lis
               lasts (shares.reads.crash h) (reports.crash (shares.reads.kept.honest.0 h) i first opens.starts.stands));
         })
 
-    pub no_session : (r : RefusedSession D (Counted R) (Counted W1) (Counted W2)) → HandsBack device m handed r → IsRefused device.honest r.fault m handed
+    pub no_session : (r : RefusedSession D (Counted R) (Counted W1) (Counted W2)) → HandsBack device m (handed taken) r → IsRefused device.honest r.fault m (handed taken)
         → (left : Executed D R W1 W2) → left.status ≡ session_status r.fault → left.flushed ≡ true → left.summary ≡ Some (not_run run (session_reason r.fault) (kept_where_not_begun run.volume r.fault) left.status)
         → left.device ≡ r.parts.volume.device → left.input ≡ r.parts.input.stream → left.out ≡ r.parts.out.stream → left.err ≡ r.parts.err.stream
-        → Launches device.honest device.disk device.size device.failures device.goes_on remaining outs errs m run parts left
-    no_session r hands refused left ends flushed summary is from out_from err_from = inl (record {
-      fault = r.fault;
-      refused = subst (λ (p : HostParts D (Counted R) (Counted W1) (Counted W2)). IsRefused device.honest r.fault m p) (counting_from run parts input out err in_is out_is err_is) refused;
-      volume = r.parts.volume;
-      kept = hands.volume;
-      device = is;
-      ends = ends;
-      flushed = flushed;
-      summary = summary;
-      streams = kept_streams outs errs parts.input parts.out parts.err left
-          (from ∙ ap (λ (r : Counted R). r.stream) (hands.input ∙ in_is))
-          (out_from ∙ ap (λ (w : Counted W1). w.stream) (hands.out ∙ out_is))
-          (err_from ∙ ap (λ (w : Counted W2). w.stream) (hands.err ∙ err_is));
-    })
+        → Launched parts left
+    no_session r back refused left ends flushed summary is from out_from err_from =
+        let hands = subst (λ (p : HostParts D (Counted R) (Counted W1) (Counted W2)). HandsBack device m (handed p) r) same back in
+        inl (record {
+          fault = r.fault;
+          refused = subst (λ (p : HostParts D (Counted R) (Counted W1) (Counted W2)). IsRefused device.honest r.fault m (handed p)) same refused;
+          volume = r.parts.volume;
+          kept = hands.volume;
+          device = is;
+          ends = ends;
+          flushed = flushed;
+          summary = summary;
+          streams = kept_streams outs errs parts.input parts.out parts.err left
+              (from ∙ ap (λ (r : Counted R). r.stream) hands.input)
+              (out_from ∙ ap (λ (w : Counted W1). w.stream) hands.out)
+              (err_from ∙ ap (λ (w : Counted W2). w.stream) hands.err);
+        })

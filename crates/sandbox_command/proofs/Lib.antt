@@ -8,6 +8,8 @@ mod Unbegun
 mod Bounds
 mod Finishing
 mod Frames
+mod Formatted
+mod Answered
 mod AfterFlush
 mod Seeding
 mod Charged

@@ -1,10 +1,13 @@
--- A session with the random bytes of a seed is what it was but for them.
+-- A session with the random bytes of a seed, or interactive, is what it was but for that.
 use Rattle.std.proofs.Common.{◌≡◌, ℕ, Option, None, Some, refl, ap, sym, subst}
 use Rattle.vol_sector.specs.declared.device.Device.{Ghosts}
 use Rattle.wasm_module.specs.declared.module.Module.{Module}
 use Rattle.wasi_calls.specs.declared.host.wasi_host.HostParts.{HostParts}
-use Rattle.sandbox_core.specs.Session.{Opens, OpensWith, SessionState, Shares, seeded_by}
-use Rattle.sandbox_command.specs.internal.Seeds.{with_seed}
+use Rattle.wasi_calls.specs.declared.streams.Terminals.{Terminals}
+use Rattle.sandbox_core.specs.Session.{Opens, OpensWith, SessionState, Shares, seeded_by, interactive_with}
+use Rattle.sandbox_words.specs.declared.request.Run.{Run}
+use Rattle.sandbox_command.specs.Supplies.{terminals_of}
+use Rattle.sandbox_command.specs.internal.Seeds.{with_seed, with_terminals, prepared_by}
 
 module _ {D R W1 W2 : Type 0} where
   pub seeds : (seed : Option ℕ) (old new : SessionState D R W1 W2) (n : ℕ) → seed ≡ Some n → new ≡ seeded_by n old → new ≡ with_seed seed old
@@ -13,9 +16,15 @@ module _ {D R W1 W2 : Type 0} where
   pub no_seed : (seed : Option ℕ) (old : SessionState D R W1 W2) → seed ≡ None → old.host.generator ≡ None → old ≡ with_seed seed old
   no_seed seed old is none = subst (λ (o : Option ℕ). old ≡ with_seed o old) (sym is) (ap (λ g. record old { host = record old.host { generator = g } }) none)
 
-  pub opens_seeded : (m : Module) (parts : HostParts D R W1 W2) (s : SessionState D R W1 W2) (seed : Option ℕ) → Opens m parts s → OpensWith seed m parts (with_seed seed s)
-  opens_seeded m parts s seed o = record { fits = o.fits; starts = o.starts; input = o.input; out = o.out; err = o.err; settings = o.settings; supply = refl }
+  pub interacts : (terminals : Option Terminals) (old new : SessionState D R W1 W2) (t : Terminals) → terminals ≡ Some t → new ≡ interactive_with t old → new ≡ with_terminals terminals old
+  interacts terminals old new t is made = subst (λ (o : Option Terminals). new ≡ with_terminals o old) (sym is) made
 
-  pub shares_seeded : (device : Ghosts D) (parts : HostParts D R W1 W2) (s : SessionState D R W1 W2) (seed : Option ℕ)
-      → Shares device parts s → Shares device parts (with_seed seed s)
-  shares_seeded device parts s seed h = record { is_tree = h.is_tree; reads = h.reads; preopens = h.preopens }
+  pub no_terminals : (terminals : Option Terminals) (old : SessionState D R W1 W2) → terminals ≡ None → old.host.interactive ≡ None → old ≡ with_terminals terminals old
+  no_terminals terminals old is none = subst (λ (o : Option Terminals). old ≡ with_terminals o old) (sym is) (ap (λ t. record old { host = record old.host { interactive = t } }) none)
+
+  pub opens_prepared : (m : Module) (parts : HostParts D R W1 W2) (s : SessionState D R W1 W2) (run : Run) → Opens m parts s → OpensWith run.seed (terminals_of run) m parts (prepared_by run s)
+  opens_prepared m parts s run o = record { fits = o.fits; starts = o.starts; input = o.input; out = o.out; err = o.err; settings = o.settings; supply = refl; interactive = refl }
+
+  pub shares_prepared : (device : Ghosts D) (parts : HostParts D R W1 W2) (s : SessionState D R W1 W2) (run : Run)
+      → Shares device parts s → Shares device parts (prepared_by run s)
+  shares_prepared device parts s run h = record { is_tree = h.is_tree; reads = h.reads; preopens = h.preopens }

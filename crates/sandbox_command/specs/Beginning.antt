@@ -18,10 +18,10 @@ use Rattle.sandbox_command.specs.Reporting.{not_run}
 abbrev pub memory_disk : RamDevice → Disk
 memory_disk d = held d.sectors d.past.images
 
--- the sectors of an image, 65,536 at most; without one 202 of zeros
+-- the sectors of an image, 16,777,216 at most; without one 202 of zeros
 abbrev pub IsImage : Option (Bor Text) → List (List ℕ) → Type 0
 IsImage None sectors = sectors ≡ replicate 202 (replicate 512 0)
-IsImage (Some file) sectors = length sectors ≤ 65536
+IsImage (Some file) sectors = length sectors ≤ 16777216
 
 -- the report of a run whose file is refused so
 abbrev pub unread : Run → ErrorKind → Summary

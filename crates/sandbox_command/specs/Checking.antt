@@ -44,7 +44,7 @@ checked_damage (Get path) done = None
 checked_damage (Put path) done = None
 checked_damage (PutWhole path) done = None
 checked_damage Check done = damage_of done
-checked_damage Upgrade done = None
+checked_damage (Upgrade huge) done = None
 checked_damage (Stat path) done = None
 checked_damage (Changing change) done = None
 

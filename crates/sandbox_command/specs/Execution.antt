@@ -103,8 +103,8 @@ module _ {D R W1 W2 : Type 0} (is_honest : D → Type 0) (disk : D → Disk) (se
   -- A device is formatted; a task is done with the volume on a device, a tar stream brought into it, or one of its directories
   -- printed as one. Then the output is flushed, which keeps what it has.
   abbrev pub Executes : VolumeWork → D → R → W1 → W2 → Executed D R W1 W2 → Type 0
-  Executes (work.Format sectors slots large new) device input out err left =
-      (done : Result (Unit {0}) Failure) × FormatsWhere new large is_honest disk sectors_on failures device sectors slots left.device done
+  Executes (work.Format sectors slots version new) device input out err left =
+      (done : Result (Unit {0}) Failure) × FormatsWhere new version is_honest disk sectors_on failures device sectors slots left.device done
       × (left.status ≡ ended_status failure_status done left.flushed) × (left.summary ≡ None) × IsSilent out_contents err_contents AppendsSome input out err left
   Executes (work.Task task) device input out err left =
       (done : Result (Unit {0}) Failure)
@@ -124,7 +124,7 @@ module _ {D R W1 W2 : Type 0} (is_honest : D → Type 0) (disk : D → Disk) (se
 
 -- No sector of the device past its volume was written: past the one that it was made, or that stood on it.
 abbrev pub StaysWithin : {D : Type 0} → (D → Type 0) → (D → Disk) → (D → ℕ) → (ℕ → D → D → Type 0) → VolumeWork → D → D → Type 0
-StaysWithin is_honest disk sectors_on goes_on (work.Format sectors slots large new) device left = FormatsWithin is_honest sectors_on goes_on sectors device left
+StaysWithin is_honest disk sectors_on goes_on (work.Format sectors slots version new) device left = FormatsWithin is_honest sectors_on goes_on sectors device left
 StaysWithin is_honest disk sectors_on goes_on (work.Task task) device left = KeepsWithin is_honest disk sectors_on goes_on device left
 StaysWithin is_honest disk sectors_on goes_on (work.Import path) device left = KeepsWithin is_honest disk sectors_on goes_on device left
 StaysWithin is_honest disk sectors_on goes_on (work.Export path) device left = KeepsWithin is_honest disk sectors_on goes_on device left

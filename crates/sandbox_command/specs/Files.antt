@@ -1,7 +1,7 @@
 -- What is done on the files that a command line names (`docs/USING.md`, "Commands"), over any `Places` and, in `IsAnswered`,
 -- over the files of the system. No contract says which bytes a named file has; of a volume's file it is said what a crash
 -- leaves, by the premise `KeepsItsModel`. All that is asked for is said, and that nothing follows on what a command had.
-use Rattle.std.specs.Prelude.{◌≡◌, ◌⊎◌, ◌≤◌, ℕ, List, Option, Some, None, IsSome, IsSomeAnd, length, min}
+use Rattle.std.specs.Prelude.{◌≡◌, ◌⊎◌, ◌≤◌, ℕ, Bool, List, Option, Some, None, IsSome, IsSomeAnd, IsTrue, length}
 use Rattle.std.specs.Borrow.{Bor}
 use Rattle.std.specs.declared.fs.File.{File}
 use Rattle.std.specs.declared.io.ErrorKind.{ErrorKind as InputKind}
@@ -11,6 +11,7 @@ use Rattle.clap.specs.declared.error.kind.ErrorKind.{ErrorKind as LineKind}
 use Rattle.clap.specs.Words.{subcommand_of}
 use Rattle.vol_sector.specs.Disk.{Disk}
 use Rattle.vol_sector.specs.Past.{LeavesPast}
+use Rattle.vol_inode.specs.declared.version.Version.{Version}
 use Rattle.sandbox_device.specs.declared.opening.Output.{Output}
 use Rattle.sandbox_device.specs.File.{kept, KeepsItsModel}
 use Rattle.sandbox_words.specs.declared.request.Run.{Run}
@@ -27,6 +28,7 @@ use Rattle.sandbox_command.specs.declared.streams.Streams.{Streams}
 use Rattle.sandbox_command.specs.Alone.{RunsAlone}
 use Rattle.sandbox_command.specs.Around.{Around, EndsGiven}
 use Rattle.sandbox_command.specs.Execution.{StaysWithin, Executes}
+use Rattle.sandbox_command.specs.Formatting.{room_for, version_for}
 use Rattle.sandbox_command.specs.Inspecting.{Inspects}
 use Rattle.sandbox_command.specs.Places.{Access, Gave, HasRoom, Locks, Reads, Took, WasEnded, WasHandedOut, WasRefused, lengthens}
 use Rattle.sandbox_command.specs.Status.{command_line_status, file_status, words_status}
@@ -44,9 +46,11 @@ HasWrongSteps run = (run.profile_every ≡ Some 0) ⊎ (IsSome run.profile_every
 
 -- A run whose options don't go together: an image beside a volume of its own, a file that its volume is to be handed out
 -- into without an image, a seed beside random bytes, a list of tests beside what is for one run, or steps of a profile that isn't wanted.
+-- Or a volume is to be large and huge.
 abbrev pub Clashes : Invocation → Type 0
 Clashes (asked.Run run) = (IsSome run.image × IsSome run.volume) ⊎ ((IsSome run.volume_out × (run.image ≡ None)) ⊎ ((IsSome run.seed × IsSome run.random)
     ⊎ ((IsSome run.tests × IsForOneRun run) ⊎ HasWrongSteps run)))
+Clashes (asked.Format file sectors slots large huge new) = IsTrue large × IsTrue huge
 Clashes _ = ⊥
 
 -- ---- over any places
@@ -93,13 +97,19 @@ module _ {P I O V R W1 W2 : Type 0} (on : Around P I O V R W1 W2) where
   RunsNamed None run given p q status = RunsAlone on run given p q status
   RunsNamed (Some list) run given p q status = RunsList on run list.now given p q status
 
+  -- the file of a volume is made or lengthened, and formatted
+  abbrev pub DoesFormat : (name : Text) → Version → (sectors slots : ℕ) → (new : Bool) → Streams R W1 W2 → (p q : P) → (status : ℕ) → Type 0
+  DoesFormat name version sectors slots new given p q status =
+      DoesOn (lengthens new name (room_for version sectors)) name (λ d. HasRoom on.volume.size on.volume.disk new (room_for version sectors) d) (work.Format sectors slots version new) given p q status
+
   -- Options that don't go together are refused, and no file is asked for. Else a run is done, alone or on the tests of a list; or
   -- what is no run, on the one file that it names.
   abbrev pub IsPerformed : Invocation → Streams R W1 W2 → (p q : P) → (status : ℕ) → Type 0
   IsPerformed (asked.Run run) given p q status =
       (Clashes (asked.Run run) × (status ≡ 124) × EndsGiven on given p q) ⊎ ((Clashes (asked.Run run) → ⊥) × RunsNamed run.tests run given p q status)
-  IsPerformed (asked.Format file sectors slots large new) given p q status =
-      DoesOn (lengthens new file.now sectors) file.now (λ d. HasRoom on.volume.size on.volume.disk new (min sectors 65536) d) (work.Format sectors slots large new) given p q status
+  IsPerformed (asked.Format file sectors slots large huge new) given p q status =
+      (Clashes (asked.Format file sectors slots large huge new) × (status ≡ 124) × EndsGiven on given p q)
+      ⊎ ((Clashes (asked.Format file sectors slots large huge new) → ⊥) × DoesFormat file.now (version_for large huge) sectors slots new given p q status)
   IsPerformed (asked.Volume file task) given p q status = DoesOn (Locks file.now) file.now (λ d. Unit {0}) (work.Task task) given p q status
   IsPerformed (asked.Import file path) given p q status = DoesOn (Locks file.now) file.now (λ d. Unit {0}) (work.Import path) given p q status
   IsPerformed (asked.Export file path) given p q status = DoesOn (Locks file.now) file.now (λ d. Unit {0}) (work.Export path) given p q status

@@ -18,5 +18,6 @@ pub mod Places
 pub mod Around
 pub mod Alone
 pub mod Testing
+pub mod Formatting
 pub mod Files
 pub mod internal

@@ -46,10 +46,10 @@ module _ {D R W1 W2 : Type 0} where
     pub told : ReportsTold on session fuel report tally room depth
     pub charged : AreCharged every session told.counted.reports.resumes report.used stacks
 
--- where the fuel of a run of this module went, by its stacks
-abbrev pub IsUseOf : Option Stacks → Module → Option FuelUse → Type 0
-IsUseOf None m usage = usage ≡ None
-IsUseOf (Some stacks) m usage = usage ≡ Some (record { stacks = stacks; imported = length m.imports })
+-- where the fuel of a run went, by its stacks, of a module with so many imported functions
+abbrev pub IsUseWith : Option Stacks → (imported : ℕ) → Option FuelUse → Type 0
+IsUseWith None imported usage = usage ≡ None
+IsUseWith (Some stacks) imported usage = usage ≡ Some (record { stacks = stacks; imported = imported })
 
 abbrev pub IsThere : {X : Type 0} → Option X → Type 0
 IsThere None = ⊥

@@ -29,6 +29,7 @@ use Rattle.wasm_interp.specs.Frames.{frames_of}
 use Rattle.observed_run.specs.Telling.{TellsFrames}
 use Rattle.sandbox_command.specs.declared.program.Executed.{Executed}
 use Rattle.sandbox_command.specs.declared.stopping.Stopped.{Stopped}
+use Rattle.sandbox_command.specs.Supplies.{terminals_of}
 use Rattle.sandbox_command.specs.Status.{EndsWith, session_status}
 use Rattle.sandbox_command.specs.Streams.{IsSilent}
 use Rattle.sandbox_command.specs.Profiling.{IsFuelUse, slice_of}
@@ -75,10 +76,10 @@ module _ {D R W1 W2 : Type 0} (is_honest : D → Type 0) (disk : D → Disk) (se
     pub streams : IsSilent out_contents err_contents Keeps parts.input parts.out parts.err left
 
   -- A session ran from the module's first configuration, with this fuel. Its random bytes are those of a seed exactly where
-  -- the words name one.
+  -- the words name one, and it was interactive exactly where they say so.
   pub record Ran (m : Module) (run : Run) (parts : HostParts D R W1 W2) (left : Executed D R W1 W2) : Type 0 where
     pub session : SessionState D (Counted R) (Counted W1) (Counted W2)
-    pub opens : OpensWith run.seed m (counting run parts) session
+    pub opens : OpensWith run.seed (terminals_of run) m (counting run parts) session
     pub shares : Shares counted_devices.device (counting run parts) session
     pub report : Report D (Counted R) (Counted W1) (Counted W2)
     pub tally : Tally
@@ -87,6 +88,8 @@ module _ {D R W1 W2 : Type 0} (is_honest : D → Type 0) (disk : D → Disk) (se
     pub stopped : Stopped
     pub is_stopped : left.stopped ≡ Some stopped
     pub frames : TellsFrames (frames_of counted.reports.last.machine) stopped.innermost.items stopped.depth
+    -- and how often each errno was answered
+    pub answers : stopped.answers ≡ tally.answers
     -- where its fuel went, if that is told
     pub fuel_use : IsFuelUse (slice_of run) session counted.reports.resumes report.used m stopped.fuel_use
     pub ends : EndsWith report.outcome report.volume left.flushed left.status

@@ -1,6 +1,9 @@
--- Where a run stopped: the lines of its report that tell of the functions that were at work then (`docs/USING.md`, "The report of a
--- run"). Which they are says `TellsFrames` (`crates/observed_run/specs`); here stands what a line says of one.
-use Rattle.std.specs.Prelude.{◌≡◌, ◌⊎◌, ◌-◌, ◌==◌, ℕ, zero, suc, List, [], ◌∷◌, ◌++◌, length, Option, Some, None, codes, decimal, if◌then◌else◌}
+-- Where a run stopped: the lines of its report that tell of the functions that were at work then, and of how its calls were answered
+-- (`docs/USING.md`, "The report of a run"). Which functions says `TellsFrames` (`crates/observed_run/specs`), and how many calls
+-- `Tallies` (`crates/sandbox_core/specs`); here stands what a line says of them.
+use Rattle.std.specs.Prelude.{◌≡◌, ◌⊎◌, ◌+◌, ◌-◌, ◌==◌, ℕ, zero, suc, List, [], ◌∷◌, ◌++◌, drop, length, Option, Some, None, codes, decimal, if◌then◌else◌}
+use Rattle.std.specs.List.{concat}
+use Rattle.meanings.specs.Tables.{errno_text}
 use Rattle.wasm_module.specs.declared.module.Module.{Module}
 use Rattle.wasm_module.specs.Module.{Spells}
 use Rattle.wasm_interp.specs.declared.frames.Frame.{Frame}
@@ -25,16 +28,34 @@ AreLinesOf bytes m zero stopped text = text ≡ []
 AreLinesOf bytes m (suc most) stopped text =
     (lines : Text) × AreFrameLines bytes m stopped.innermost.items lines × (text ≡ (codes "frames:" ++ (decimal stopped.depth ++ codes "\n")) ++ lines)
 
+-- the line of an errno that so many calls were answered with: its number, how many, and what it means by the register
+abbrev pub answer_line : (errno count : ℕ) → Text
+answer_line errno count = if count == 0 then [] else
+    concat (codes "answered:" ∷ decimal errno ∷ codes " " ∷ decimal count ∷ codes " " ∷ errno_text errno ∷ codes "\n" ∷ [])
+
+-- a line for each errno from this one on that calls were answered with, where these are their counts
+abbrev pub answers_from : ℕ → List ℕ → Text
+answers_from errno [] = []
+answers_from errno (count ∷ counts) = answer_line errno count ++ answers_from (errno + 1) counts
+
+-- the same of all but success, which is the first
+abbrev pub answers_text : List ℕ → Text
+answers_text counts = answers_from 1 (drop 1 counts)
+
 -- what is told of a run that didn't begin
 abbrev pub AreLinesOfNone : Text → Type 0
 AreLinesOfNone text = (text ≡ []) ⊎ (text ≡ codes "frames:0\n")
 
+-- where it stopped, and behind that how its calls were answered
+abbrev pub HasLines : List ℕ → Module → (most : ℕ) → Stopped → Text → Type 0
+HasLines bytes m most stopped text = (frames : Text) × AreLinesOf bytes m most stopped frames × (text ≡ frames ++ answers_text stopped.answers)
+
 -- What is told of a run of this module, or nothing where memory was refused.
 abbrev pub AreLinesBy : List ℕ → Module → (most : ℕ) → Option Stopped → Text → Type 0
 AreLinesBy bytes m most None text = AreLinesOfNone text
-AreLinesBy bytes m most (Some stopped) text = (text ≡ []) ⊎ AreLinesOf bytes m most stopped text
+AreLinesBy bytes m most (Some stopped) text = (text ≡ []) ⊎ HasLines bytes m most stopped text
 
 -- the same of the module that the bytes spell
 abbrev pub TellsLines : List ℕ → (most : ℕ) → Option Stopped → Text → Type 0
 TellsLines bytes most None text = AreLinesOfNone text
-TellsLines bytes most (Some stopped) text = (m : Module) × Spells bytes m × ((text ≡ []) ⊎ AreLinesOf bytes m most stopped text)
+TellsLines bytes most (Some stopped) text = (m : Module) × Spells bytes m × ((text ≡ []) ⊎ HasLines bytes m most stopped text)

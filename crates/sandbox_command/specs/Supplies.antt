@@ -4,6 +4,7 @@ use Rattle.std.specs.Prelude.{◌≡◌, ◌⊎◌, ◌==◌, ℕ, Bool, List, [
 use Rattle.std.specs.List.{Contains, position_or_len, before_first, after_first}
 use Rattle.wasi_calls.specs.declared.host.settings.Preopen.{Preopen}
 use Rattle.wasi_calls.specs.declared.host.settings.Settings.{Settings}
+use Rattle.wasi_calls.specs.declared.streams.Terminals.{Terminals}
 use Rattle.sandbox_core.specs.declared.fault.SessionFault.{SessionFault}
 use Rattle.sandbox_core.specs.declared.fault.SessionFault.TheVariants.{Setting, Memory}
 use Rattle.sandbox_words.specs.declared.request.Run.{Run}
@@ -47,3 +48,7 @@ pub record AreSettings (run : Run) (random : Text) (settings : Settings) : Type 
   pub moment : settings.moment ≡ run.moment
   pub random_bytes : settings.random.now ≡ random
   pub pages : settings.pages ≡ run.limits.pages
+
+-- the terminals that the guest of an interactive run is told of
+abbrev pub terminals_of : Run → Option Terminals
+terminals_of run = if run.interactive then Some (record { input = run.terminals.input; output = run.terminals.output; error = run.terminals.error }) else None

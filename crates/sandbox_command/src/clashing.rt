@@ -1,4 +1,4 @@
-//! Options of a run that don't go together.
+//! Options that don't go together.
 
 ghost use Rattle.std.specs.Prelude.{◌↔◌, IsTrue};
 ghost use Rattle.sandbox_command.specs.Files.{Clashes, HasWrongSteps, IsForOneRun};
@@ -27,6 +27,7 @@ fn has_wrong_steps(run: &Run<'_>) -> bool
 
 /// Whether a run has options that don't go together: an image beside a volume, what its volume is to be handed out into
 /// without an image, a seed beside random bytes, a list of tests beside what is for one run, or steps of a profile that isn't wanted.
+/// Or whether a volume is to be large and huge.
 pub(crate) fn clashes(invocation: &Invocation<'_>) -> bool
     ensures { IsTrue result ↔ Clashes invocation.now }
 {
@@ -38,6 +39,7 @@ pub(crate) fn clashes(invocation: &Invocation<'_>) -> bool
                 || (run.tests.is_some() && is_for_one_run(run))
                 || has_wrong_steps(run)
         }
+        Invocation::Format { large, huge, .. } => *large && *huge,
         _ => false,
     }
 }

@@ -3,12 +3,14 @@
 
 ghost use Rattle.sandbox_command.specs.Streams.{AppendsSome};
 
+use crate::formatting::most_sectors;
 use crate::output::{say, say_name, tell};
 use crate::work::VolumeWork;
 use meanings::{errno_cure, errno_text, fault_cure, fault_text};
 use run_report::Fault;
 use sandbox_words::{Change, Task};
 use std::io::{ErrorKind, Write};
+use vol_inode::Version;
 use vol_sector::VolumeFault;
 use vol_tree::Errno;
 
@@ -120,7 +122,7 @@ fn paths<'a>(work: VolumeWork<'a>) -> (&'a str, Option<&'a str>) {
                 | Change::Remove { path }
                 | Change::RemoveAll { path } => (path, None),
             },
-            Task::Check | Task::Upgrade => ("/", None),
+            Task::Check | Task::Upgrade { .. } => ("/", None),
         },
         VolumeWork::Format { .. } => ("/", None),
     }
@@ -182,9 +184,12 @@ impl About<'_> {
     {
         let fault = Fault::Volume(fault);
         match self.work {
-            VolumeWork::Format { sectors, slots, .. } if fault.number() == Some(RANGE) => {
-                tell_of_range(err, sectors, slots);
-            }
+            VolumeWork::Format {
+                sectors,
+                slots,
+                version,
+                ..
+            } if fault.number() == Some(RANGE) => tell_of_range(err, version, sectors, slots),
             _ => tell_of_fault(err, self.file, fault),
         }
     }
@@ -207,19 +212,26 @@ impl About<'_> {
 }
 
 /// Prints which number of a volume that is to be formatted is out of its range.
-fn tell_of_range<W: Write>(err: &mut W, sectors: u32, slots: u32)
+fn tell_of_range<W: Write>(err: &mut W, version: Version, sectors: u32, slots: u32)
     ensures { AppendsSome (W.contents err.old) (W.contents err.new) }
 {
     let meaning = fault_text(RANGE);
-    if (137..=65_536).contains(&sectors) {
+    let most = most_sectors(version);
+    let slots_most = match version {
+        Version::One | Version::Two => 8_192,
+        Version::Four => 1_048_576,
+    };
+    if (137..=most).contains(&sectors) {
         tell(
             err,
-            format_args!("{slots} slots: {meaning}: 1 to 8192 slots, and fewer than SECTORS - 122"),
+            format_args!(
+                "{slots} slots: {meaning}: 1 to {slots_most} slots, and fewer than SECTORS - 122"
+            ),
         );
     } else {
         tell(
             err,
-            format_args!("{sectors} sectors: {meaning}: 137 to 65536 sectors"),
+            format_args!("{sectors} sectors: {meaning}: 137 to {most} sectors"),
         );
     }
 }

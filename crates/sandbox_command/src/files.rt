@@ -8,6 +8,7 @@ ghost use Rattle.sandbox_command.specs.Files.{HasExecuted, IsAnswered, IsPerform
 ghost use Rattle.sandbox_command.specs.Status.{file_status};
 
 use crate::clashing::clashes;
+use crate::formatting::{room_for, version_for};
 use crate::host_places::HostPlaces;
 use crate::inspecting::inspect;
 use crate::opening::MODULE_READ;
@@ -18,15 +19,24 @@ use crate::runs::{end_refused, run_alone};
 use crate::streams::Streams;
 use crate::testing::run_list;
 use crate::work::VolumeWork;
-use sandbox_words::{Invocation, invocation};
+use sandbox_words::{Invocation, Terminals, invocation};
 use std::alloc::Global;
-use std::io::{Read, Write};
+use std::io::{IsTerminal, Read, Write};
 use std::process::ExitCode;
 use std::{env, io};
 
 /// The words that the program was called with. One that isn't UTF-8 is refused.
 fn words_given(rt: &HostRuntime) -> io::Result<Vec<String>> {
     Ok(env::args(rt)?.collect(rt.alloc())?)
+}
+
+/// Which of the program's streams are terminals.
+fn terminals(rt: &HostRuntime) -> Terminals {
+    Terminals {
+        input: rt.stdin().is_terminal(),
+        output: rt.stdout().is_terminal(),
+        error: rt.stderr().is_terminal(),
+    }
 }
 
 /// Does what the words of the command line ask for, with these streams, and gives the exit status.
@@ -46,7 +56,10 @@ pub fn exit_code<R: Read + Drop, W1: Write + Drop, W2: Write + Drop>(
         Err(error) => return ExitCode::from(program::refuse_words(&mut err, &error)),
     };
     match invocation(rt.alloc(), words.as_slice()) {
-        Ok(invocation) => ExitCode::from(perform(rt, &invocation, input, out, err)),
+        Ok(mut invocation) => {
+            invocation.note_terminals(terminals(rt));
+            ExitCode::from(perform(rt, &invocation, input, out, err))
+        }
         Err(refused) => ExitCode::from(program::refuse_command_line(&mut err, &refused)),
     }
 }
@@ -99,15 +112,18 @@ pub fn perform_in<P: Places, R: Read + Drop, W1: Write + Drop, W2: Write + Drop>
             sectors,
             slots,
             large,
+            huge,
             new,
         } => {
+            let version = version_for(*large, *huge);
             let work = VolumeWork::Format {
                 sectors: *sectors,
                 slots: *slots,
-                large: *large,
+                version,
                 new: *new,
             };
-            let device = places.lengthen(file, *sectors, *new);
+            let room = room_for(version, *sectors);
+            let device = places.lengthen(file, room, *new);
             execute_on(alloc, places, file, work, device, given)
         }
         Invocation::Volume { file, task } => {

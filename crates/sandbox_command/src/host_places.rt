@@ -43,7 +43,7 @@ pub(crate) struct HostPlaces<'a> {
 /// The volume of a file that is lengthened to these sectors, but where it is to be new and begins as a volume.
 fn volume_in(alloc: Global, file: File, sectors: u32, only_new: bool) -> io::Result<HostVolume>
     ensures unused { IfOk result (λ d. d.device.failures ≡ 0) }
-    ensures enough { IfOk result (λ d. HasRoom (λ it. length it.device.sectors) file_disk only_new (min sectors 65536) d) }
+    ensures enough { IfOk result (λ d. HasRoom (λ it. length it.device.sectors) file_disk only_new (min sectors 16777216) d) }
 {
     if only_new {
         let device = FileDevice::lengthened_unless(alloc, file, sectors, &MAGIC)?;
@@ -156,7 +156,7 @@ impl<'a> HostPlaces<'a> {
 
     fn lengthened(&mut self, name: &str, sectors: u32, only_new: bool) -> io::Result<HostVolume>
         ensures unused { IfOk result (λ d. d.device.failures ≡ 0) }
-        ensures enough { IfOk result (λ d. HasRoom (λ it. length it.device.sectors) file_disk only_new (min sectors 65536) d) }
+        ensures enough { IfOk result (λ d. HasRoom (λ it. length it.device.sectors) file_disk only_new (min sectors 16777216) d) }
     {
         self.go_on()?;
         let file = FileDevice::lock_or_make(self.rt, name)?;
@@ -226,7 +226,7 @@ impl<'a> HostPlaces<'a> {
     }
 
     fn sectors_of(&mut self, name: &str) -> io::Result<RamDevice>
-        ensures { IfOk result (λ device. length device.sectors ≤ 65536) }
+        ensures { IfOk result (λ device. length device.sectors ≤ 16777216) }
     {
         let file = open_image(self.rt, name)?;
         self.held.take_image(&file)?;

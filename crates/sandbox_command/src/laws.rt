@@ -3,7 +3,7 @@
 ghost use Rattle.sandbox_command.specs.Upheld.{RunUpholds};
 
 use run_report::Counted;
-use sandbox_core::laws::{headline, headline_seeded, turns_are_safe};
+use sandbox_core::laws::{headline_opened, turns_are_safe};
 use std::io::{Read, Write};
 use vol_sector::Device;
 
@@ -11,7 +11,6 @@ use vol_sector::Device;
 pub fn run_upholds<D: Device, R: Read, W1: Write, W2: Write>()
     ensures { RunUpholds D.honest D.disk D.size D.failures D.goes_on R.remaining W1.contents W2.contents }
 {
-    headline::<D, Counted<R>, Counted<W1>, Counted<W2>>();
-    headline_seeded::<D, Counted<R>, Counted<W1>, Counted<W2>>();
+    headline_opened::<D, Counted<R>, Counted<W1>, Counted<W2>>();
     turns_are_safe::<D, Counted<R>, Counted<W1>, Counted<W2>>();
 }

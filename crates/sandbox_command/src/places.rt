@@ -99,14 +99,15 @@ pub trait Places {
         ensures refused { IfErr result (λ error. refused (lengthens only_new name.now sectors) (error_kind error) self.old self.new) }
         ensures volume { IfOk result (λ device. is_volume name.now device) }
         ensures unused { IfOk result (λ device. Self.Volume.failures device ≡ 0) }
-        ensures enough { IfOk result (λ device. HasRoom Self.Volume.size Self.Volume.disk only_new (min sectors 65536) device) };
+        ensures enough { IfOk result (λ device. HasRoom Self.Volume.size Self.Volume.disk only_new (min sectors 16777216) device) };
 
-    /// Reads the whole sectors of a file, 65,536 at most, and writes nothing to it.
+    /// Reads the whole sectors of a file, 65,536 at most, or 16,777,216 where it begins as a volume of version 4, and writes nothing
+    /// to it.
     fn image(&mut self, name: &str) -> io::Result<RamDevice>
         ensures asked { asked (Reads name.now) self.old self.new }
         ensures refused { IfErr result (λ error. refused (Reads name.now) (error_kind error) self.old self.new) }
         ensures image { IfOk result (λ device. is_image name.now device) }
-        ensures few { IfOk result (λ device. length device.sectors ≤ 65536) };
+        ensures few { IfOk result (λ device. length device.sectors ≤ 16777216) };
 
     /// Reads the text of a file.
     fn text(&mut self, name: &str) -> io::Result<String>

@@ -4,18 +4,17 @@ ghost use Rattle.std.specs.Prelude.{◌≡◌, ◌⊎◌, ◌≤◌, true, Some,
 ghost use Rattle.std.specs.Io.KnownBytes.{Keeps};
 ghost use Rattle.std.specs.IoError.{error_kind};
 ghost use Rattle.clap.specs.Values.{kind_of};
-ghost use Rattle.sandbox_core.specs.Devices.{devices};
-ghost use Rattle.sandbox_core.specs.Session.{given, limited_to, used_by};
+ghost use Rattle.sandbox_core.specs.Session.{given};
 ghost use Rattle.run_report.specs.declared.fault.Fault.TheVariants as reason;
 ghost use Rattle.sandbox_command.specs.Status.{status_of, EndsWith, load_status, session_status};
 ghost use Rattle.sandbox_command.specs.Status.{volume_status, words_status, command_line_status};
-ghost use Rattle.sandbox_command.specs.Profiling.{IsThere, IsUseOf, ReportsCharged, TellsUse, no_stacks, slice_of};
+ghost use Rattle.sandbox_command.specs.Profiling.{TellsUse, no_stacks};
 ghost use Rattle.sandbox_command.specs.Stopping.{TellsLines};
 ghost use Rattle.sandbox_command.specs.Streams.{AppendsSome};
-ghost use Rattle.sandbox_command.specs.Reporting.{broken_in, kept_where_not_begun, kept_where_refused, not_run, output_of, run_summary, session_reason, volume_of};
-ghost use Rattle.sandbox_command.specs.Running.{Launches, returned_device};
+ghost use Rattle.sandbox_command.specs.Reporting.{broken_in, kept_where_not_begun, kept_where_refused, not_run, run_summary, session_reason, volume_of};
+ghost use Rattle.sandbox_command.specs.Running.{returned_device};
 ghost use Rattle.sandbox_command.specs.Supplies.{AreSettings};
-ghost use Rattle.sandbox_command.specs.internal.Seeds.{with_seed};
+ghost use Rattle.sandbox_command.specs.internal.Runnable.{IsReadyFor, module_in};
 ghost use Rattle.sandbox_command.specs.internal.Supplies.{AreSupplies};
 ghost use Rattle.sandbox_command.specs.Execution.{RunsOn, Runs, Executes, StaysWithin};
 
@@ -23,28 +22,24 @@ use crate::checking::ended_task;
 use crate::ending::ended;
 use crate::explaining::About;
 use crate::output::{GREATEST, NOT_COMMITTED, tell, tell_after, tell_fault, tell_outcome};
-use crate::profiling::{FuelUse, slice_of};
 use crate::reporting::{
     kept_after_run, kept_where_not_begun, kept_where_refused, not_run, session_reason,
 };
-use crate::stopping::{Stopped, lines_of, no_lines, room_for, stopped_with};
+use crate::runnable::Runnable;
+use crate::sessions::launch;
+use crate::stopping::{Stopped, lines_of, no_lines};
 use crate::streams::Streams;
 use crate::supplies::{Supplies, settings, supplied};
 use crate::work::VolumeWork;
-use observed_run::{Told, run_profiled, run_told};
 use run_profile::Profile;
 use run_report::{Counted, Cut, End, Fault, Kept, Summary};
-use sandbox_core::{
-    Frame, HostParts, LoadFault, Outcome, RefusedSession, Report, Session, SessionFault, Tally,
-    Valid, Volume,
-};
+use sandbox_core::{HostParts, LoadFault, Outcome, Report, SessionFault, Tally, Volume};
 use sandbox_words::Run;
 use std::alloc::Global;
 use std::io;
 use std::io::{Read, Write};
 use vol_sector::{Device, Refused, VolumeFault};
 use volume_tasks::{export_from, format_where, import_into, open_for_run, perform};
-use wasm_module::Module;
 
 /// The status where a guest's own one is greater than `GREATEST`.
 const OTHER_EXIT: u8 = 119;
@@ -261,7 +256,7 @@ fn is_broken<D: Device, R, W1, W2>(report: &Report<D, Counted<R>, Counted<W1>, C
 }
 
 /// Ends a run whose streams were counted, and says what its report is. Gives the device of the volume and the streams back.
-fn reported<D: Device + Drop, R: Drop, W1: Write + Drop, W2: Write + Drop>(
+pub(crate) fn reported<D: Device + Drop, R: Drop, W1: Write + Drop, W2: Write + Drop>(
     run: &Run<'_>,
     report: Report<D, Counted<R>, Counted<W1>, Counted<W2>>,
     tally: Tally,
@@ -338,7 +333,7 @@ fn not_begun<D: Drop, R: Drop, W1: Drop, W2: Drop>(
 }
 
 /// Ends a run that gets no session. Gives the device of the volume and the streams back.
-fn no_session<D: Device + Drop, R: Drop, W1: Drop, W2: Drop>(
+pub(crate) fn no_session<D: Device + Drop, R: Drop, W1: Drop, W2: Drop>(
     run: &Run<'_>,
     parts: HostParts<'_, '_, D, Counted<R>, Counted<W1>, Counted<W2>>,
     fault: SessionFault,
@@ -368,152 +363,6 @@ fn no_session<D: Device + Drop, R: Drop, W1: Drop, W2: Drop>(
     };
     let why = (session_status(fault), session_reason(fault), kept);
     not_begun(run, why, volume.into_device(), streams)
-}
-
-/// Gives a session the random bytes of a seed, where the words of a run name one.
-fn seed<D: Device + Drop, R: Read + Drop, W1: Write + Drop, W2: Write + Drop>(
-    run: &Run<'_>,
-    session: &mut Session<'_, '_, '_, D, R, W1, W2>,
-)
-    requires { session.old.host.generator ≡ None }
-    ensures { session.new ≡ with_seed run.now.seed session.old }
-{
-    if let Some(seed) = run.seed {
-        session.seed(seed);
-    }
-}
-
-/// Runs a session that has used nothing with the fuel of a run, of which these stacks get each unit.
-// A function of its own, so that what it needs isn't on the stack of a run without a profile.
-#[inline(never)]
-fn run_into_stacks<'a, D: Device + Drop, R: Read + Drop, W1: Write + Drop, W2: Write + Drop>(
-    alloc: Global,
-    run: &Run<'_>,
-    session: Session<'a, '_, '_, D, R, W1, W2>,
-    mut stacks: Profile,
-    room: &mut [Frame],
-) -> (Told<Valid<'a>, D, R, W1, W2>, Profile)
-    requires unused { used_by session ≡ 0 }
-    requires new { stacks ≡ no_stacks }
-    ensures module { result.0.kept ≡ session.entry.machine.valid }
-    ensures told { ReportsCharged (devices D.Device R.Read W1.Write W2.Write)
-        session.entry run.now.limits.fuel (slice_of run.now) result.0.report result.0.tally room.new result.0.depth (Some result.1) }
-{
-    let fuel = run.limits.fuel;
-    let slice = slice_of(run);
-    let told = run_profiled(alloc, session, fuel, slice, &mut stacks, room);
-    (told, stacks)
-}
-
-/// Runs a session that has used nothing with the fuel of a run. Gives its module back, and the innermost functions that were at work
-/// when it stopped into the room. Where there are stacks, they get its units.
-fn run_charged<'a, D: Device + Drop, R: Read + Drop, W1: Write + Drop, W2: Write + Drop>(
-    alloc: Global,
-    run: &Run<'_>,
-    session: Session<'a, '_, '_, D, R, W1, W2>,
-    stacks: Option<Profile>,
-    room: &mut [Frame],
-) -> (Told<Valid<'a>, D, R, W1, W2>, Option<Profile>)
-    requires unused { used_by session ≡ 0 }
-    requires new { IfSome stacks (λ s. s ≡ no_stacks) }
-    ensures module { result.0.kept ≡ session.entry.machine.valid }
-    ensures told { ReportsCharged (devices D.Device R.Read W1.Write W2.Write)
-        session.entry run.now.limits.fuel (slice_of run.now) result.0.report result.0.tally room.new result.0.depth result.1 }
-    ensures stacks { IsThere stacks → IsThere result.1 }
-{
-    match stacks {
-        Some(stacks) => {
-            let (told, stacks) = run_into_stacks(alloc, run, session, stacks, room);
-            (told, Some(stacks))
-        }
-        None => (run_told(session, run.limits.fuel, room), None),
-    }
-}
-
-/// Runs a session that has used nothing within the limits of a run, with the random bytes of its seed. Gives its module back, and the
-/// innermost functions that were at work when it stopped into the room. Where there are stacks, they get its units.
-fn run_within<'a, D: Device + Drop, R: Read + Drop, W1: Write + Drop, W2: Write + Drop>(
-    alloc: Global,
-    run: &Run<'_>,
-    mut session: Session<'a, '_, '_, D, R, W1, W2>,
-    stacks: Option<Profile>,
-    room: &mut [Frame],
-) -> (Told<Valid<'a>, D, R, W1, W2>, Option<Profile>)
-    requires begun { (used_by session ≡ 0) × (session.host.generator ≡ None) }
-    requires new { IfSome stacks (λ s. s ≡ no_stacks) }
-    ensures module { result.0.kept ≡ session.entry.machine.valid }
-    ensures told { ReportsCharged (devices D.Device R.Read W1.Write W2.Write)
-        (with_seed run.now.seed (limited_to run.now.limits.values session.entry)) run.now.limits.fuel (slice_of run.now)
-        result.0.report result.0.tally room.new result.0.depth result.1 }
-    ensures stacks { IsThere stacks → IsThere result.1 }
-{
-    session.limit_values(run.limits.values as usize);
-    seed(run, &mut session);
-    run_charged(alloc, run, session, stacks, room)
-}
-
-/// Where the fuel of a run of this module went.
-fn fuel_use_of(stacks: Option<Profile>, module: &Module<'_>) -> Option<FuelUse>
-    ensures { IsUseOf stacks «module».now result }
-{
-    match stacks {
-        Some(stacks) => Some(FuelUse {
-            stacks,
-            imported: module.imports.as_slice().len(),
-        }),
-        None => None,
-    }
-}
-
-/// How many bytes each output of a run takes at most.
-fn output_of(run: &Run<'_>) -> u64
-    ensures { result ≡ output_of run.now }
-{
-    run.limits.output.unwrap_or(u64::MAX)
-}
-
-/// Runs a valid module with these settings on an open volume. Gives the module and the volume's device back. Where there are stacks,
-/// they get the units of the run.
-fn launch<'a, D: Device + Drop, R: Read + Drop, W1: Write + Drop, W2: Write + Drop>(
-    alloc: Global,
-    run: &Run<'_>,
-    valid: Valid<'a>,
-    parts: HostParts<'_, '_, D, R, W1, W2>,
-    stacks: Option<Profile>,
-) -> (Valid<'a>, Executed<D, R, W1, W2>)
-    requires { IfSome stacks (λ s. s ≡ no_stacks) }
-    ensures module { result.0 ≡ valid.entry }
-    ensures fuel_use { TellsUse stacks result.1.stopped }
-    ensures launches { Launches D.honest D.disk D.size D.failures D.goes_on R.remaining W1.contents W2.contents
-        valid.entry run.now parts.entry result.1 }
-{
-    let HostParts {
-        settings,
-        volume,
-        input,
-        out,
-        err,
-    } = parts;
-    let most = output_of(run);
-    let taken = Counted::new(input, u64::MAX);
-    let given = Counted::new(out, most);
-    let complaints = Counted::new(err, most);
-    match Session::new(alloc, valid, settings, volume, taken, given, complaints) {
-        Ok(session) => {
-            let mut room = room_for(alloc, run);
-            let (told, stacks) = run_within(alloc, run, session, stacks, room.as_mut_slice());
-            let fuel_use = fuel_use_of(stacks, told.kept.module());
-            let stopped = stopped_with(told.depth, room, fuel_use);
-            (told.kept, reported(run, told.report, told.tally, stopped))
-        }
-        Err(
-            RefusedSession {
-                valid,
-                parts,
-                fault,
-            },
-        ) => (valid, no_session(run, parts, fault)),
-    }
 }
 
 /// The file that a run finds its volume in, its own or an image.
@@ -571,26 +420,27 @@ fn no_volume<D: Drop, R: Drop, W1: Drop, W2: Drop>(
 pub(crate) fn run_valid<'a, D: Device + Drop, R: Read + Drop, W1: Write + Drop, W2: Write + Drop>(
     alloc: Global,
     run: &Run<'_>,
-    valid: Valid<'a>,
+    runnable: Runnable<'a>,
     supplies: &Supplies<'_>,
     random: &[u8],
     device: D,
     streams: Streams<R, W1, W2>,
     stacks: Option<Profile>,
-) -> (Valid<'a>, Executed<D, R, W1, W2>)
+) -> (Runnable<'a>, Executed<D, R, W1, W2>)
     requires supplied { AreSupplies run.now supplies.now }
+    requires ready { IsReadyFor run.now.limits.pages runnable }
     requires new { IfSome stacks (λ s. s ≡ no_stacks) }
-    ensures module { result.0 ≡ valid.entry }
+    ensures module { result.0 ≡ runnable.entry }
     ensures fuel_use { TellsUse stacks result.1.stopped }
     ensures runs { RunsOn D.honest D.disk D.size D.failures D.goes_on R.remaining W1.contents W2.contents
-        run.now valid.entry random.now device streams.input streams.out streams.err result.1 }
+        run.now (module_in runnable.entry) random.now device streams.input streams.out streams.err result.1 }
 {
     match open_for_run(alloc, volume_of(run), device) {
         Ok(volume) => {
             let parts = parts_of(run, supplies, random, volume, streams);
-            launch(alloc, run, valid, parts, stacks)
+            launch(alloc, run, runnable, parts, stacks)
         }
-        Err(refused) => (valid, no_volume(run, refused, streams)),
+        Err(refused) => (runnable, no_volume(run, refused, streams)),
     }
 }
 
@@ -615,11 +465,12 @@ pub(crate) fn run<D: Device + Drop, R: Read + Drop, W1: Write + Drop, W2: Write 
     let (status, fault) = match supplied(alloc, run) {
         Ok(supplies) => match sandbox_core::load(alloc, module) {
             Ok(valid) => {
-                let (valid, left) = run_valid(
-                    alloc, run, valid, &supplies, random, device, streams, stacks,
+                let once = Runnable::Bare(valid);
+                let (ran, left) = run_valid(
+                    alloc, run, once, &supplies, random, device, streams, stacks,
                 );
-                let lines = lines_of(alloc, run, module, valid.module(), &left.stopped);
-                drop(valid);
+                let lines = lines_of(alloc, run, module, ran.module(), &left.stopped);
+                drop(ran);
                 return (left, lines);
             }
             Err(fault) => (load_status(fault), Fault::Module(fault)),
@@ -651,10 +502,10 @@ pub fn execute<D: Device + Drop, R: Read + Drop, W1: Write + Drop, W2: Write + D
         VolumeWork::Format {
             sectors,
             slots,
-            large,
+            version,
             new,
         } => {
-            let (done, device) = format_where(alloc, device, sectors, slots, large, new);
+            let (done, device) = format_where(device, version, sectors, slots, new);
             ended(done, device, given, &about)
         }
         VolumeWork::Task(task) => {

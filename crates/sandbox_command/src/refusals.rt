@@ -233,8 +233,9 @@ fn clash_of(run: &Run<'_>) -> (&'static str, &'static str) {
 pub(crate) fn tell_of_clash<W: Write>(err: &mut W, invocation: &Invocation<'_>)
     ensures { AppendsSome (W.contents err.old) (W.contents err.new) }
 {
-    if let Invocation::Run(run) = invocation {
-        let (what, cure) = clash_of(run);
-        tell_words(err, what, SETTING, cure);
-    }
+    let (what, cure) = match invocation {
+        Invocation::Run(run) => clash_of(run),
+        _ => ("--large with --huge", "give one of them"),
+    };
+    tell_words(err, what, SETTING, cure);
 }

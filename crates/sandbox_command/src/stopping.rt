@@ -1,29 +1,32 @@
-//! Where a run stopped: the functions that were at work then, and the lines that tell of them.
+//! Where a run stopped: the functions that were at work then, how its calls were answered, and the lines that tell of both.
 
 ghost use Rattle.std.specs.Prelude.{◌≡◌, ◌++◌, IfOk, OnOk, codes, take};
 ghost use Rattle.wasm_module.specs.declared.module.Module.{Module as ModuleValue};
 ghost use Rattle.module_survey.specs.Sites.{IsSite};
-ghost use Rattle.sandbox_command.specs.Stopping.{AreFrameLines, AreLinesBy, AreLinesOf, AreLinesOfNone, instruction_of};
+ghost use Rattle.sandbox_command.specs.Stopping.{AreFrameLines, AreLinesBy, AreLinesOf, AreLinesOfNone, HasLines, answer_line, answers_text, instruction_of};
 ghost use Rattle.sandbox_command.specs.Streams.{AppendsSome};
 ghost use Rattle.sandbox_words.specs.Request.{Text};
 
 use crate::output::{say, tell};
 use crate::profiling::FuelUse;
+use meanings::errno_text;
 use module_survey::add_site;
-use sandbox_core::Frame;
+use sandbox_core::{Answers, Frame};
 use sandbox_words::Run;
 use std::alloc::Global;
 use std::io;
 use std::io::Write;
 use wasm_module::Module;
 
-/// The functions that were at work when a run stopped, and where its fuel went.
+/// The functions that were at work when a run stopped, how its calls were answered, and where its fuel went.
 #[derive(Drop)]
 pub struct Stopped {
     /// How many they were; 0 after an exit, and of a run that could not begin.
     pub depth: usize,
     /// The innermost of them, the innermost first: as many as are told, or none where memory was refused.
     pub innermost: Vec<Frame>,
+    /// How many calls were answered with each errno.
+    pub answers: Answers,
     /// Where its fuel went, if that is asked for.
     pub fuel_use: Option<FuelUse>,
 }
@@ -43,10 +46,17 @@ pub(crate) fn room_for(alloc: Global, run: &Run<'_>) -> Vec<Frame> {
     room
 }
 
-/// What is told of a run that stopped with so many functions at work, of which the innermost are in the room.
-pub(crate) fn stopped_with(depth: usize, room: Vec<Frame>, fuel_use: Option<FuelUse>) -> Stopped
+/// What is told of a run that stopped with so many functions at work, of which the innermost are in the room, and whose calls were
+/// answered so.
+pub(crate) fn stopped_with(
+    depth: usize,
+    room: Vec<Frame>,
+    answers: Answers,
+    fuel_use: Option<FuelUse>,
+) -> Stopped
     ensures depth { result.depth ≡ depth }
     ensures innermost { result.innermost.items ≡ take depth room.items }
+    ensures answers { result.answers ≡ answers }
     ensures fuel_use { result.fuel_use ≡ fuel_use }
 {
     let mut innermost = room;
@@ -54,6 +64,7 @@ pub(crate) fn stopped_with(depth: usize, room: Vec<Frame>, fuel_use: Option<Fuel
     Stopped {
         depth,
         innermost,
+        answers,
         fuel_use,
     }
 }
@@ -107,7 +118,7 @@ fn add_frames(
 }
 
 /// The lines of a report that tell where a run of a module of these bytes stopped.
-pub(crate) fn frame_lines(
+fn frame_lines(
     alloc: Global,
     run: &Run<'_>,
     bytes: &[u8],
@@ -124,6 +135,41 @@ pub(crate) fn frame_lines(
     Ok(text)
 }
 
+/// Adds the line of an errno that so many calls were answered with, if any were.
+fn add_answer(text: &mut Vec<u8>, errno: u32, count: u64) -> io::Result<()>
+    ensures { OnOk result (text.new.items ≡ text.old.items ++ answer_line errno count) }
+{
+    if count == 0 {
+        return Ok(());
+    }
+    write!(text, "answered:{errno} {count} {}\n", errno_text(errno))
+}
+
+/// Adds a line for each errno but success that calls were answered with.
+fn add_answers(text: &mut Vec<u8>, answers: &Answers) -> io::Result<()>
+    ensures { OnOk result (text.new.items ≡ text.old.items ++ answers_text answers.now) }
+{
+    for errno in 1..answers.len() {
+        add_answer(text, errno as u32, answers[errno])?;
+    }
+    Ok(())
+}
+
+/// The lines of a report that tell where a run of a module of these bytes stopped, and behind them how its calls were answered.
+fn lines_with_answers(
+    alloc: Global,
+    run: &Run<'_>,
+    bytes: &[u8],
+    module: &Module<'_>,
+    stopped: &Stopped,
+) -> io::Result<Vec<u8>>
+    ensures { IfOk result (λ text. HasLines bytes.now «module».now run.now.frames stopped.now text.items) }
+{
+    let mut text = frame_lines(alloc, run, bytes, module, stopped)?;
+    add_answers(&mut text, &stopped.answers)?;
+    Ok(text)
+}
+
 /// The lines of the report of a run that didn't begin; none where it tells no frames.
 pub(crate) fn no_lines(alloc: Global, run: &Run<'_>) -> Vec<u8>
     ensures { AreLinesOfNone result.items }
@@ -137,7 +183,7 @@ pub(crate) fn no_lines(alloc: Global, run: &Run<'_>) -> Vec<u8>
     }
 }
 
-/// The lines of a report that tell where a run stopped; none where memory is refused.
+/// The lines of a report that tell where a run stopped, and how its calls were answered; none where memory is refused.
 pub(crate) fn lines_of(
     alloc: Global,
     run: &Run<'_>,
@@ -150,7 +196,7 @@ pub(crate) fn lines_of(
     let Some(stopped) = stopped else {
         return no_lines(alloc, run);
     };
-    match frame_lines(alloc, run, bytes, module, stopped) {
+    match lines_with_answers(alloc, run, bytes, module, stopped) {
         Ok(text) => text,
         Err(_) => Vec::new(alloc),
     }

@@ -2,11 +2,11 @@
 
 ghost use Rattle.std.specs.Prelude.{◌≡◌, IfOk, IfErr, option_map};
 ghost use Rattle.sandbox_words.specs.Request.{argument_0, arguments_of, texts};
-ghost use Rattle.sandbox_command.specs.Supplies.{split_at_equals, names_of, directories_of};
+ghost use Rattle.sandbox_command.specs.Supplies.{split_at_equals, names_of, directories_of, terminals_of};
 ghost use Rattle.sandbox_command.specs.Supplies.{AreDirectories, AreSettings, IsUncut};
 ghost use Rattle.sandbox_command.specs.internal.Supplies.{AreSupplies};
 
-use sandbox_core::{Preopen, SessionFault, Settings};
+use sandbox_core::{Preopen, SessionFault, Settings, Terminals};
 use sandbox_words::Run;
 use std::alloc::{AllocError, Global};
 
@@ -126,4 +126,19 @@ pub(crate) fn settings<'a, 't>(
         random,
         pages: run.limits.pages,
     }
+}
+
+/// The terminals that the guest of an interactive run is told of.
+pub(crate) fn terminals_of(run: &Run<'_>) -> Option<Terminals>
+    ensures { result ≡ terminals_of run.now }
+{
+    if !run.interactive {
+        return None;
+    }
+    let found = run.terminals;
+    Some(Terminals {
+        input: found.input,
+        output: found.output,
+        error: found.error,
+    })
 }

@@ -7,6 +7,7 @@ ghost use Rattle.sandbox_command.specs.Around.{around};
 ghost use Rattle.sandbox_command.specs.Places.{IsRefusedAmong};
 ghost use Rattle.sandbox_command.specs.Status.{session_status};
 ghost use Rattle.sandbox_command.specs.Testing.{AreRead, HasFailed, HasNoTest, HasRun, IsNoTest, IsTest, IsTestedOrUnread, IsWord, LacksFiles, Lists, RunsLines, RunsList, RunsTests, line_of, list_accesses};
+ghost use Rattle.sandbox_command.specs.internal.Runnable.{IsReadyFor, module_in};
 ghost use Rattle.sandbox_command.specs.internal.Supplies.{AreSupplies};
 ghost use Rattle.sandbox_command.specs.internal.Tests.{AllEndAs, BeginsWithNoWord, IsPrepared, IsTold, OneEndsAs};
 ghost use Rattle.sandbox_command.specs.Streams.{AppendsSome};
@@ -19,11 +20,12 @@ use crate::places::Places;
 use crate::program::{load_status, refuse_file, run_valid, session_status};
 use crate::refusals::{tell_of_line, tell_of_refusal};
 use crate::reporting::session_reason;
+use crate::runnable::Runnable;
 use crate::stopping::{lines_of, no_lines};
 use crate::streams::Streams;
 use crate::supplies::{Supplies, supplied};
 use run_report::{End, Fault, Summary};
-use sandbox_core::{SessionFault, Valid};
+use sandbox_core::SessionFault;
 use sandbox_device::RamDevice;
 use sandbox_words::Run;
 use std::alloc::Global;
@@ -134,22 +136,23 @@ fn tested<'m, P: Places>(
     alloc: Global,
     places: &mut P,
     run: &Run<'_>,
-    valid: Valid<'m>,
+    runnable: Runnable<'m>,
     supplies: &Supplies<'_>,
     files: Files<'_>,
     test: Test<'_>,
-) -> (Valid<'m>, Option<Summary>, Vec<u8>)
-    requires { AreSupplies run.now supplies.now }
-    ensures module { result.0 ≡ valid.entry }
-    ensures tested { IsTestedOrUnread P.Places P.Input.Read P.Output.Write run.now files.entry.«module».now valid.entry files.entry.random.now test.entry
+) -> (Runnable<'m>, Option<Summary>, Vec<u8>)
+    requires supplied { AreSupplies run.now supplies.now }
+    requires ready { IsReadyFor run.now.limits.pages runnable }
+    ensures module { result.0 ≡ runnable.entry }
+    ensures tested { IsTestedOrUnread P.Places P.Input.Read P.Output.Write run.now files.entry.«module».now (module_in runnable.entry) files.entry.random.now test.entry
         places.old places.new result.1 result.2.items }
 {
     match prepare(alloc, places, run, test) {
         Ok(Prepared { device, streams }) => {
-            let (valid, left) = run_valid(
+            let (runnable, left) = run_valid(
                 alloc,
                 run,
-                valid,
+                runnable,
                 supplies,
                 files.random,
                 device,
@@ -157,11 +160,11 @@ fn tested<'m, P: Places>(
                 None,
             );
             let summary = left.summary;
-            let frames = lines_of(alloc, run, files.module, valid.module(), &left.stopped);
+            let frames = lines_of(alloc, run, files.module, runnable.module(), &left.stopped);
             places.end(left);
-            (valid, summary, frames)
+            (runnable, summary, frames)
         }
-        Err(error) => (valid, Some(unread(run, &error)), no_lines(alloc, run)),
+        Err(error) => (runnable, Some(unread(run, &error)), no_lines(alloc, run)),
     }
 }
 
@@ -191,27 +194,28 @@ fn run_test<'m, P: Places>(
     alloc: Global,
     places: &mut P,
     run: &Run<'_>,
-    valid: Valid<'m>,
+    runnable: Runnable<'m>,
     supplies: &Supplies<'_>,
     files: Files<'_>,
     test: Test<'_>,
-) -> (Valid<'m>, bool)
-    requires { AreSupplies run.now supplies.now }
-    ensures module { result.0 ≡ valid.entry }
+) -> (Runnable<'m>, bool)
+    requires supplied { AreSupplies run.now supplies.now }
+    requires ready { IsReadyFor run.now.limits.pages runnable }
+    ensures module { result.0 ≡ runnable.entry }
     ensures ends { OneEndsAs
-        (HasRun P.Places P.Input.Read P.Output.Write run.now files.entry.«module».now valid.entry files.entry.random.now)
-        (HasFailed P.Places P.Input.Read P.Output.Write run.now files.entry.«module».now valid.entry files.entry.random.now)
+        (HasRun P.Places P.Input.Read P.Output.Write run.now files.entry.«module».now (module_in runnable.entry) files.entry.random.now)
+        (HasFailed P.Places P.Input.Read P.Output.Write run.now files.entry.«module».now (module_in runnable.entry) files.entry.random.now)
         result.1 test.entry places.old places.new }
 {
     let Ok(report) = places.make(test.report) else {
-        return (valid, false);
+        return (runnable, false);
     };
-    let (valid, said, frames) = tested(alloc, places, run, valid, supplies, files, test);
+    let (runnable, said, frames) = tested(alloc, places, run, runnable, supplies, files, test);
     let Some(summary) = said else {
-        return (valid, false);
+        return (runnable, false);
     };
     let has_run = is_told_of_guest(places, test.report, report, &summary, frames.as_slice());
-    (valid, has_run)
+    (runnable, has_run)
 }
 
 /// Runs the module on each of these tests, whatever became of those before it: whether a guest ran in each, and its report
@@ -220,25 +224,26 @@ fn run_all<'m, P: Places>(
     alloc: Global,
     places: &mut P,
     run: &Run<'_>,
-    valid: Valid<'m>,
+    runnable: Runnable<'m>,
     supplies: &Supplies<'_>,
     files: Files<'_>,
     tests: &[Test<'_>],
 ) -> bool
-    requires { AreSupplies run.now supplies.now }
+    requires supplied { AreSupplies run.now supplies.now }
+    requires ready { IsReadyFor run.now.limits.pages runnable }
     ensures { AllEndAs
-        (HasRun P.Places P.Input.Read P.Output.Write run.now files.entry.«module».now valid.entry files.entry.random.now)
-        (HasFailed P.Places P.Input.Read P.Output.Write run.now files.entry.«module».now valid.entry files.entry.random.now)
+        (HasRun P.Places P.Input.Read P.Output.Write run.now files.entry.«module».now (module_in runnable.entry) files.entry.random.now)
+        (HasFailed P.Places P.Input.Read P.Output.Write run.now files.entry.«module».now (module_in runnable.entry) files.entry.random.now)
         result tests.now places.old places.new }
 {
-    let mut valid = valid;
+    let mut runnable = runnable;
     let mut have_run = true;
     for test in tests {
-        let (kept, has_run) = run_test(alloc, places, run, valid, supplies, files, *test);
-        valid = kept;
+        let (kept, has_run) = run_test(alloc, places, run, runnable, supplies, files, *test);
+        runnable = kept;
         have_run = have_run && has_run;
     }
-    drop(valid);
+    drop(runnable);
     have_run
 }
 
@@ -297,7 +302,7 @@ fn refuse_tests<W: Write>(err: &mut W, run: &Run<'_>) -> u8
     status
 }
 
-/// Decodes a module and runs it on these tests, and gives the status.
+/// Decodes a module, prepares it once, and runs it on these tests, and gives the status.
 fn run_tests<P: Places, W: Write>(
     alloc: Global,
     places: &mut P,
@@ -320,7 +325,8 @@ fn run_tests<P: Places, W: Write>(
     match sandbox_core::load(alloc, module) {
         Ok(valid) => {
             let files = Files { module, random };
-            if run_all(alloc, places, run, valid, &supplies, files, tests) {
+            let runnable = Runnable::new(alloc, run, valid);
+            if run_all(alloc, places, run, runnable, &supplies, files, tests) {
                 return 0;
             }
             refuse_tests(err, run)

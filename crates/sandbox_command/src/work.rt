@@ -1,16 +1,17 @@
 //! What is done with the volume on a device.
 
 use sandbox_words::Task;
+use vol_inode::Version;
 
 /// What is done with the volume on a device. A run of a guest is none of these.
 #[derive(Clone, Copy)]
 pub enum VolumeWork<'a> {
-    /// The device gets an empty volume of so many sectors and slots, which is a large one or not; where it is to be new, only if no
-    /// volume stands there.
+    /// The device gets an empty volume of so many sectors and slots, of this version; where it is to be new, only if no volume
+    /// stands there.
     Format {
         sectors: u32,
         slots: u32,
-        large: bool,
+        version: Version,
         new: bool,
     },
     /// A task is done.

@@ -43,33 +43,34 @@ use Rattle.wasi_calls.proofs.bodies.PlainCalls.{nothing}
 use Rattle.std.specs.Io.KnownBytes.{Consumes}
 use Rattle.std.proofs.KnownBytes.{Consumes-nil, Consumes-trans, Appends-nil, Appends-trans}
 use Rattle.sandbox_core.specs.Devices.{Devices, Calls as CallsOn}
+use Rattle.wasi_calls.specs.declared.streams.Terminals.{Terminals}
 use Rattle.sandbox_core.specs.Session.{SessionState, OpensWith, Shares, History, Follow, is_synced, pauses_of, seeded_by}
 use Rattle.sandbox_core.proofs.Reaching.{resumes_compose}
 use Rattle.sandbox_core.specs.Runs.{ResumesFollow, answered}
 use Rattle.sandbox_core.specs.Safety.{IsSafeVolume}
-use Rattle.sandbox_core.specs.Headline.{Upholds, Headline, SeededHeadline, turns_of}
+use Rattle.sandbox_core.specs.Headline.{Upholds, Headline, SeededHeadline, OpenedHeadline, turns_of}
 
 -- ---- a run over a host is one over a tree of paths
 
 same_output : (others : StreamBytes) → after_moving nothing others ≡ others
-same_output others = λ i. record { input = others.input; output = append-nil others.output i; errors = append-nil others.errors i }
+same_output others = λ i. record { input = others.input; pieces = others.pieces; output = append-nil others.output i; errors = append-nil others.errors i }
 
 -- one after the other
 abbrev both : StreamBytes → StreamBytes → StreamBytes
-both a b = record { input = a.input ++ b.input; output = a.output ++ b.output; errors = a.errors ++ b.errors }
+both a b = record { input = a.input ++ b.input; pieces = a.pieces ++ b.pieces; output = a.output ++ b.output; errors = a.errors ++ b.errors }
 
 -- the bytes that the first has beside those that it moves by
 abbrev beside_first : StreamBytes → StreamBytes → StreamBytes
 beside_first b others = before_moving b others
 
 abbrev beside_second : StreamBytes → StreamBytes → StreamBytes
-beside_second a others = record { input = others.input; output = others.output ++ a.output; errors = others.errors ++ a.errors }
+beside_second a others = record { input = others.input; pieces = others.pieces; output = others.output ++ a.output; errors = others.errors ++ a.errors }
 
 before_both : (a b others : StreamBytes) → before_moving a (beside_first b others) ≡ before_moving (both a b) others
-before_both a b others = λ i. record { input = sym (append_assoc a.input b.input others.input) i; output = others.output; errors = others.errors }
+before_both a b others = λ i. record { input = sym (append_assoc a.input b.input others.input) i; pieces = sym (append_assoc a.pieces b.pieces others.pieces) i; output = others.output; errors = others.errors }
 
 after_both : (a b others : StreamBytes) → after_moving b (beside_second a others) ≡ after_moving (both a b) others
-after_both a b others = λ i. record { input = others.input; output = append_assoc others.output a.output b.output i; errors = append_assoc others.errors a.errors b.errors i }
+after_both a b others = λ i. record { input = others.input; pieces = others.pieces; output = append_assoc others.output a.output b.output i; errors = append_assoc others.errors a.errors b.errors i }
 
 -- a reader that gave all that it told has none later on
 no_more : (xs ys : List ℕ) → [] ≡ xs ++ ys → ys ≡ []
@@ -100,7 +101,7 @@ module _ {D R W1 W2 : Type 0} (on : Devices D R W1 W2) where
   Moves = StreamsMove on.input.remaining on.out.contents on.err.contents
 
   rest : (h : H) → Moves h h nothing
-  rest h = record { input = Consumes-nil (on.input.remaining h.input.reader); output = Appends-nil (on.out.contents h.out.writer); errors = Appends-nil (on.err.contents h.err.writer); ended = λ is. (refl, is); end = λ is. inl is }
+  rest h = record { input = Consumes-nil (on.input.remaining h.input.reader); output = Appends-nil (on.out.contents h.out.writer); errors = Appends-nil (on.err.contents h.err.writer); ended = λ is. (refl, is); end = λ is. inl is; pieces = λ is. (refl, is) }
 
   moves_on : (h g h' : H) (a b : StreamBytes) → Moves h g a → Moves g h' b → Moves h h' (both a b)
   moves_on h g h' a b first second = record {
@@ -118,6 +119,10 @@ module _ {D R W1 W2 : Type 0} (on : Devices D R W1 W2) where
       ]
       | inr none ↦ inr (none_before _ _ _ a.input first.input none)
     ];
+    pieces = λ is.
+        let one = first.pieces is in
+        let two = second.pieces one.1 in
+        ((λ i. one.0 i ++ two.0 i), two.1);
   }
 
   -- what may follow the second is what may follow the first, with the bytes of the second
@@ -316,9 +321,9 @@ module _ {D R W1 W2 : Type 0} (on : Devices D R W1 W2) where
                 omega (arith, place.1, slice_get_within there.directories place.0 (Entry o) place.2, dirs.0, few_preopens parts.settings fits);
           }
 
-      upholds : (seed : Option ℕ) (m : Module) (trees : List Tree) (from : ℕ) (s' : S) (rs : History S) → OpensWith seed m parts s → IsSafeVolume on.device parts.volume trees from
+      upholds : (seed : Option ℕ) (terminals : Option Terminals) (m : Module) (trees : List Tree) (from : ℕ) (s' : S) (rs : History S) → OpensWith seed terminals m parts s → IsSafeVolume on.device parts.volume trees from
           → Follows s rs s' → Upholds on m parts.settings.pages trees from s rs s'
-      upholds seed m trees from s' rs opens before follow =
+      upholds seed terminals m trees from s' rs opens before follow =
           let first = opens.starts in
           let run = resumes_compose Host Calls first.instance (pauses_of rs) s.host s'.host s.machine s'.machine (first_configuration first.entered first.store) first.stands (follows rs s s' follow)
           (first.instantiates.used ∙ sym first.used) in
@@ -348,12 +353,19 @@ module _ {D R W1 W2 : Type 0} (on : Devices D R W1 W2) where
   pub headline : ((d : D) (t : ℕ) (image : Image) → on.device.honest d → t ≤ (on.device.disk d).operation_count → (on.device.disk d).may_leave image → (on.device.disk d).left_since t image)
       → ((d : D) (image : Image) → on.device.honest d → (on.device.disk d).left_since (on.device.disk d).operation_count image → (on.device.disk d).may_leave image)
       → Headline on
-  headline now only m parts trees from s s' rs opens shares is before follow = upholds now only parts s shares is None m trees from s' rs opens before follow
+  headline now only m parts trees from s s' rs opens shares is before follow = upholds now only parts s shares is None None m trees from s' rs opens before follow
 
   -- being seeded changes nothing that the headline asks of a session
   pub headline_seeded : ((d : D) (t : ℕ) (image : Image) → on.device.honest d → t ≤ (on.device.disk d).operation_count → (on.device.disk d).may_leave image → (on.device.disk d).left_since t image)
       → ((d : D) (image : Image) → on.device.honest d → (on.device.disk d).left_since (on.device.disk d).operation_count image → (on.device.disk d).may_leave image)
       → SeededHeadline on
   headline_seeded now only seed m parts trees from s s' rs opens shares is before follow =
-      upholds now only parts (seeded_by seed s) (record { is_tree = shares.is_tree; reads = shares.reads; preopens = shares.preopens }) is (Some seed) m trees from s' rs
-      (record { fits = opens.fits; starts = opens.starts; input = opens.input; out = opens.out; err = opens.err; settings = opens.settings; supply = refl }) before follow
+      upholds now only parts (seeded_by seed s) (record { is_tree = shares.is_tree; reads = shares.reads; preopens = shares.preopens }) is (Some seed) None m trees from s' rs
+      (record { fits = opens.fits; starts = opens.starts; input = opens.input; out = opens.out; err = opens.err; settings = opens.settings; supply = refl; interactive = opens.interactive }) before follow
+
+  -- nor does being interactive
+  pub headline_opened : ((d : D) (t : ℕ) (image : Image) → on.device.honest d → t ≤ (on.device.disk d).operation_count → (on.device.disk d).may_leave image → (on.device.disk d).left_since t image)
+      → ((d : D) (image : Image) → on.device.honest d → (on.device.disk d).left_since (on.device.disk d).operation_count image → (on.device.disk d).may_leave image)
+      → OpenedHeadline on
+  headline_opened now only seed terminals m parts trees from s s' rs opens shares is before follow =
+      upholds now only parts s shares is seed terminals m trees from s' rs opens before follow

@@ -17,6 +17,7 @@ module _ {D R W1 W2 : Type 0} where
     err = o.err;
     settings = o.settings;
     supply = o.supply;
+    interactive = o.interactive;
   }
 
   pub shares_limited : (device : Ghosts D) (parts : HostParts D R W1 W2) (s : SessionState D R W1 W2) (most : ℕ) → Shares device parts s → Shares device parts (limited_to most s)

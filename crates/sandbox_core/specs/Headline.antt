@@ -1,7 +1,7 @@
 -- The headline: what a guest does is a run of the reduction rules over a tree of paths. What a crash leaves of the
 -- guest's volume is the tree after a first part of its calls, and what is outside its directories stays as it is
 -- (`README.md`, "What is proved").
-use Rattle.std.specs.Prelude.{◌≡◌, ℕ, List, [], ◌∷◌}
+use Rattle.std.specs.Prelude.{◌≡◌, ℕ, List, [], ◌∷◌, Option}
 use Rattle.vol_tree.specs.Tree.{Tree}
 use Rattle.vol_tree.specs.Opened.{GoesOn}
 use Rattle.wasm_module.specs.declared.module.Module.{Module}
@@ -11,6 +11,7 @@ use Rattle.wasm_steps.specs.Configuration as configuration
 use Rattle.wasm_interp.specs.Machine.{Represents}
 use Rattle.wasm_steps.specs.Steps.{Reach}
 use Rattle.wasi_calls.specs.declared.host.wasi_host.HostParts.{HostParts}
+use Rattle.wasi_calls.specs.declared.streams.Terminals.{Terminals}
 use Rattle.wasi_calls.specs.host.Links.{link}
 use Rattle.wasi_calls.specs.World.{World}
 use Rattle.wasi_calls.specs.Calls as world
@@ -19,7 +20,7 @@ use Rattle.wasi_calls.specs.host.Worlds.{Shows, world_of}
 use Rattle.wasi_calls.specs.laws.Moments.{Turn, AllKept}
 use Rattle.wasi_calls.specs.laws.Confined.{IsConfined, named_by}
 use Rattle.sandbox_core.specs.Devices.{Devices, Calls, disk_of, numbers_of, tree_of}
-use Rattle.sandbox_core.specs.Session.{SessionState, Opens, Shares, Follow, used_by, seeded_by}
+use Rattle.sandbox_core.specs.Session.{SessionState, Opens, OpensWith, Shares, Follow, used_by, seeded_by}
 use Rattle.sandbox_core.specs.Session.{History, pauses_of, is_synced}
 use Rattle.sandbox_core.specs.Runs.{answered, LastStopsAt}
 use Rattle.sandbox_core.specs.Safety.{IsSafeVolume}
@@ -85,3 +86,11 @@ module _ {D R W1 W2 : Type 0} (on : Devices D R W1 W2) where
       (rs : History Session) → Opens m parts s → Shares on.device parts s → on.device.honest parts.volume.device
       → IsSafeVolume on.device parts.volume trees from → Follow on (seeded_by seed s) rs s'
       → Upholds m parts.settings.pages trees from (seeded_by seed s) rs s'
+
+  -- The same of a session that opens with any seed or none, interactive or not.
+  abbrev pub OpenedHeadline : Type 0
+  OpenedHeadline = (seed : Option ℕ) (terminals : Option Terminals) (m : Module) (parts : HostParts D R W1 W2)
+      (trees : List Tree) (from : ℕ) (s s' : Session) (rs : History Session)
+      → OpensWith seed terminals m parts s → Shares on.device parts s → on.device.honest parts.volume.device
+      → IsSafeVolume on.device parts.volume trees from → Follow on s rs s'
+      → Upholds m parts.settings.pages trees from s rs s'

@@ -19,6 +19,7 @@ use Rattle.wasm_interp.specs.Machine.{Snapshot, limited}
 use Rattle.wasm_interp.specs.Promise.{Starts, Resumed}
 use Rattle.wasi_fd.specs.Table.{table_of}
 use Rattle.wasi_calls.specs.declared.host.settings.Settings.{Settings}
+use Rattle.wasi_calls.specs.declared.streams.Terminals.{Terminals}
 use Rattle.wasi_calls.specs.declared.host.wasi_host.HostParts.{HostParts}
 use Rattle.wasi_calls.specs.host.Settings.{settings_fit}
 use Rattle.wasi_calls.specs.host.Links.{link}
@@ -51,6 +52,10 @@ module _ {D R W1 W2 : Type 0} where
   abbrev pub seeded_by : ℕ → SessionState D R W1 W2 → SessionState D R W1 W2
   seeded_by seed s = record s { host = record s.host { generator = Some (seeded seed) } }
 
+  -- the same session, interactive from now on, with these terminals
+  abbrev pub interactive_with : Terminals → SessionState D R W1 W2 → SessionState D R W1 W2
+  interactive_with terminals s = record s { host = record s.host { interactive = Some terminals } }
+
   -- the same session, whose guest's stack has this many values at most from now on, or as many as find room already
   abbrev pub limited_to : ℕ → SessionState D R W1 W2 → SessionState D R W1 W2
   limited_to most s = record s { machine = limited most s.machine }
@@ -61,8 +66,8 @@ module _ {D R W1 W2 : Type 0} where
       record { settings = settings; volume = volume; input = input; out = out; err = err }
 
   -- The settings fit, the machine stands for the module's first configuration, no stream has failed, and random bytes
-  -- come from this seed; where there is none, from the settings.
-  pub record OpensWith (seed : Option ℕ) (m : Module) (parts : HostParts D R W1 W2)
+  -- come from this seed; where there is none, from the settings. Where there are terminals, it is interactive with these.
+  pub record OpensWith (seed : Option ℕ) (terminals : Option Terminals) (m : Module) (parts : HostParts D R W1 W2)
       (s : SessionState D R W1 W2) : Type 0 where
     pub fits : settings_fit parts.settings ≡ true
     pub starts : Starts link parts.settings.pages m s.machine
@@ -71,10 +76,11 @@ module _ {D R W1 W2 : Type 0} where
     pub err : s.host.err ≡ record { writer = parts.err; failed = false }
     pub settings : s.host.settings ≡ parts.settings
     pub supply : s.host.generator ≡ option_map seeded seed
+    pub interactive : s.host.interactive ≡ terminals
 
   -- as a new session does
   abbrev pub Opens : Module → HostParts D R W1 W2 → SessionState D R W1 W2 → Type 0
-  Opens m parts s = OpensWith None m parts s
+  Opens m parts s = OpensWith None None m parts s
 
 module _ {D : Type 0} (device : Ghosts D) where
   -- the volume after its directories were asked for, and whether it failed then
@@ -126,6 +132,11 @@ pauses_of rs = map (λ r. r.0) rs
 abbrev pub is_called : Pause → Bool
 is_called (Called c e) = true
 is_called other = false
+
+-- a call that was answered with this errno
+abbrev pub is_answered : ℕ → Pause → Bool
+is_answered k (Called c e) = e.0 == k
+is_answered k other = false
 
 -- a sync that was answered with success
 abbrev pub is_synced : Pause → Bool

@@ -1,7 +1,7 @@
 //! Laws of runs, over definitions only.
 
 ghost use Rattle.sandbox_core.specs.Devices.{devices};
-ghost use Rattle.sandbox_core.specs.Headline.{Headline, SeededHeadline};
+ghost use Rattle.sandbox_core.specs.Headline.{Headline, OpenedHeadline, SeededHeadline};
 ghost use Rattle.sandbox_core.specs.Runs.{PausesCompose, ResumesCompose};
 ghost use Rattle.sandbox_core.specs.Safety.{TurnsAreSafe};
 
@@ -32,4 +32,10 @@ pub fn headline<D: Device, R: Read, W1: Write, W2: Write>()
 /// The headline of a session that `Session::seed` gave random bytes before its first resume.
 pub fn headline_seeded<D: Device, R: Read, W1: Write, W2: Write>()
     ensures { SeededHeadline (devices D.Device R.Read W1.Write W2.Write) }
+{}
+
+/// The headline of a session that `Session::seed` gave random bytes or `Session::interact` made interactive, either or both or
+/// neither, before its first resume.
+pub fn headline_opened<D: Device, R: Read, W1: Write, W2: Write>()
+    ensures { OpenedHeadline (devices D.Device R.Read W1.Write W2.Write) }
 {}

@@ -20,10 +20,10 @@ pub use session::{Finished, RefusedSession, Session};
 pub use shared::{RefusedParts, SharedModule, SharedSession};
 pub use shared_report::run_counted_shared;
 pub use slice::{finish_run, run_slice};
-pub use tally::Tally;
+pub use tally::{Answers, Tally};
 pub use vol_sector::Refused;
 pub use vol_tree::Volume;
-pub use wasi_calls::{HostParts, Preopen, Settings};
+pub use wasi_calls::{HostParts, Preopen, Settings, Terminals};
 pub use wasm_interp::{
     Errno, Frame, Host, HostCall, InstanceFault, Outcome, Pause, Trap,
     frames_are_the_configurations,

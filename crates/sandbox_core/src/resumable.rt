@@ -5,12 +5,13 @@ ghost use Rattle.wasm_module.specs.declared.module.Module.{Module as ModuleValue
 ghost use Rattle.wasm_interp.specs.Frames.{frames_of};
 ghost use Rattle.wasi_calls.specs.host.Worlds.{stream_failed};
 ghost use Rattle.sandbox_core.specs.Devices.{devices};
-ghost use Rattle.sandbox_core.specs.Session.{SessionState, Resumes, Finishes, limited_to, seeded_by, used_by};
+ghost use Rattle.sandbox_core.specs.Session.{SessionState, Resumes, Finishes, limited_to, seeded_by, interactive_with, used_by};
 
 use crate::session::{Finished, Session};
 use crate::shared::SharedSession;
 use std::io::{Read, Write};
 use vol_sector::Device;
+use wasi_calls::Terminals;
 use wasm_interp::{Frame, Pause};
 use wasm_valid::Valid;
 
@@ -39,6 +40,10 @@ pub trait Resumable<D: Device, R: Read, W1: Write, W2: Write> {
     /// From now on the guest gets random bytes of this seed.
     fn seed(&mut self, seed: u64)
         ensures { state self.new ≡ seeded_by seed (state self.old) };
+
+    /// From now on the guest is interactive, with these terminals.
+    fn interact(&mut self, terminals: Terminals)
+        ensures { state self.new ≡ interactive_with terminals (state self.old) };
 
     /// The units of fuel used so far.
     fn used(&self) -> u64
@@ -87,6 +92,10 @@ where
         self.seed(seed)
     }
 
+    fn interact(&mut self, terminals: Terminals) {
+        self.interact(terminals)
+    }
+
     fn used(&self) -> u64 {
         self.used()
     }
@@ -131,6 +140,10 @@ where
 
     fn seed(&mut self, seed: u64) {
         self.seed(seed)
+    }
+
+    fn interact(&mut self, terminals: Terminals) {
+        self.interact(terminals)
     }
 
     fn used(&self) -> u64 {

@@ -12,7 +12,7 @@ use std::io::{Read, Write};
 use std::marker::Model;
 use vol_sector::{Device, Refused, VolumeFault};
 use vol_tree::Volume;
-use wasi_calls::{HostParts, RefusedHost, Settings, WasiHost};
+use wasi_calls::{HostParts, RefusedHost, Settings, Terminals, WasiHost};
 use wasm_interp::{Frame, Machine, Pause, RefusedInstance};
 use wasm_valid::Valid;
 
@@ -101,7 +101,7 @@ where
     W2: Write + Drop,
 {
     ghost use Rattle.wasi_calls.specs.host.Worlds.{stream_failed};
-    ghost use Rattle.sandbox_core.specs.Session.{used_by, limited_to, seeded_by, Opens, Shares, HandsBack, IsRefused, Resumes};
+    ghost use Rattle.sandbox_core.specs.Session.{used_by, limited_to, seeded_by, interactive_with, Opens, Shares, HandsBack, IsRefused, Resumes};
 
     /// A session of the module, which has used nothing yet. The streams are the descriptors 0 to 2, and the preopened
     /// directories of the settings those from 3 on.
@@ -187,6 +187,15 @@ where
         ensures { self.new ≡ seeded_by seed self.old }
     {
         self.host.seed(seed)
+    }
+
+    /// From now on a read of descriptor 0 gives what one read of the input finds, at most as many bytes as its first buffer with
+    /// room takes, and none only at the end: so the guest answers at once who talks to it. It is told which of its streams are
+    /// terminals. What it does is a function of the bytes of the input and of how they were cut. Set it before the run.
+    pub fn interact(&mut self, terminals: Terminals)
+        ensures { self.new ≡ interactive_with terminals self.old }
+    {
+        self.host.interact(terminals)
     }
 
     /// The module that it runs.

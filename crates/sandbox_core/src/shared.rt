@@ -14,7 +14,7 @@ use std::io::{Read, Write};
 use std::marker::Model;
 use vol_sector::Device;
 use vol_tree::Volume;
-use wasi_calls::{HostParts, RefusedHost, Settings, WasiHost, call_of};
+use wasi_calls::{HostParts, RefusedHost, Settings, Terminals, WasiHost, call_of};
 use wasm_interp::{
     Answer, Frame, Host, HostCall, Pause, PreparedModule, RefusedInstance, SharedMachine,
 };
@@ -139,7 +139,7 @@ where
     W2: Write + Drop,
 {
     ghost use Rattle.wasi_calls.specs.host.Worlds.{stream_failed};
-    ghost use Rattle.sandbox_core.specs.Session.{used_by, limited_to, seeded_by, Opens, Shares, HandsBack, IsRefused, Resumes, Finishes};
+    ghost use Rattle.sandbox_core.specs.Session.{used_by, limited_to, seeded_by, interactive_with, Opens, Shares, HandsBack, IsRefused, Resumes, Finishes};
 
     /// A session of a prepared module, as `Session::new` makes one. The settings have the pages that it was prepared for.
     pub fn new(
@@ -217,6 +217,13 @@ where
         ensures { self.new ≡ seeded_by seed self.old }
     {
         self.host.seed(seed)
+    }
+
+    /// From now on the guest is interactive, as by `Session::interact`.
+    pub fn interact(&mut self, terminals: Terminals)
+        ensures { self.new ≡ interactive_with terminals self.old }
+    {
+        self.host.interact(terminals)
     }
 
     /// The module that it runs.

@@ -66,11 +66,11 @@ where
     ensures run { RunsTo (devices D.Device R.Read W1.Write W2.Write)
         session.old fuel session.new result.0 result.1 }
 {
-    let mut tally = Tally { calls: 0, syncs: 0 };
+    let mut tally = Tally::none();
     'running: loop {
         match session.resume(fuel - session.used()) {
             Pause::Called(call, errno) => {
-                tally = tally.with(call, errno);
+                tally.add(call, errno);
                 continue 'running;
             }
             Pause::Spent => return (Outcome::OutOfFuel, tally),

@@ -34,7 +34,7 @@ where
     'running: loop {
         match session.resume(until - session.used()) {
             Pause::Called(call, errno) => {
-                tally = tally.with(call, errno);
+                tally.add(call, errno);
                 continue 'running;
             }
             Pause::Spent => return (None, tally),

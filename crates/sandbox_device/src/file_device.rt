@@ -23,7 +23,13 @@ use std::rt::Files;
 use vol_sector::{Device, DeviceFault};
 
 /// The sectors that a device has at most. What a file has after them is never read or written.
-const MOST_SECTORS: u32 = 65_536;
+const MOST_SECTORS: u32 = 16_777_216;
+
+/// The same of a file that doesn't begin as a volume of version 4, where no more are wanted.
+const MOST_OF_OLDER: u32 = 65_536;
+
+/// What a volume of version 4 begins with: the magic bytes, and its version.
+const VERSION_4: [u8; 12] = *b"WASMVOLU\x04\0\0\0";
 
 /// An open file as a device: sector n is the 512 bytes from `512 * n` on.
 ///
@@ -37,7 +43,7 @@ pub struct FileDevice<F = File> {
     sectors: Sectors,
     failures: u64,
     moments: Moments,
-    ghost few: { length sectors ≤ 65536 },
+    ghost few: { length sectors ≤ 16777216 },
 }
 
 /// How many sectors are read from a file at once.
@@ -60,12 +66,36 @@ fn read_sectors<F: SectorFile>(alloc: Global, file: &F, count: u32) -> io::Resul
     Ok(sectors)
 }
 
-/// The whole sectors of a file, 65,536 at most.
-pub(crate) fn whole_sectors<F: SectorFile>(alloc: Global, file: &F) -> io::Result<Sectors>
-    ensures { IfOk result (λ s. length s ≤ 65536) }
+/// Whether a file begins as a volume of version 4.
+fn begins_as_version_4<F: SectorFile>(file: &F) -> io::Result<bool> {
+    let mut first = [[0; 512]];
+    file.read_into(0, &mut first)?;
+    Ok(&first[0][..12] == VERSION_4.as_slice())
+}
+
+/// How many whole sectors of a file are a device's: 65,536 at most, or as many as are wanted, or 16,777,216 where the file begins
+/// as a volume of version 4. (So that a long file that is no such volume isn't read whole to be refused.)
+fn count_of<F: SectorFile>(file: &F, wanted: u32) -> io::Result<u32>
+    ensures { IfOk result (λ n. n ≤ 16777216) }
 {
-    let count = file.sectors()?.min(u64::from(MOST_SECTORS));
-    read_sectors(alloc, file, count as u32)
+    let there = file.sectors()?.min(u64::from(MOST_SECTORS)) as u32;
+    let most = wanted.max(MOST_OF_OLDER);
+    if there <= most || begins_as_version_4(file)? {
+        return Ok(there);
+    }
+    Ok(most)
+}
+
+/// The whole sectors of a file, as many as `count_of` says.
+pub(crate) fn whole_sectors<F: SectorFile>(
+    alloc: Global,
+    file: &F,
+    wanted: u32,
+) -> io::Result<Sectors>
+    ensures { IfOk result (λ s. length s ≤ 16777216) }
+{
+    let count = count_of(file, wanted)?;
+    read_sectors(alloc, file, count)
 }
 
 /// Locks a file that was opened under this name. It fails where it is locked, and where another file has come in its place
@@ -122,11 +152,11 @@ impl FileDevice {
 }
 
 impl<F: SectorFile + Drop> FileDevice<F> {
-    /// A device of a file as `of` makes one, but the file is lengthened to this many sectors first, or to 65,536 where that is
-    /// less. What the file has stays.
+    /// A device of a file as `of` makes one, but the file is lengthened to this many sectors first, or to 16,777,216 where that is
+    /// less, and the device has them. What the file has stays.
     pub fn lengthened(alloc: Global, file: F, sectors: u32) -> io::Result<FileDevice<F>>
-        ensures few { IfOk result (λ d. length d.sectors ≤ 65536) }
-        ensures enough { IfOk result (λ d. min sectors 65536 ≤ length d.sectors) }
+        ensures few { IfOk result (λ d. length d.sectors ≤ 16777216) }
+        ensures enough { IfOk result (λ d. min sectors 16777216 ≤ length d.sectors) }
         ensures unused { IfOk result (λ d. d.failures ≡ 0) }
         ensures same { IfOk result (λ d. d.file ≡ file) }
     {
@@ -134,7 +164,7 @@ impl<F: SectorFile + Drop> FileDevice<F> {
         if file.sectors()? < u64::from(wanted) {
             file.lengthen(wanted)?;
         }
-        let device = FileDevice::of(alloc, file)?;
+        let device = FileDevice::with(alloc, file, wanted)?;
         if device.sectors.len() < wanted as usize {
             return Err(io::Error::from(ErrorKind::UnexpectedEof)); // it was cut meanwhile
         }
@@ -159,8 +189,8 @@ impl<F: SectorFile + Drop> FileDevice<F> {
         sectors: u32,
         beginning: &[u8; 8],
     ) -> io::Result<FileDevice<F>>
-        ensures few { IfOk result (λ d. length d.sectors ≤ 65536) }
-        ensures enough { IfOk result (λ d. min sectors 65536 ≤ length d.sectors ⊎ BeginsWith beginning.now d.sectors) }
+        ensures few { IfOk result (λ d. length d.sectors ≤ 16777216) }
+        ensures enough { IfOk result (λ d. min sectors 16777216 ≤ length d.sectors ⊎ BeginsWith beginning.now d.sectors) }
         ensures unused { IfOk result (λ d. d.failures ≡ 0) }
         ensures same { IfOk result (λ d. d.file ≡ file) }
     {
@@ -172,13 +202,23 @@ impl<F: SectorFile + Drop> FileDevice<F> {
         FileDevice::lengthened(alloc, file, sectors)
     }
 
-    /// A device of the whole sectors of a file that is open to read and write, 65,536 at most.
+    /// A device of the whole sectors of a file that is open to read and write: 65,536 at most, or 16,777,216 where it begins as a
+    /// volume of version 4.
     pub fn of(alloc: Global, file: F) -> io::Result<FileDevice<F>>
-        ensures few { IfOk result (λ d. length d.sectors ≤ 65536) }
+        ensures few { IfOk result (λ d. length d.sectors ≤ 16777216) }
         ensures unused { IfOk result (λ d. d.failures ≡ 0) }
         ensures same { IfOk result (λ d. d.file ≡ file) }
     {
-        let sectors = whole_sectors(alloc, &file)?;
+        FileDevice::with(alloc, file, 0)
+    }
+
+    /// The same, but it has as many as are wanted, where the file does.
+    fn with(alloc: Global, file: F, wanted: u32) -> io::Result<FileDevice<F>>
+        ensures few { IfOk result (λ d. length d.sectors ≤ 16777216) }
+        ensures unused { IfOk result (λ d. d.failures ≡ 0) }
+        ensures same { IfOk result (λ d. d.file ≡ file) }
+    {
+        let sectors = whole_sectors(alloc, &file, wanted)?;
         Ok(FileDevice {
             file,
             sectors,

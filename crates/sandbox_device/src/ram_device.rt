@@ -41,7 +41,7 @@ impl RamDevice {
 
     /// A device of these sectors. It fails only where memory is refused.
     pub fn of(alloc: Global, sectors: &[[u8; 512]]) -> Result<RamDevice, AllocError>
-        requires { length sectors.now ≤ 65536 }
+        requires { length sectors.now ≤ 16777216 }
         ensures { IfOk result (λ d. d.sectors ≡ sectors.now) }
     {
         Ok(RamDevice {
@@ -50,13 +50,13 @@ impl RamDevice {
         })
     }
 
-    /// A device of a file's whole sectors, 65,536 at most, as they are now; nothing is written to the file. It fails where it
-    /// can't be read, where it is a directory, and where memory is refused.
+    /// A device of a file's whole sectors, 65,536 at most, or 16,777,216 where it begins as a volume of version 4, as they are now;
+    /// nothing is written to the file. It fails where it can't be read, where it is a directory, and where memory is refused.
     pub fn of_file(alloc: Global, file: &File) -> io::Result<RamDevice>
-        ensures { IfOk result (λ d. length d.sectors ≤ 65536) }
+        ensures { IfOk result (λ d. length d.sectors ≤ 16777216) }
     {
         Ok(RamDevice {
-            sectors: whole_sectors(alloc, file)?,
+            sectors: whole_sectors(alloc, file, 0)?,
             past: Past::new(),
         })
     }

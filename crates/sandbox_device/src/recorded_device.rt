@@ -49,7 +49,7 @@ impl RecordedDevice {
         sectors: &[[u8; 512]],
         is_recorded: bool,
     ) -> Result<RecordedDevice, AllocError>
-        requires { length sectors.now ≤ 65536 }
+        requires { length sectors.now ≤ 16777216 }
         ensures sectors { IfOk result (λ d. d.sectors ≡ sectors.now) }
         ensures unused { IfOk result (λ d. (d.history.first ≡ sectors.now) × (d.history.done ≡ [])
             × (d.history.outcomes ≡ [])) }

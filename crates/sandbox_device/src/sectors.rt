@@ -51,7 +51,7 @@ impl Sectors {
 
     /// These.
     pub(crate) fn of(alloc: Global, images: &[[u8; 512]]) -> Result<Sectors, AllocError>
-        requires { length images.now ≤ 65536 }
+        requires { length images.now ≤ 16777216 }
         ensures { IfOk result (λ s. s ≡ images.now) }
     {
         let mut sectors = Sectors::zeros(alloc, images.len() as u32)?;

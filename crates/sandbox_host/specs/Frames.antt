@@ -1,19 +1,27 @@
 -- What a host is told of a function at work, and what a function is called. Which functions are at work, and which
 -- instruction each goes on with, is said by `frames_of`, and the law `frames_are_the_configurations` says that they are the
 -- frames of the rules' configuration.
-use Rattle.std.specs.Prelude.{◌≡◌, ◌+◌, ◌-◌, ◌^◌, ◌==◌, ℕ, List, ◌++◌, length, min, Option, Some, None, if◌then◌else◌, codes, decimal}
+use Rattle.std.specs.Prelude.{◌≡◌, ◌+◌, ◌-◌, ◌^◌, ◌==◌, ℕ, List, ◌++◌, length, min, Option, Some, None, IfSome, if◌then◌else◌, slice_get, codes, decimal}
+use Rattle.wasm_module.specs.declared.module.Body.{Body}
 use Rattle.wasm_module.specs.declared.module.Module.{Module}
+use Rattle.wasm_module.specs.Module.{Spells}
 use Rattle.wasm_interp.specs.declared.frames.Frame.{Frame}
-use Rattle.module_survey.specs.Places.{called}
+use Rattle.module_survey.specs.Places.{IsInstructionAt, called}
 use Rattle.sandbox_host.specs.declared.frames.FunctionFrame.{FunctionFrame}
 
 -- the instruction at which a function stands that has so many inside it: the one that comes next, of a caller its call
 abbrev pub instruction_of : ℕ → ℕ → ℕ
 instruction_of number next = if number == 0 then next else next - 1
 
--- the function of this frame, as the standard counts them: the imported ones first
-pub record TellsFrame (m : Module) (frame : Frame) (told : FunctionFrame) : Type 0 where
+-- where an instruction of this body begins, of the module's own function, as four bytes hold it
+abbrev pub IsOffset : List ℕ → ℕ → ℕ → ℕ → Body → Type 0
+IsOffset bytes own index told body = (offset : ℕ) × IsInstructionAt bytes own body index offset × (told ≡ min offset (2 ^ 32 - 1))
+
+-- The function of this frame, as the standard counts them, the imported ones first; and where it stands in the bytes, which spell the
+-- module.
+pub record TellsFrame (bytes : List ℕ) (m : Module) (number : ℕ) (frame : Frame) (told : FunctionFrame) : Type 0 where
   pub function : told.function ≡ min (length m.imports + frame.own) (2 ^ 32 - 1)
+  pub offset : Spells bytes m → IfSome (slice_get m.bodies frame.own) (IsOffset bytes frame.own (instruction_of number frame.next) told.offset)
 
 abbrev pub number_name : ℕ → List ℕ
 number_name function = codes "function[" ++ decimal function ++ codes "]"

@@ -1,7 +1,7 @@
 //! Sessions and modules that are discarded.
 
 ghost use Rattle.std.specs.Prelude.{◌≡◌, ◌≢◌, ◌⊎◌, None, Some, IfSome, IsSomeAnd, is_none, true, false};
-ghost use Rattle.sandbox_host.specs.Sessions.{finished, finished_in, loaded, loaded_in, prepared, prepared_in, module_of, has_session, has_module};
+ghost use Rattle.sandbox_host.specs.Sessions.{finished, finished_in, loaded, loaded_in, prepared, prepared_in, bytes_of, bytes_in, module_of, has_session, has_module};
 
 use crate::handle::Handle;
 use crate::held::{Ended, Held};
@@ -47,11 +47,13 @@ fn unloaded(held: Held) -> (Held, u32)
     ensures kept { IfSome (finished_in held) (λ e. (result.1 ≡ 0) × (loaded_in result.0 ≡ Some (module_of e.loaded))
         × (prepared_in result.0 ≡ prepared_in held)) }
     ensures other { is_none (finished_in held) ≡ true → (result.1 ≡ 100) × (result.0 ≡ held) }
+    ensures bytes { bytes_in result.0 ≡ bytes_in held }
 {
     match held {
         Held::Finished(
             Ended {
                 loaded,
+                bytes,
                 device,
                 out,
                 err,
@@ -60,7 +62,7 @@ fn unloaded(held: Held) -> (Held, u32)
             drop(device);
             drop(out);
             drop(err);
-            (Held::Loaded(loaded), OK)
+            (Held::Loaded(loaded, bytes), OK)
         }
         other => (other, MISUSE),
     }
@@ -73,6 +75,7 @@ pub fn close_loaded(alloc: Global, session: &mut Handle, module: &mut Handle) ->
     ensures closed { IfSome (finished session.old.held) (λ e. is_none «module».old.held ≡ true
         → (result ≡ OK) × (session.new.held ≡ None) × (loaded «module».new.held ≡ Some (module_of e.loaded))
         × (prepared «module».new.held ≡ prepared session.old.held)) }
+    ensures bytes { result ≡ 0 → bytes_of «module».new.held ≡ bytes_of session.old.held }
 {
     if !module.is_closed() {
         return MISUSE;

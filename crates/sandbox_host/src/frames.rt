@@ -1,9 +1,10 @@
 //! Which functions are at work, where they stand, and what they are called.
 
-ghost use Rattle.std.specs.Prelude.{◌≡◌, None, IfSome, is_none, true, length, slice_get};
+ghost use Rattle.std.specs.Prelude.{◌≡◌, ◌-◌, ◌^◌, min, None, IfSome, is_none, true, length, slice_get};
 ghost use Rattle.wasm_interp.specs.Frames.{frames_of};
-ghost use Rattle.sandbox_host.specs.Sessions.{running, state_of, IsShown};
-ghost use Rattle.sandbox_host.specs.Frames.{instruction_of, TellsFrame, name_of, number_name};
+ghost use Rattle.wasm_module.specs.Module.{Spells};
+ghost use Rattle.sandbox_host.specs.Sessions.{running, state_of, bytes_of, IsShown};
+ghost use Rattle.sandbox_host.specs.Frames.{instruction_of, IsOffset, TellsFrame, name_of, number_name};
 
 use crate::handle::Handle;
 use crate::held::Held;
@@ -12,10 +13,9 @@ use crate::session::HostSession;
 use crate::showing::show;
 use arrayvec::ArrayString;
 use itoa::Buffer;
-use module_survey::called;
+use module_survey::{ModuleBytes, called};
 use sandbox_core::{Frame, Valid};
 use std::alloc::Global;
-use wasm_valid::instruction_offset;
 
 /// No function is at work with so many inside it.
 pub const NO_FRAME: u32 = 101;
@@ -41,35 +41,69 @@ fn instruction_of(number: usize, next: usize) -> usize
     }
 }
 
-/// Where the instruction of one of the module's own functions begins in its bytes.
-fn offset_of(module: &Valid<'_>, own: usize, instruction: usize) -> u32 {
-    match module.module().bodies.as_slice().get(own) {
-        Some(body) => instruction_offset(body, instruction),
+/// A number as four bytes hold it: the largest for those that they don't.
+fn in_four_bytes(number: usize) -> u32
+    ensures { result ≡ min number (2 ^ 32 - 1) }
+{
+    u32::try_from(number).unwrap_or(u32::MAX)
+}
+
+/// Where the instruction of this index begins, of one of the module's own functions, in bytes from the first of the module.
+fn offset_of(
+    alloc: Global,
+    module: &Valid<'_>,
+    bytes: &mut ModuleBytes<'_>,
+    own: usize,
+    instruction: usize,
+) -> u32
+    ensures told { Spells bytes.old «module».now → IfSome (slice_get «module».now.bodies own) (IsOffset bytes.old own instruction result) }
+    ensures kept { bytes.new ≡ bytes.old }
+{
+    let Some(body) = module.module().bodies.as_slice().get(own) else {
+        return 0;
+    };
+    match bytes.instruction_offset(alloc, own, body, instruction) {
+        Some(offset) => in_four_bytes(offset),
         None => 0,
     }
 }
 
 /// Tells a function at work that has so many inside it.
-fn tell_frame(module: &Valid<'_>, number: usize, frame: Frame) -> FunctionFrame
-    ensures { TellsFrame «module».now frame result }
+fn tell_frame(
+    alloc: Global,
+    module: &Valid<'_>,
+    bytes: &mut ModuleBytes<'_>,
+    number: usize,
+    frame: Frame,
+) -> FunctionFrame
+    ensures told { TellsFrame bytes.old «module».now number frame result }
+    ensures kept { bytes.new ≡ bytes.old }
 {
     let imported = module.module().imports.as_slice().len();
     let index = imported.saturating_add(frame.own);
+    let instruction = instruction_of(number, frame.next);
     FunctionFrame {
-        function: u32::try_from(index).unwrap_or(u32::MAX),
-        offset: offset_of(module, frame.own, instruction_of(number, frame.next)),
+        function: in_four_bytes(index),
+        offset: offset_of(alloc, module, bytes, frame.own, instruction),
     }
 }
 
 /// Tells the function at work of a session that has so many inside it.
-fn frame_of(session: &HostSession, number: usize, told: &mut FunctionFrame) -> u32
+fn frame_of(
+    alloc: Global,
+    session: &HostSession,
+    bytes: &mut ModuleBytes<'_>,
+    number: usize,
+    told: &mut FunctionFrame,
+) -> u32
     ensures none { slice_get (frames_of (state_of session.now).machine) number ≡ None → (result ≡ 101) × (told.new ≡ told.old) }
     ensures told { IfSome (slice_get (frames_of (state_of session.now).machine) number) (λ frame. (result ≡ 0)
-        × TellsFrame (state_of session.now).machine.valid frame told.new) }
+        × TellsFrame bytes.old (state_of session.now).machine.valid number frame told.new) }
+    ensures kept { bytes.new ≡ bytes.old }
 {
     match session.frame(number) {
         Some(frame) => {
-            *told = tell_frame(session.module(), number, frame);
+            *told = tell_frame(alloc, session.module(), bytes, number, frame);
             OK
         }
         None => NO_FRAME,
@@ -84,14 +118,16 @@ pub fn frame_at(alloc: Global, session: &mut Handle, number: usize, told: &mut F
     ensures none { IfSome (running session.old.held) (λ s. slice_get (frames_of s.machine) number ≡ None
         → (result ≡ NO_FRAME) × (told.new ≡ told.old)) }
     ensures told { IfSome (running session.old.held) (λ s. IfSome (slice_get (frames_of s.machine) number) (λ frame. (result ≡ OK)
-        × TellsFrame s.machine.valid frame told.new)) }
+        × TellsFrame (bytes_of session.old.held) s.machine.valid number frame told.new)) }
     ensures kept { session.new.held ≡ session.old.held }
 {
-    let Some(held) = session.take(alloc) else {
+    let Some(mut held) = session.take(alloc) else {
         return MISUSE;
     };
-    let answer = match &*held {
-        Held::Running(running) => frame_of(running, number, told),
+    let answer = match &mut *held {
+        Held::Running(running) => {
+            frame_of(alloc, &running.session, &mut running.bytes, number, told)
+        }
         _ => MISUSE,
     };
     session.put(held);

@@ -7,13 +7,22 @@ use crate::kept::Kept;
 use crate::modules::LoadedModule;
 use crate::session::HostSession;
 use crate::showing::show_sectors;
+use module_survey::ModuleBytes;
 use sandbox_device::RecordedDevice;
 use vol_sector::Device;
+
+/// A session that isn't finished.
+#[derive(Drop)]
+pub struct Begun {
+    pub session: HostSession,
+    pub bytes: ModuleBytes<'static>,
+}
 
 /// What a finished session leaves.
 #[derive(Drop)]
 pub struct Ended {
     pub loaded: LoadedModule,
+    pub bytes: ModuleBytes<'static>,
     pub device: RecordedDevice,
     pub out: Kept,
     pub err: Kept,
@@ -41,13 +50,13 @@ fn is_filled(out: &Kept, err: &Kept, descriptor: u32) -> bool
     }
 }
 
-/// What a handle has. It is let go as a whole, so that its destructor is proved once.
+/// What a handle has, with the bytes of its module. It is let go as a whole, so that its destructor is proved once.
 #[derive(Drop)]
 pub enum Held {
     /// A module that no session has.
-    Loaded(LoadedModule),
+    Loaded(LoadedModule, ModuleBytes<'static>),
     /// A session that isn't finished.
-    Running(HostSession),
+    Running(Begun),
     /// A session that is finished.
     Finished(Ended),
     /// Nothing, while a call changes what it has.
@@ -61,14 +70,14 @@ impl Held {
     pub(crate) fn is_session(&self) -> bool
         ensures { result ≡ is_session self.now }
     {
-        matches!(self, Held::Running(_) | Held::Finished(_))
+        matches!(self, Held::Running(..) | Held::Finished(_))
     }
 
     /// Whether it is a loaded module.
     pub(crate) fn is_loaded(&self) -> bool
         ensures { result ≡ is_loaded self.now }
     {
-        matches!(self, Held::Loaded(_))
+        matches!(self, Held::Loaded(..))
     }
 
     /// What the guest has written to descriptor 1 or 2.
@@ -76,7 +85,9 @@ impl Held {
         ensures { result.now ≡ output_of self.now descriptor }
     {
         match self {
-            Held::Running(session) => stream(session.out(), session.err(), descriptor),
+            Held::Running(Begun { session, .. }) => {
+                stream(session.out(), session.err(), descriptor)
+            }
             Held::Finished(ended) => stream(&ended.out, &ended.err, descriptor),
             _ => &[],
         }
@@ -87,7 +98,9 @@ impl Held {
         ensures { result ≡ is_filled_of self.now descriptor }
     {
         match self {
-            Held::Running(session) => is_filled(session.out(), session.err(), descriptor),
+            Held::Running(Begun { session, .. }) => {
+                is_filled(session.out(), session.err(), descriptor)
+            }
             Held::Finished(ended) => is_filled(&ended.out, &ended.err, descriptor),
             _ => false,
         }

@@ -1,12 +1,12 @@
 //! Modules that are loaded, and sessions that begin.
 
 ghost use Rattle.std.specs.Prelude.{◌≡◌, ◌≢◌, ◌⊎◌, None, Some, IfOk, IfErr, IfSome, IsSomeAnd, is_none, true, false};
-ghost use Rattle.sandbox_host.specs.Sessions.{running, running_in, loaded, loaded_in, prepared, prepared_in, module_of, ready_of, state_of, ready_with, IsLoaded, Begins, BeginsFrom};
+ghost use Rattle.sandbox_host.specs.Sessions.{running, running_in, loaded, loaded_in, prepared, prepared_in, bytes_of, bytes_in, module_of, ready_of, state_of, ready_with, IsLoaded, Begins, BeginsFrom};
 ghost use Rattle.sandbox_host.specs.Volumes.{origin_of};
 ghost use Rattle.sandbox_host.specs.Refusals.{NotLoaded, NotBegun, NotBegunOf, NotOpened};
 
 use crate::handle::Handle;
-use crate::held::Held;
+use crate::held::{Begun, Held};
 use crate::kept::Kept;
 use crate::modules::LoadedModule;
 use crate::numbers::{
@@ -16,6 +16,7 @@ use crate::session::{HostSession, OwnSession};
 use crate::sharing::{SharedHostSession, Sharing};
 use crate::supplies::Supplies;
 use crate::volumes::{Origin, VolumeSource, open_volume};
+use module_survey::ModuleBytes;
 use sandbox_core::{RefusedParts, RefusedSession, Session, SharedModule, SharedSession, Valid};
 use std::alloc::Global;
 
@@ -177,20 +178,25 @@ pub(crate) fn begin_from<'a>(
 /// Makes a session behind a closed handle.
 fn open_from(
     alloc: Global,
-    session: &mut Handle,
+    handle: &mut Handle,
     module: &'static [u8],
     supplies: &Supplies<'static>,
     origin: Origin<'_>,
     why: &mut Why,
 ) -> u32
-    requires { is_none session.old.held ≡ true }
-    ensures opened { result ≡ 0 → IsSomeAnd (running session.new.held)
+    requires { is_none handle.old.held ≡ true }
+    ensures opened { result ≡ 0 → IsSomeAnd (running handle.new.held)
         (BeginsFrom «module».now supplies.now origin.entry) × (why.new ≡ why.old) }
-    ensures refused { result ≢ 0 → (session.new.held ≡ None)
+    ensures refused { result ≢ 0 → (handle.new.held ≡ None)
         × NotOpened «module».now supplies.now origin.entry result why.old why.new }
+    ensures bytes { result ≡ 0 → bytes_of handle.new.held ≡ «module».now }
 {
     match begin_from(alloc, module, supplies, origin, why) {
-        Ok(begun) => keep(alloc, session, Held::Running(HostSession::Own(begun))),
+        Ok(begun) => {
+            let session = HostSession::Own(begun);
+            let bytes = ModuleBytes::new(module);
+            keep(alloc, handle, Held::Running(Begun { session, bytes }))
+        }
         Err(number) => number,
     }
 }
@@ -211,6 +217,7 @@ pub fn open(
         → IsSomeAnd (running session.new.held) (BeginsFrom «module».now supplies.now origin) × (why.new ≡ why.old)) }
     ensures refused { is_none session.old.held ≡ true → IfSome (origin_of volume.now) (λ origin. result ≢ 0
         → (session.new.held ≡ None) × NotOpened «module».now supplies.now origin result why.old why.new) }
+    ensures bytes { result ≡ 0 → bytes_of session.new.held ≡ «module».now }
 {
     let Some(origin) = volume.origin() else {
         return MISUSE;
@@ -229,12 +236,16 @@ pub fn load_module(alloc: Global, module: &mut Handle, bytes: &'static [u8], why
         → IsSomeAnd (loaded «module».new.held) (IsLoaded bytes.now) × (prepared «module».new.held ≡ None) × (why.new ≡ why.old) }
     ensures refused { is_none «module».old.held ≡ true → result ≢ 0 → («module».new.held ≡ None)
         × (((result ≡ why.new.fault) × NotLoaded bytes.now why.new) ⊎ ((result ≡ 40) × (why.new ≡ why.old))) }
+    ensures bytes { result ≡ 0 → bytes_of «module».new.held ≡ bytes.now }
 {
     if !module.is_closed() {
         return MISUSE;
     }
     match load(alloc, bytes) {
-        Ok(valid) => keep(alloc, module, Held::Loaded(LoadedModule::Plain(valid))),
+        Ok(valid) => {
+            let loaded = LoadedModule::Plain(valid);
+            keep(alloc, module, Held::Loaded(loaded, ModuleBytes::new(bytes)))
+        }
         Err(told) => {
             *why = told;
             told.fault
@@ -274,11 +285,12 @@ fn begun(alloc: Global, held: Held, supplies: &Supplies<'static>, origin: Origin
     ensures refused { IfSome (loaded_in held) (λ m. result.1 ≢ 0
         → (result.0 ≡ held) × NotBegunOf (prepared_in held) m supplies.now origin.entry result.1) }
     ensures other { is_none (loaded_in held) ≡ true → (result.1 ≡ 100) × (result.0 ≡ held) }
+    ensures bytes { bytes_in result.0 ≡ bytes_in held }
 {
     match held {
-        Held::Loaded(loaded) => match begin_of(alloc, loaded, supplies, origin) {
-            Ok(session) => (Held::Running(session), OK),
-            Err((loaded, number)) => (Held::Loaded(loaded), number),
+        Held::Loaded(loaded, bytes) => match begin_of(alloc, loaded, supplies, origin) {
+            Ok(session) => (Held::Running(Begun { session, bytes }), OK),
+            Err((loaded, number)) => (Held::Loaded(loaded, bytes), number),
         },
         other => (other, MISUSE),
     }
@@ -302,6 +314,7 @@ pub fn open_loaded(
     ensures refused { is_none session.old.held ≡ true → IfSome (origin_of volume.now) (λ origin.
         IfSome (loaded «module».old.held) (λ m. result ≢ 0 → (session.new.held ≡ session.old.held)
         × («module».new.held ≡ «module».old.held) × NotBegunOf (prepared «module».old.held) m supplies.now origin result)) }
+    ensures bytes { result ≡ 0 → bytes_of session.new.held ≡ bytes_of «module».old.held }
 {
     let Some(origin) = volume.origin() else {
         return MISUSE;

@@ -1,7 +1,7 @@
 //! Modules that are prepared once, for any number of sessions.
 
 ghost use Rattle.std.specs.Prelude.{◌≡◌, ◌≢◌, ◌⊎◌, None, Some, IfOk, IfErr, IfSome, IsSomeAnd, is_none, false, true};
-ghost use Rattle.sandbox_host.specs.Sessions.{loaded, prepared, has_module, IsLoaded};
+ghost use Rattle.sandbox_host.specs.Sessions.{loaded, prepared, bytes_of, has_module, IsLoaded};
 ghost use Rattle.sandbox_host.specs.Supplies.{most_pages};
 ghost use Rattle.sandbox_host.specs.Refusals.{NotReady, NotPrepared};
 
@@ -11,6 +11,7 @@ use crate::modules::LoadedModule;
 use crate::numbers::{MISUSE, OUT_OF_MEMORY, SETTING, Why, session_number};
 use crate::opening::{keep, load};
 use crate::supplies::Limits;
+use module_survey::ModuleBytes;
 use sandbox_core::{SessionFault, SharedModule, Valid};
 use std::alloc::Global;
 
@@ -55,6 +56,7 @@ pub fn prepare(
         → IsSomeAnd (prepared «module».new.held) (λ ready. ready.pages ≡ most_pages limits.now) }
     ensures refused { is_none «module».old.held ≡ true → result ≢ 0 → («module».new.held ≡ None)
         × NotPrepared bytes.now limits.now result why.old why.new }
+    ensures bytes { result ≡ 0 → bytes_of «module».new.held ≡ bytes.now }
 {
     if !module.is_closed() {
         return MISUSE;
@@ -67,19 +69,31 @@ pub fn prepare(
         }
     };
     match make_ready(alloc, valid, limits) {
-        Ok(ready) => keep(alloc, module, Held::Loaded(LoadedModule::Prepared(ready))),
+        Ok(ready) => {
+            let loaded = LoadedModule::Prepared(ready);
+            keep(alloc, module, Held::Loaded(loaded, ModuleBytes::new(bytes)))
+        }
         Err(number) => number,
     }
 }
 
 /// The same prepared module behind another handle, which is closed until then.
-fn share_into(alloc: Global, other: &mut Handle, ready: &SharedModule<'static>) -> u32
+fn share_into(
+    alloc: Global,
+    other: &mut Handle,
+    ready: &SharedModule<'static>,
+    bytes: &'static [u8],
+) -> u32
     requires { is_none other.old.held ≡ true }
-    ensures shared { result ≡ 0 → (loaded other.new.held ≡ Some ready.now.valid) × (prepared other.new.held ≡ Some ready.now) }
+    ensures shared { result ≡ 0 → (loaded other.new.held ≡ Some ready.now.valid) × (prepared other.new.held ≡ Some ready.now)
+        × (bytes_of other.new.held ≡ bytes.now) }
     ensures refused { result ≢ 0 → (result ≡ 40) × (other.new.held ≡ None) }
 {
     match ready.share() {
-        Ok(shared) => keep(alloc, other, Held::Loaded(LoadedModule::Prepared(shared))),
+        Ok(shared) => {
+            let loaded = LoadedModule::Prepared(shared);
+            keep(alloc, other, Held::Loaded(loaded, ModuleBytes::new(bytes)))
+        }
         Err(_) => OUT_OF_MEMORY,
     }
 }
@@ -92,6 +106,7 @@ pub fn share(alloc: Global, other: &mut Handle, module: &mut Handle) -> u32
         → (loaded other.new.held ≡ Some ready.valid) × (prepared other.new.held ≡ Some ready)) }
     ensures refused { is_none other.old.held ≡ true → has_module «module».old.held ≡ true → IfSome (prepared «module».old.held) (λ ready. result ≢ 0
         → (result ≡ OUT_OF_MEMORY) × (other.new.held ≡ None)) }
+    ensures bytes { result ≡ 0 → bytes_of other.new.held ≡ bytes_of «module».old.held }
     ensures kept { «module».new.held ≡ «module».old.held }
 {
     if !other.is_closed() {
@@ -101,7 +116,9 @@ pub fn share(alloc: Global, other: &mut Handle, module: &mut Handle) -> u32
         return MISUSE;
     };
     let answer = match &*held {
-        Held::Loaded(LoadedModule::Prepared(ready)) => share_into(alloc, other, ready),
+        Held::Loaded(LoadedModule::Prepared(ready), bytes) => {
+            share_into(alloc, other, ready, bytes.as_slice())
+        }
         _ => MISUSE,
     };
     module.put(held);

@@ -1,14 +1,15 @@
 //! Sessions that run, what they have written, and their ends.
 
 ghost use Rattle.std.specs.Prelude.{◌≡◌, ◌≢◌, ◌⊎◌, None, Some, IfSome, IsSomeAnd, is_none, true, false, length, drop, min, take, ◌++◌, if◌then◌else◌};
-ghost use Rattle.sandbox_host.specs.Sessions.{running, running_in, finished, finished_in, state_of, ready_with, ready_of, prepared, prepared_in};
+ghost use Rattle.sandbox_host.specs.Sessions.{running, running_in, finished, finished_in, state_of, ready_with, ready_of, prepared, prepared_in, bytes_of, bytes_in};
 ghost use Rattle.sandbox_host.specs.Sessions.{output, most_of, was_filled, sectors, IsShown, Paused, Finishes, returned_device, commit_number};
 
 use crate::handle::Handle;
-use crate::held::{Ended, Held};
+use crate::held::{Begun, Ended, Held};
 use crate::numbers::{DEVICE_FAILED, MISUSE, OK, Told, told_pause};
 use crate::session::HostSession;
 use crate::showing::show;
+use module_survey::ModuleBytes;
 use sandbox_core::{Finished, Volume};
 use sandbox_device::RecordedDevice;
 use std::alloc::Global;
@@ -32,13 +33,14 @@ pub fn resume(alloc: Global, session: &mut Handle, units: u64, told: &mut Told) 
     ensures resumed { IfSome (running session.old.held) (λ old. (result ≡ OK)
         × IsSomeAnd (running session.new.held) (λ new. Paused units old new told.new)) }
     ensures prepared { prepared session.new.held ≡ prepared session.old.held }
+    ensures bytes { bytes_of session.new.held ≡ bytes_of session.old.held }
 {
     let Some(mut held) = session.take(alloc) else {
         return MISUSE;
     };
     let answer = match &mut *held {
         Held::Running(running) => {
-            *told = go_on(running, units);
+            *told = go_on(&mut running.session, units);
             OK
         }
         _ => MISUSE,
@@ -113,9 +115,10 @@ fn handed_back(
 }
 
 /// Commits a session's calls. What is left of it, and whether its device failed.
-fn end(session: HostSession) -> (Ended, u32)
+fn end(session: HostSession, bytes: ModuleBytes<'static>) -> (Ended, u32)
     ensures finishes { Finishes (state_of session) result.0 result.1 }
     ensures ready { ready_of result.0.loaded ≡ ready_with session }
+    ensures bytes { result.0.bytes ≡ bytes.entry }
 {
     let (
         loaded,
@@ -130,6 +133,7 @@ fn end(session: HostSession) -> (Ended, u32)
     (
         Ended {
             loaded,
+            bytes,
             device,
             out,
             err,
@@ -143,10 +147,11 @@ fn ended(held: Held) -> (Held, u32)
     ensures finished { IfSome (running_in held) (λ s. IsSomeAnd (finished_in result.0) (λ e. Finishes s e result.1)) }
     ensures other { is_none (running_in held) ≡ true → (result.1 ≡ 100) × (result.0 ≡ held) }
     ensures prepared { prepared_in result.0 ≡ prepared_in held }
+    ensures bytes { bytes_in result.0 ≡ bytes_in held }
 {
     match held {
-        Held::Running(session) => {
-            let (ended, number) = end(session);
+        Held::Running(Begun { session, bytes }) => {
+            let (ended, number) = end(session, bytes);
             (Held::Finished(ended), number)
         }
         other => (other, MISUSE),
@@ -161,6 +166,7 @@ pub fn finish(alloc: Global, session: &mut Handle) -> u32
     ensures finished { IfSome (running session.old.held) (λ s.
         IsSomeAnd (finished session.new.held) (λ e. Finishes s e result)) }
     ensures prepared { prepared session.new.held ≡ prepared session.old.held }
+    ensures bytes { bytes_of session.new.held ≡ bytes_of session.old.held }
 {
     let Some(mut held) = session.take(alloc) else {
         return MISUSE;

@@ -91,7 +91,7 @@ run_rules = text_rule (codes "volume") ∷ text_rule (codes "image") ∷ text_ru
     ∷ number_rule (codes "output") u64_numbers
     ∷ texts_rule (codes "dir") ∷ texts_rule (codes "env") ∷ number_rule (codes "moment") u64_numbers
     ∷ text_rule (codes "random") ∷ number_rule (codes "seed") u64_numbers
-    ∷ text_rule (codes "stdin") ∷ text_rule (codes "stdout") ∷ text_rule (codes "stderr")
+    ∷ text_rule (codes "stdin") ∷ text_rule (codes "stdout") ∷ text_rule (codes "stderr") ∷ flag_rule (codes "interactive")
     ∷ text_rule (codes "name") ∷ text_rule (codes "report") ∷ number_rule (codes "frames") u32_numbers
     ∷ text_rule (codes "profile") ∷ number_rule (codes "profile-every") u64_numbers ∷ text_rule (codes "tests")
     ∷ word_rule (codes "MODULE") ∷ words_rule (codes "WORD") ∷ []
@@ -130,7 +130,11 @@ move_app = app_with (codes "mv") (word_rule (codes "FILE") ∷ word_rule (codes 
 
 abbrev pub format_app : App
 format_app = app_with (codes "format") (word_rule (codes "FILE") ∷ number_word_rule (codes "SECTORS") ∷ number_word_rule (codes "SLOTS")
-    ∷ flag_rule (codes "large") ∷ flag_rule (codes "new") ∷ [])
+    ∷ flag_rule (codes "large") ∷ flag_rule (codes "huge") ∷ flag_rule (codes "new") ∷ [])
+
+-- `upgrade`, to version 4 with `--huge`
+abbrev pub upgrade_app : App
+upgrade_app = app_with (codes "upgrade") (word_rule (codes "FILE") ∷ flag_rule (codes "huge") ∷ [])
 
 -- `faults`, which has no word, and without one prints its help
 abbrev pub faults_app : App
@@ -140,7 +144,7 @@ faults_app = on_top (λ s. record s { arg_required_else_help = true }) (new_app 
 unfoldable pub table_apps : List App
 table_apps = run_app ∷ inspect_app ∷ format_app ∷ list_app ∷ path_app (codes "get") ∷ put_app
     ∷ path_app (codes "import") ∷ path_app (codes "export") ∷ path_app (codes "mkdir") ∷ move_app ∷ remove_app ∷ path_app (codes "stat")
-    ∷ file_app (codes "check") ∷ file_app (codes "upgrade") ∷ []
+    ∷ file_app (codes "check") ∷ upgrade_app ∷ []
 
 -- the program: one of its subcommands has to be there, and it tells its version
 unfoldable pub program : App
@@ -199,6 +203,7 @@ pub record AsksRun (rows : List Row) (run : Run) : Type 0 where
   pub stdin : text_in run.stdin ≡ first_of (codes "stdin") rows
   pub stdout : text_in run.stdout ≡ first_of (codes "stdout") rows
   pub stderr : text_in run.stderr ≡ first_of (codes "stderr") rows
+  pub interactive : IsTrue run.interactive ↔ IsFlagged (codes "interactive") rows
   pub name : text_in run.name ≡ first_of (codes "name") rows
   pub report : text_in run.report ≡ first_of (codes "report") rows
   pub frames : run.frames ≡ number_or 16 32 (codes "frames") rows
@@ -225,7 +230,7 @@ AsksTask name rows (Get path) = (name ≡ codes "get") × (path.now ≡ word_of 
 AsksTask name rows (Put path) = (name ≡ codes "put") × (path.now ≡ word_of (codes "PATH") rows) × (IsFlagged (codes "whole") rows → ⊥)
 AsksTask name rows (PutWhole path) = (name ≡ codes "put") × (path.now ≡ word_of (codes "PATH") rows) × IsFlagged (codes "whole") rows
 AsksTask name rows Check = name ≡ codes "check"
-AsksTask name rows Upgrade = name ≡ codes "upgrade"
+AsksTask name rows (Upgrade huge) = (name ≡ codes "upgrade") × (IsTrue huge ↔ IsFlagged (codes "huge") rows)
 AsksTask name rows (Stat path) = (name ≡ codes "stat") × (path.now ≡ word_of (codes "PATH") rows)
 AsksTask name rows (Changing change) = AsksChange name rows change
 
@@ -244,9 +249,9 @@ other_names = codes "format" ∷ codes "import" ∷ codes "export" ∷ codes "in
 -- What the command of this name is asked for by what was found for its arguments. It is `run` where it is no other.
 abbrev pub AsksFor : Text → List Row → Invocation → Type 0
 AsksFor name rows (asked.Run run) = (Contains other_names name → ⊥) × AsksRun rows run
-AsksFor name rows (asked.Format file sectors slots large new) = (name ≡ codes "format") × (file.now ≡ word_of (codes "FILE") rows)
+AsksFor name rows (asked.Format file sectors slots large huge new) = (name ≡ codes "format") × (file.now ≡ word_of (codes "FILE") rows)
     × (sectors ≡ number_or 0 32 (codes "SECTORS") rows) × (slots ≡ number_or 0 32 (codes "SLOTS") rows)
-    × (IsTrue large ↔ IsFlagged (codes "large") rows) × (IsTrue new ↔ IsFlagged (codes "new") rows)
+    × (IsTrue large ↔ IsFlagged (codes "large") rows) × (IsTrue huge ↔ IsFlagged (codes "huge") rows) × (IsTrue new ↔ IsFlagged (codes "new") rows)
 AsksFor name rows (asked.Volume file task) = (file.now ≡ word_of (codes "FILE") rows) × AsksTask name rows task
 AsksFor name rows (asked.Import file path) = (name ≡ codes "import") × (file.now ≡ word_of (codes "FILE") rows) × (path.now ≡ word_of (codes "PATH") rows)
 AsksFor name rows (asked.Export file path) = (name ≡ codes "export") × (file.now ≡ word_of (codes "FILE") rows) × (path.now ≡ word_of (codes "PATH") rows)

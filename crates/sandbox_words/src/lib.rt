@@ -6,5 +6,5 @@ mod request;
 mod table;
 mod words;
 
-pub use request::{Change, Invocation, Limits, ListForm, Run, Task};
+pub use request::{Change, Invocation, Limits, ListForm, Run, Task, Terminals};
 pub use words::invocation;

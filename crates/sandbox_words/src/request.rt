@@ -13,6 +13,21 @@ pub struct Limits {
     pub output: Option<u64>,
 }
 
+/// Which of the streams of a guest are terminals.
+#[derive(Clone, Copy)]
+pub struct Terminals {
+    pub input: bool,
+    pub output: bool,
+    pub error: bool,
+}
+
+/// No stream is known to be one.
+pub(crate) const NO_TERMINALS: Terminals = Terminals {
+    input: false,
+    output: false,
+    error: false,
+};
+
 /// `sandbox run`: a module, what it may use, and what it is given.
 #[derive(Drop)]
 pub struct Run<'a> {
@@ -41,6 +56,10 @@ pub struct Run<'a> {
     pub stdout: Option<&'a str>,
     /// The file that gets its standard error; where there is none, the program's own gets it.
     pub stderr: Option<&'a str>,
+    /// A read of its standard input gives what is there, and it is told which of its streams are terminals.
+    pub interactive: bool,
+    /// Which of its streams are terminals. No word says it: who has the streams notes it.
+    pub terminals: Terminals,
     /// The guest's argument 0; where there is none, it gets the word that names the module.
     pub name: Option<&'a str>,
     /// The file of its report, which says how it ended and what it used.
@@ -96,8 +115,8 @@ pub enum Task<'a> {
     PutWhole { path: &'a str },
     /// Print how much of the volume is used.
     Check,
-    /// Make it a volume of version 2.
-    Upgrade,
+    /// Make it a volume of version 2, or of version 4 where it is to be huge.
+    Upgrade { huge: bool },
     /// Print what the entry of this path is.
     Stat { path: &'a str },
     /// Change its tree, and make that last.
@@ -110,12 +129,14 @@ pub enum Invocation<'a> {
     /// Run a module.
     Run(Run<'a>),
     /// Make a file an empty volume with these numbers of sectors and of slots for entries, of
-    /// version 2 where it is to be large, else of version 1; where it is to be new, only if it has no volume.
+    /// version 2 where it is to be large, of version 4 where it is to be huge, else of version 1; where it is to be new,
+    /// only if it has no volume.
     Format {
         file: &'a str,
         sectors: u32,
         slots: u32,
         large: bool,
+        huge: bool,
         new: bool,
     },
     /// Do this with the volume in a file.
@@ -137,4 +158,23 @@ pub enum Invocation<'a> {
     Inspect {
         module: &'a str,
     },
+}
+
+impl<'a> Invocation<'a> {
+    ghost use Rattle.sandbox_words.specs.CommandLine.{AsksFor};
+
+    /// Notes which streams of the program are terminals, for a run: it has these but for those that are files. The tests of a list
+    /// have files alone.
+    pub fn note_terminals(&mut self, found: Terminals)
+        ensures { (name : _) (rows : _) → AsksFor name rows self.old → AsksFor name rows self.new }
+    {
+        if let Invocation::Run(run) = self {
+            let alone = run.tests.is_none();
+            run.terminals = Terminals {
+                input: found.input && alone && run.stdin.is_none(),
+                output: found.output && alone && run.stdout.is_none(),
+                error: found.error && alone && run.stderr.is_none(),
+            };
+        }
+    }
 }

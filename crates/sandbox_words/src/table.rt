@@ -46,6 +46,8 @@ pub(crate) enum Arguments {
     Format,
     /// A volume.
     Volume,
+    /// Those of `upgrade`.
+    Upgrade,
     /// A volume and a path in it.
     Path,
     /// Those of `ls`.
@@ -84,11 +86,20 @@ const MODULE: Argument = Argument {
     help: "The module's file",
 };
 
+const HUGE: Argument = Argument {
+    name: "huge",
+    takes: Takes::Flag,
+    help: "Make it one of version 4, whose files have up to 1082225664 bytes",
+};
+
 /// The one argument of a command on a module.
 static INSPECT: [Argument; 1] = [MODULE];
 
 /// The one argument of a command on a whole volume.
 static ON_VOLUME: [Argument; 1] = [VOLUME];
+
+/// The arguments of `upgrade`.
+static UPGRADE: [Argument; 2] = [VOLUME, HUGE];
 
 /// The arguments of a command on a path.
 static ON_PATH: [Argument; 2] = [VOLUME, PATH];
@@ -121,7 +132,7 @@ static PUT: [Argument; 3] = [
 ];
 
 /// The arguments of `run`.
-static RUN: [Argument; 23] = [
+static RUN: [Argument; 24] = [
     Argument {
         name: "volume",
         takes: Takes::Text("FILE"),
@@ -198,6 +209,11 @@ static RUN: [Argument; 23] = [
         help: "The file to be made with its standard error [default: that of the program]",
     },
     Argument {
+        name: "interactive",
+        takes: Takes::Flag,
+        help: "A read of its standard input gives what is there; it is told which streams are terminals",
+    },
+    Argument {
         name: "name",
         takes: Takes::Text("WORD"),
         help: "Its argument 0 [default: the word MODULE]",
@@ -240,23 +256,24 @@ static RUN: [Argument; 23] = [
 ];
 
 /// The arguments of `format`.
-static FORMAT: [Argument; 5] = [
+static FORMAT: [Argument; 6] = [
     VOLUME,
     Argument {
         name: "SECTORS",
         takes: Takes::NumberWord,
-        help: "Sectors of 512 bytes, 137 to 65536",
+        help: "Sectors of 512 bytes, 137 to 65536, or to 16777216 with --huge",
     },
     Argument {
         name: "SLOTS",
         takes: Takes::NumberWord,
-        help: "Slots for entries, 1 to 8192 and fewer than SECTORS - 122",
+        help: "Slots for entries, 1 to 8192, or to 1048576 with --huge; fewer than SECTORS - 122",
     },
     Argument {
         name: "large",
         takes: Takes::Flag,
         help: "Make it one of version 2, whose files have up to 8483840 bytes instead of 95232",
     },
+    HUGE,
     Argument {
         name: "new",
         takes: Takes::Flag,
@@ -300,6 +317,7 @@ pub(crate) fn rows(arguments: Arguments) -> &'static [Argument]
         Arguments::Module => &INSPECT,
         Arguments::Format => &FORMAT,
         Arguments::Volume => &ON_VOLUME,
+        Arguments::Upgrade => &UPGRADE,
         Arguments::Path => &ON_PATH,
         Arguments::List => &LIST,
         Arguments::Put => &PUT,
@@ -384,7 +402,7 @@ static COMMANDS: [Subcommand; 14] = [
     },
     Subcommand {
         name: "upgrade",
-        about: "Make a volume one of version 2",
-        arguments: Arguments::Volume,
+        about: "Make a volume one of version 2, or of version 4 with --huge",
+        arguments: Arguments::Upgrade,
     },
 ];

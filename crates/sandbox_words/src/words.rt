@@ -15,7 +15,7 @@ ghost use Rattle.sandbox_words.specs.internal.Table.{AddsArguments, AddsSubcomma
 ghost use Rattle.sandbox_words.specs.internal.Given.{AsksRunOf};
 
 use crate::faults::MEANINGS;
-use crate::request::{Change, Invocation, Limits, ListForm, Run, Task};
+use crate::request::{Change, Invocation, Limits, ListForm, NO_TERMINALS, Run, Task};
 use crate::table::{Argument, Subcommand, Takes, commands, rows};
 use clap::{Arg, ArgAction, ArgMatches, Command, Error};
 use meanings::VERSION;
@@ -243,6 +243,8 @@ fn run_with<'a>(
         stdin: option_text(matches, "stdin"),
         stdout: option_text(matches, "stdout"),
         stderr: option_text(matches, "stderr"),
+        interactive: is_flagged(matches, "interactive"),
+        terminals: NO_TERMINALS,
         name: option_text(matches, "name"),
         report: option_text(matches, "report"),
         frames: number(matches, "frames").unwrap_or(FRAMES),
@@ -303,13 +305,14 @@ fn task_given<'a>(name: &str, matches: &ArgMatches<'a>) -> Option<Task<'a>>
         (AsksTask name.now (rows_of (found_of matches.now))) }
 {
     let path = text(matches, "PATH");
+    let huge = is_flagged(matches, "huge");
     match name {
         "ls" => Some(listing_given(matches)),
         "get" => Some(Task::Get { path }),
         "put" if is_flagged(matches, "whole") => Some(Task::PutWhole { path }),
         "put" => Some(Task::Put { path }),
         "check" => Some(Task::Check),
-        "upgrade" => Some(Task::Upgrade),
+        "upgrade" => Some(Task::Upgrade { huge }),
         "stat" => Some(Task::Stat { path }),
         _ => match change_given(name, matches) {
             Some(change) => Some(Task::Change(change)),
@@ -332,6 +335,7 @@ fn other_given<'a>(name: &str, matches: &ArgMatches<'a>) -> Option<Invocation<'a
             sectors: number(matches, "SECTORS").unwrap_or(0),
             slots: number(matches, "SLOTS").unwrap_or(0),
             large: is_flagged(matches, "large"),
+            huge: is_flagged(matches, "huge"),
             new: is_flagged(matches, "new"),
         }),
         "import" => Some(Invocation::Import { file, path }),

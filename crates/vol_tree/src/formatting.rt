@@ -5,7 +5,7 @@ ghost use Rattle.vol_sector.specs.Disk.{After, Wrote, Leaves, Only, put, counted
 ghost use Rattle.vol_sector.specs.Fault.{is_device};
 ghost use Rattle.vol_tree.specs.Superblock.{HasRanges};
 ghost use Rattle.vol_tree.specs.Stands.{StandsAs, empty_tree};
-ghost use Rattle.vol_tree.specs.Fresh.{fresh};
+ghost use Rattle.vol_tree.specs.Fresh.{fresh, fresh_as};
 ghost use Rattle.vol_sector.specs.Past.{LeavesPast, StillGoesOn};
 ghost use Rattle.vol_tree.specs.internal.Formatting.{root_entry, fresh_slot, HasFreshSlots, IsFresh};
 ghost use Rattle.vol_tree.specs.Fresh.{IsNoneOrEmpty};
@@ -29,7 +29,7 @@ impl<D: Device> Volume<D> {
     /// fails it stops there, and is refused as `Device`. It takes no memory.
     ///
     /// A stop inside leaves what a crash could leave before, or no volume, or the empty one.
-    pub fn format(mut device: D, sectors: u32, slots: u32) -> Result<D, Refused<D>>
+    pub fn format(device: D, sectors: u32, slots: u32) -> Result<D, Refused<D>>
         ensures geometry { (HasRanges (fresh sectors slots) → ⊥)
             ↔ (result ≡ Err (record { device = device; fault = VolumeFault.Geometry })) }
         ensures too_small { (HasRanges (fresh sectors slots) × (D.size device < sectors))
@@ -62,8 +62,59 @@ impl<D: Device> Volume<D> {
         ensures goes_on_err { IfErr result (λ r. (end : ℕ) → sectors ≤ end
             → StillGoesOn (D.goes_on end) device r.device) }
     {
+        Volume::format_as(device, Version::One, sectors, slots)
+    }
+
+    /// Makes the first sectors of a device an empty volume of this version, with these numbers of
+    /// sectors and slots for entries.
+    ///
+    /// It is refused as `Geometry` where a number is out of its range: 137 to 65,536 sectors (in
+    /// version 4 to 16,777,216), 1 to 8,192 slots (1,048,576), and `122 + slots < sectors`; then as
+    /// `TooSmall` where the device has fewer sectors.
+    /// Both refusals come before any operation. It makes `slots + 3` writes and 3 syncs; where one
+    /// fails it stops there, and is refused as `Device`. It takes no memory.
+    ///
+    /// A stop inside leaves what a crash could leave before, or no volume, or the empty one.
+    pub fn format_as(
+        mut device: D,
+        version: Version,
+        sectors: u32,
+        slots: u32,
+    ) -> Result<D, Refused<D>>
+        ensures geometry { (HasRanges (fresh_as version sectors slots) → ⊥)
+            ↔ (result ≡ Err (record { device = device; fault = VolumeFault.Geometry })) }
+        ensures too_small { (HasRanges (fresh_as version sectors slots) × (D.size device < sectors))
+            ↔ (result ≡ Err (record { device = device; fault = VolumeFault.TooSmall })) }
+        ensures otherwise { HasRanges (fresh_as version sectors slots) → sectors ≤ D.size device
+            → IfErr result (λ r. r.fault ≡ VolumeFault.Device) }
+        // A crash now leaves what reads give, and that is the empty volume.
+        ensures durable { D.honest device → IfOk result (λ d. Only (D.disk d).seen (D.disk d).may_leave) }
+        ensures empty { D.honest device
+            → IfOk result (λ d. StandsAs (D.disk d).seen (fresh_as version sectors slots) (empty_tree slots)) }
+        // At any moment a crash leaves what it could leave before, or no volume, or the empty one.
+        ensures crash_ok { D.honest device → IfOk result (λ d. Leaves (D.disk device) (D.disk d)
+            (IsNoneOrEmpty (fresh_as version sectors slots))) }
+        ensures crash_err { D.honest device
+            → IfErr result (λ r. Leaves (D.disk device) (D.disk r.device)
+            (IsNoneOrEmpty (fresh_as version sectors slots))) }
+        // What the device has past the volume's sectors stays, and none of it is written.
+        ensures past_ok { D.honest device
+            → IfOk result (λ d. LeavesPast sectors (D.disk device) (D.disk d)) }
+        ensures past_err { D.honest device
+            → IfErr result (λ r. LeavesPast sectors (D.disk device) (D.disk r.device)) }
+        ensures kept_ok { IfOk result (λ d. (D.honest device ↔ D.honest d)
+            × (D.size d ≡ D.size device) × (D.failures d ≡ D.failures device)) }
+        // It is refused as `Device` only where an operation failed.
+        ensures kept_err { IfErr result (λ r. (D.honest device ↔ D.honest r.device)
+            × (D.size r.device ≡ D.size device)
+            × (D.failures r.device ≡ counted (is_device r.fault) (D.failures device))) }
+        ensures goes_on_ok { IfOk result (λ d. (end : ℕ) → sectors ≤ end
+            → StillGoesOn (D.goes_on end) device d) }
+        ensures goes_on_err { IfErr result (λ r. (end : ℕ) → sectors ≤ end
+            → StillGoesOn (D.goes_on end) device r.device) }
+    {
         let numbers = Superblock {
-            version: Version::One,
+            version,
             sectors,
             slots,
         };

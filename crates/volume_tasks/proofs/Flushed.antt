@@ -21,7 +21,7 @@ does_kept (Get path) v T given unread a b c U done does kept = (prints_kept (pri
 does_kept (Put path) v T given unread a b c U done does kept = does
 does_kept (PutWhole path) v T given unread a b c U done does kept = does
 does_kept Check v T given unread a b c U done does kept = (prints_kept (Ok (summary v T)) a b c done does.0 kept, does.1)
-does_kept Upgrade v T given unread a b c U done does kept = does
+does_kept (Upgrade huge) v T given unread a b c U done does kept = does
 does_kept (Stat path) v T given unread a b c U done does kept = (prints_kept (printed_facts T path.now) a b c done does.0 kept, does.1)
 does_kept (Changing change) v T given unread a b c U done does kept = does
 

@@ -6,7 +6,7 @@ use Rattle.vol_sector.specs.declared.fault.Refused.{Refused}
 use Rattle.vol_tree.specs.Superblock.{HasRanges}
 use Rattle.vol_tree.specs.Opened.{Opened}
 use Rattle.vol_tree.specs.Opening.{IsPast, StandsOn}
-use Rattle.large_volume.proofs.Going.{past_opened}
+use Rattle.volume_tasks.proofs.PastVolumes.{past_opened}
 use Rattle.volume_tasks.specs.Going.{device_of_opening}
 
 -- what `open` says of both its answers

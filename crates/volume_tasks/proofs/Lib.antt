@@ -11,6 +11,7 @@ mod Missing
 mod Opened
 mod Going
 mod FreshVolume
+mod PastVolumes
 mod Refusals
 mod Meant
 mod Changed

@@ -30,7 +30,7 @@ whole_is_part (Get path) v T given = refl
 whole_is_part (Put path) v T given = inl refl
 whole_is_part (PutWhole path) v T given = inl (inl refl)
 whole_is_part Check v T given = refl
-whole_is_part Upgrade v T given = refl
+whole_is_part (Upgrade huge) v T given = refl
 whole_is_part (Stat path) v T given = refl
 whole_is_part (Changing change) v T given = none_is_part change T
 

@@ -1,13 +1,14 @@
 -- What a task (`ls`, `get`, `put`, `stat`, `check`, `upgrade` or a change of the tree) does with the volume on a device
 -- (`docs/USING.md`, "Commands"). `Performs` is the contract of `perform`: on an honest device (`docs/VOLUME.md`, "The
 -- device") the task is done with the volume's tree, or the volume is refused, and its fault says why (`RefusedBy`).
-use Rattle.std.specs.Prelude.{◌≡◌, ◌⊎◌, ◌↔◌, ℕ, List, Option, Result, Ok, Err, OnOk, IfErr}
+use Rattle.std.specs.Prelude.{◌≡◌, ◌⊎◌, ◌↔◌, ℕ, Bool, true, false, List, Option, Result, Ok, Err, OnOk, IfErr}
 use Rattle.std.specs.Io.KnownBytes.{Keeps}
 use Rattle.vol_sector.specs.Disk.{Image, Disk, Leaves, counted}
 use Rattle.vol_sector.specs.declared.fault.VolumeFault.{VolumeFault}
 use Rattle.vol_sector.specs.declared.fault.VolumeFault.TheVariants as fault
 use Rattle.vol_sector.specs.declared.fault.VolumeFault.TheVariants.{NotAVolume, Version}
-use Rattle.vol_inode.specs.declared.version.Version.TheVariants.{Two}
+use Rattle.vol_inode.specs.declared.version.Version.{Version as Form}
+use Rattle.vol_inode.specs.declared.version.Version.TheVariants.{Two, Four}
 use Rattle.vol_tree.specs.declared.superblock.Superblock.{Superblock}
 use Rattle.vol_tree.specs.Superblock.{IsOlder}
 use Rattle.vol_tree.specs.Tree.{Tree}
@@ -24,10 +25,15 @@ use Rattle.volume_tasks.specs.Tasks.{IsPartOfPut, Prints, Puts, ReflectsAny, pri
 use Rattle.volume_tasks.specs.Changes.{Changes, IsPartOfChange}
 use Rattle.volume_tasks.specs.Replacing.{IsPartOfWhole, PutsWhole, path_beside}
 
--- An upgrade is refused with 35 for version 2 and each newer, and else only with 33.
-pub record Upgrades (v : Superblock) (done : Result (Unit {0}) Failure) : Type 0 where
-  pub newest : (IsOlder v.version Two → ⊥) → done ≡ Err (Volume fault.Upgraded)
-  pub refused : IsOlder v.version Two → IfErr done (λ f. f ≡ Volume fault.Device)
+-- the version that an upgrade makes, a huge one or not
+abbrev pub version_after : (huge : Bool) → Form
+version_after true = Four
+version_after false = Two
+
+-- An upgrade to a version is refused with 35 for it and each newer one, and else only with 33.
+pub record Upgrades (to : Form) (v : Superblock) (done : Result (Unit {0}) Failure) : Type 0 where
+  pub newest : (IsOlder v.version to → ⊥) → done ≡ Err (Volume fault.Upgraded)
+  pub refused : IsOlder v.version to → IfErr done (λ f. f ≡ Volume fault.Device)
 
 -- What a task prints of a volume's tree, and the tree that it leaves, by what is known of the input and the output
 -- before it and after.
@@ -38,7 +44,7 @@ Does (Get path) v T given unread before after U done = Prints (printed_file T pa
 Does (Put path) v T given unread before after U done = Puts v T path.now given unread U done
 Does (PutWhole path) v T given unread before after U done = PutsWhole v T path.now given unread U done
 Does Check v T given unread before after U done = Prints (Ok (summary v T)) before after done × (U ≡ T)
-Does Upgrade v T given unread before after U done = Upgrades v done × (U ≡ T)
+Does (Upgrade huge) v T given unread before after U done = Upgrades (version_after huge) v done × (U ≡ T)
 Does (Stat path) v T given unread before after U done = Prints (printed_facts T path.now) before after done × (U ≡ T)
 Does (Changing change) v T given unread before after U done = Changes T change U done
 
@@ -50,11 +56,11 @@ IsPartOf (Get path) v T given U = U ≡ T
 IsPartOf (Put path) v T given U = IsPartOfPut v T path.now given U
 IsPartOf (PutWhole path) v T given U = IsPartOfWhole v T (path_beside path.now) path.now given U
 IsPartOf Check v T given U = U ≡ T
-IsPartOf Upgrade v T given U = U ≡ T
+IsPartOf (Upgrade huge) v T given U = U ≡ T
 IsPartOf (Stat path) v T given U = U ≡ T
 IsPartOf (Changing change) v T given U = IsPartOfChange T change U
 
--- a stop inside an upgrade may also leave the tree with version 2
+-- a stop inside an upgrade may also leave the tree with the version that it makes
 abbrev pub IsRaised : Task → Superblock → Tree → Image → Type 0
 IsRaised (Ls path) v T c = ⊥
 IsRaised (LsAs path form) v T c = ⊥
@@ -62,7 +68,7 @@ IsRaised (Get path) v T c = ⊥
 IsRaised (Put path) v T c = ⊥
 IsRaised (PutWhole path) v T c = ⊥
 IsRaised Check v T c = ⊥
-IsRaised Upgrade v T c = StandsAs c (raised Two v) T
+IsRaised (Upgrade huge) v T c = StandsAs c (raised (version_after huge) v) T
 IsRaised (Stat path) v T c = ⊥
 IsRaised (Changing change) v T c = ⊥
 
@@ -74,7 +80,7 @@ Lasts (Get path) v U may_leave = Unit {0}
 Lasts (Put path) v U may_leave = (c : Image) → may_leave c → StandsAs c v U
 Lasts (PutWhole path) v U may_leave = (c : Image) → may_leave c → StandsAs c v U
 Lasts Check v U may_leave = Unit {0}
-Lasts Upgrade v U may_leave = (c : Image) → may_leave c → StandsAs c (raised Two v) U
+Lasts (Upgrade huge) v U may_leave = (c : Image) → may_leave c → StandsAs c (raised (version_after huge) v) U
 Lasts (Stat path) v U may_leave = Unit {0}
 Lasts (Changing change) v U may_leave = (c : Image) → may_leave c → StandsAs c v U
 
@@ -86,7 +92,7 @@ PrintsNothing (Get path) = ⊥
 PrintsNothing (Put path) = Unit {0}
 PrintsNothing (PutWhole path) = Unit {0}
 PrintsNothing Check = ⊥
-PrintsNothing Upgrade = Unit {0}
+PrintsNothing (Upgrade huge) = Unit {0}
 PrintsNothing (Stat path) = ⊥
 PrintsNothing (Changing change) = Unit {0}
 
@@ -98,7 +104,7 @@ ReadsNothing (Get path) = Unit {0}
 ReadsNothing (Put path) = ⊥
 ReadsNothing (PutWhole path) = ⊥
 ReadsNothing Check = Unit {0}
-ReadsNothing Upgrade = Unit {0}
+ReadsNothing (Upgrade huge) = Unit {0}
 ReadsNothing (Stat path) = Unit {0}
 ReadsNothing (Changing change) = Unit {0}
 

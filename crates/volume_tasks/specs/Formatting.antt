@@ -1,48 +1,30 @@
--- What formatting a device leaves, and how it ends (`docs/VOLUME.md`, "Formatting"). `FormatsAs` is the contract of
--- `format_as`: version 1 is `Formats`, and version 2 comes from `large_volume`. `FormatsWhere` is that of
--- `format_where`, which may be told to format only what doesn't begin as a volume (`FormatsNew`).
-use Rattle.std.specs.Prelude.{◌≡◌, ◌⊎◌, ◌≤◌, ◌<◌, ◌↔◌, ℕ, Bool, true, false, Result, Ok, Err, OnOk, IfErr, take}
+-- What formatting a device leaves, and how it ends (`docs/VOLUME.md`, "Formatting"). `Formats` is the contract of
+-- `format_as`. `FormatsWhere` is that of `format_where`, which may be told to format only what doesn't begin as a volume
+-- (`FormatsNew`).
+use Rattle.std.specs.Prelude.{◌≡◌, ◌⊎◌, ◌≤◌, ◌<◌, ◌↔◌, ℕ, Bool, true, false, Result, Err, OnOk, IfErr, take}
 use Rattle.vol_sector.specs.Disk.{Image, Disk, Leaves, counted}
-use Rattle.vol_sector.specs.declared.fault.Refused.{Refused}
 use Rattle.vol_sector.specs.declared.fault.VolumeFault.TheVariants as fault
+use Rattle.vol_inode.specs.declared.version.Version.{Version}
 use Rattle.vol_tree.specs.declared.errno.Errno.TheVariants as errno
 use Rattle.vol_tree.specs.Superblock.{HasRanges, magic}
 use Rattle.vol_tree.specs.Stands.{StandsAs, empty_tree}
-use Rattle.vol_tree.specs.Fresh.{fresh, IsNoneOrEmpty}
+use Rattle.vol_tree.specs.Fresh.{fresh_as, IsNoneOrEmpty}
 use Rattle.volume_tasks.specs.declared.failure.Failure.{Failure}
 use Rattle.volume_tasks.specs.declared.failure.Failure.TheVariants.{Tree, Volume}
 use Rattle.volume_tasks.specs.Blame.{blames_device}
-use Rattle.large_volume.specs.Large.{MakesLarge, device_in}
 
--- A device is made an empty volume with these numbers. It is refused with 36 where they are out of their ranges, then
+-- A device is made an empty volume of this version with these numbers. It is refused with 36 where they are out of their ranges, then
 -- with 34 where it has fewer sectors, and else only with 33, where an operation failed. Where it isn't refused, each crash
 -- leaves the empty volume; at any moment a crash leaves what it could leave before, or no volume, or the empty one.
-pub record Formats {D : Type 0} (is_honest : D → Type 0) (disk : D → Disk) (sectors_on failures : D → ℕ) (device : D) (sectors slots : ℕ) (after : D) (done : Result (Unit {0}) Failure) : Type 0 where
-  pub geometry : (HasRanges (fresh sectors slots) → ⊥) → (done ≡ Err (Volume fault.Geometry)) × (after ≡ device)
-  pub too_small : HasRanges (fresh sectors slots) → sectors_on device < sectors → (done ≡ Err (Volume fault.TooSmall)) × (after ≡ device)
-  pub otherwise : HasRanges (fresh sectors slots) → sectors ≤ sectors_on device → IfErr done (λ f. f ≡ Volume fault.Device)
-  pub empty : is_honest device → OnOk done ((c : Image) → (disk after).may_leave c → StandsAs c (fresh sectors slots) (empty_tree slots))
-  pub crash : is_honest device → Leaves (disk device) (disk after) (IsNoneOrEmpty (fresh sectors slots))
+pub record Formats {D : Type 0} (version : Version) (is_honest : D → Type 0) (disk : D → Disk) (sectors_on failures : D → ℕ) (device : D) (sectors slots : ℕ) (after : D) (done : Result (Unit {0}) Failure) : Type 0 where
+  pub geometry : (HasRanges (fresh_as version sectors slots) → ⊥) → (done ≡ Err (Volume fault.Geometry)) × (after ≡ device)
+  pub too_small : HasRanges (fresh_as version sectors slots) → sectors_on device < sectors → (done ≡ Err (Volume fault.TooSmall)) × (after ≡ device)
+  pub otherwise : HasRanges (fresh_as version sectors slots) → sectors ≤ sectors_on device → IfErr done (λ f. f ≡ Volume fault.Device)
+  pub empty : is_honest device → OnOk done ((c : Image) → (disk after).may_leave c → StandsAs c (fresh_as version sectors slots) (empty_tree slots))
+  pub crash : is_honest device → Leaves (disk device) (disk after) (IsNoneOrEmpty (fresh_as version sectors slots))
   pub honest : is_honest device ↔ is_honest after
   pub size : sectors_on after ≡ sectors_on device
   pub failed : failures after ≡ counted (blames_device done) (failures device)
-
--- what a device that was to be a volume is told of
-abbrev pub done_of : {D : Type 0} → Result D (Refused D) → Result (Unit {0}) Failure
-done_of (Ok device) = Ok tt
-done_of (Err refused) = Err (Volume refused.fault)
-
--- A device is made an empty volume of version 2 with these numbers, or that is refused (`crates/large_volume/specs`).
-pub record FormatsLarge {D : Type 0} (is_honest : D → Type 0) (disk : D → Disk) (sectors_on failures : D → ℕ) (device : D) (sectors slots : ℕ) (after : D) (done : Result (Unit {0}) Failure) : Type 0 where
-  pub made : Result D (Refused D)
-  pub makes : MakesLarge is_honest disk sectors_on failures device sectors slots made
-  pub after_is : after ≡ device_in made
-  pub done_is : done ≡ done_of made
-
--- it is made large, or else an empty volume of version 1
-abbrev pub FormatsAs : Bool → {D : Type 0} → (D → Type 0) → (D → Disk) → (D → ℕ) → (D → ℕ) → D → ℕ → ℕ → D → Result (Unit {0}) Failure → Type 0
-FormatsAs true is_honest disk sectors_on failures device sectors slots after done = FormatsLarge is_honest disk sectors_on failures device sectors slots after done
-FormatsAs false is_honest disk sectors_on failures device sectors slots after done = Formats is_honest disk sectors_on failures device sectors slots after done
 
 -- ---- only where no volume stands
 
@@ -61,16 +43,16 @@ module _ {D : Type 0} (is_honest : D → Type 0) (disk : D → Disk) (sectors_on
     pub failed_so : failures after ≡ counted failed (failures before)
 
   -- A device was looked at, and failed (33); or begins as a volume, is refused with 20, and isn't written to; or doesn't, and
-  -- is formatted as it is then (`FormatsAs`).
-  pub record FormatsNew (large : Bool) (device : D) (sectors slots : ℕ) (after : D) (done : Result (Unit {0}) Failure) : Type 0 where
+  -- is formatted as it is then (`Formats`).
+  pub record FormatsNew (version : Version) (device : D) (sectors slots : ℕ) (after : D) (done : Result (Unit {0}) Failure) : Type 0 where
     pub looked : D
     pub failed : Bool
     pub looks : LooksAt device looked failed
     pub ends : ((failed ≡ true) × (done ≡ Err (Volume fault.Device)) × (after ≡ looked))
         ⊎ (((failed ≡ false) × (done ≡ Err (Tree errno.Exist)) × (after ≡ looked) × (is_honest device → BeginsAsVolume (sectors_on device) (disk device).seen))
-        ⊎ ((failed ≡ false) × FormatsAs large is_honest disk sectors_on failures looked sectors slots after done × (is_honest device → BeginsAsVolume (sectors_on device) (disk device).seen → ⊥)))
+        ⊎ ((failed ≡ false) × Formats version is_honest disk sectors_on failures looked sectors slots after done × (is_honest device → BeginsAsVolume (sectors_on device) (disk device).seen → ⊥)))
 
 -- only where no volume stands, or wherever
-abbrev pub FormatsWhere : Bool → Bool → {D : Type 0} → (D → Type 0) → (D → Disk) → (D → ℕ) → (D → ℕ) → D → ℕ → ℕ → D → Result (Unit {0}) Failure → Type 0
-FormatsWhere true large is_honest disk sectors_on failures device sectors slots after done = FormatsNew is_honest disk sectors_on failures large device sectors slots after done
-FormatsWhere false large is_honest disk sectors_on failures device sectors slots after done = FormatsAs large is_honest disk sectors_on failures device sectors slots after done
+abbrev pub FormatsWhere : Bool → Version → {D : Type 0} → (D → Type 0) → (D → Disk) → (D → ℕ) → (D → ℕ) → D → ℕ → ℕ → D → Result (Unit {0}) Failure → Type 0
+FormatsWhere true version is_honest disk sectors_on failures device sectors slots after done = FormatsNew is_honest disk sectors_on failures version device sectors slots after done
+FormatsWhere false version is_honest disk sectors_on failures device sectors slots after done = Formats version is_honest disk sectors_on failures device sectors slots after done

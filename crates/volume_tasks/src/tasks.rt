@@ -6,9 +6,8 @@ ghost use Rattle.vol_sector.specs.Disk.{Leaves, counted};
 ghost use Rattle.volume_tasks.specs.Blame.{blames_device};
 ghost use Rattle.volume_tasks.specs.Tasks.{ReflectsAny};
 ghost use Rattle.vol_tree.specs.Opened.{GoesOn};
-ghost use Rattle.volume_tasks.specs.Formatting.{Formats};
-ghost use Rattle.volume_tasks.specs.Going.{FormatsWithin, KeepsWithin};
-ghost use Rattle.volume_tasks.specs.Doing.{Does, IsPartOf, Lasts, Performs, IsRaised};
+ghost use Rattle.volume_tasks.specs.Going.{KeepsWithin};
+ghost use Rattle.volume_tasks.specs.Doing.{Does, IsPartOf, Lasts, Performs, IsRaised, version_after};
 ghost use Rattle.volume_tasks.specs.Doing.{PrintsNothing, ReadsNothing};
 ghost use Rattle.volume_tasks.specs.internal.Working.{IsWorking};
 
@@ -30,16 +29,11 @@ const PLAIN: ListForm = ListForm {
     null: false,
 };
 
-/// Makes the first sectors of a device an empty volume with these numbers of sectors and of slots
-/// for entries, and gives the device back.
-pub(crate) fn format<D: Device>(device: D, sectors: u32, slots: u32) -> (Result<(), Failure>, D)
-    ensures formats { Formats D.honest D.disk D.size D.failures device sectors slots result.1 result.0 }
-    ensures goes_on { FormatsWithin D.honest D.size D.goes_on sectors device result.1 }
+/// The version that an upgrade makes, a huge one or not.
+fn version_after(huge: bool) -> Version
+    ensures { result ≡ version_after huge }
 {
-    match Volume::format(device, sectors, slots) {
-        Ok(device) => (Ok(()), device),
-        Err(Refused { fault, device }) => (Err(Failure::Volume(fault)), device),
-    }
+    if huge { Version::Four } else { Version::Two }
 }
 
 /// Does a task with an open volume.
@@ -78,7 +72,7 @@ fn done_with<D: Device, R: Read, W: Write>(
         Task::Put { path } => put(volume, path, input),
         Task::PutWhole { path } => put_whole(alloc, volume, path, input),
         Task::Check => check(volume, out),
-        Task::Upgrade => Ok(volume.upgrade(Version::Two)?),
+        Task::Upgrade { huge } => Ok(volume.upgrade(version_after(huge))?),
         Task::Stat { path } => describe(volume, path, out),
         Task::Change(change) => change_tree(volume, change),
     }

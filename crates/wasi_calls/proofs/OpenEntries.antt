@@ -1,5 +1,5 @@
 -- Entries that are open.
-use Rattle.std.proofs.Common.{◌≡◌, ◌^◌, ℕ, Bool, true, false, cond, not, ◌==◌, List, [], Option, Some, IsSome, Ok, refl, sym, ◌∙◌, ap, subst}
+use Rattle.std.proofs.Common.{◌≡◌, ◌^◌, ℕ, Bool, true, false, cond, not, ◌==◌, List, [], Option, Some, None, IsSome, Ok, refl, sym, ◌∙◌, ap, subst}
 use Rattle.std.specs.Option.{option_map_or}
 use Rattle.vol_inode.specs.declared.version.Version.TheVariants.{One}
 use Rattle.vol_tree.specs.Tree.{Tree, Entry as TreeEntry, entry}
@@ -35,10 +35,12 @@ some_world table = record {
   tree = [];
   table = table;
   input = [];
+  pieces = [];
   output = [];
   errors = [];
   random = listed [];
   given = record { args = []; env = []; moment = 0 };
+  interactive = None;
   volume_failed = false;
   input_failed = false;
   input_ended = false;

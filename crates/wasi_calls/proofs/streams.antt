@@ -2,4 +2,5 @@
 pub mod InputCalls
 pub mod OutputCalls
 pub mod ReaderBytes
+pub mod ShortReads
 pub mod WriterBytes

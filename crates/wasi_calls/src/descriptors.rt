@@ -14,8 +14,10 @@ ghost use Rattle.wasi_calls.specs.Calls.{Answers};
 ghost use Rattle.wasi_calls.specs.internal.Bodies.{NoMoreEntries, errno_of};
 
 use crate::checks::{check_range, check_that, described, write_bytes};
+use crate::descriptors::stat::type_of_stream;
 use crate::errno::NAMETOOLONG;
 use crate::numbers::{le64, low32};
+use crate::streams::Terminals;
 use bitflags::Flags;
 use wasi_fd::{Descriptor, Descriptors, EntryKind, Fd};
 use wasm_store::{Errno, Memory};
@@ -34,11 +36,11 @@ pub(crate) fn fd_close(descriptors: &mut Descriptors<'_>, fd: Fd) -> Result<(), 
 }
 
 /// `filetype`: 2 is a character device, 3 a directory, 4 a file.
-fn type_of(descriptor: &Descriptor<'_>) -> u8
-    ensures { result ≡ type_of descriptor.now }
+fn type_of(descriptor: &Descriptor<'_>, interactive: Option<Terminals>) -> u8
+    ensures { result ≡ type_of interactive descriptor.now }
 {
     match descriptor {
-        Descriptor::Stream(_) => 2,
+        Descriptor::Stream(stream) => type_of_stream(*stream, interactive),
         Descriptor::Entry(opened) => match opened.kind {
             EntryKind::Directory => 3,
             EntryKind::File => 4,
@@ -57,11 +59,11 @@ fn flags_of(descriptor: &Descriptor<'_>) -> u8
 }
 
 /// `fdstat`: the type at 0, the flags at 2, the rights at 8 and those that it hands on at 16.
-fn fdstat(descriptor: &Descriptor<'_>) -> [u8; 24]
-    ensures { result ≡ fdstat descriptor.now }
+fn fdstat(descriptor: &Descriptor<'_>, interactive: Option<Terminals>) -> [u8; 24]
+    ensures { result ≡ fdstat interactive descriptor.now }
 {
     let mut bytes = [0; 24];
-    bytes[0] = type_of(descriptor);
+    bytes[0] = type_of(descriptor, interactive);
     bytes[2] = flags_of(descriptor);
     bytes[8..16].copy_from_slice(&le64(descriptor.base().bits()));
     bytes[16..24].copy_from_slice(&le64(descriptor.inheriting().bits()));
@@ -72,15 +74,16 @@ fn fdstat(descriptor: &Descriptor<'_>) -> [u8; 24]
 #[tactic(auto, using(crate::proofs::checks::Chains::goes_on, crate::proofs::checks::Chains::stops))]
 pub(crate) fn fd_fdstat_get(
     descriptors: &Descriptors<'_>,
+    interactive: Option<Terminals>,
     memory: &mut Memory,
     fd: Fd,
     result_at: u32,
 ) -> Result<(), Errno>
-    ensures { (w : World) → w.table ≡ table_of descriptors.now → Answers (stat w memory.old fd result_at) w memory.old w memory.new (errno_of result) }
+    ensures { (w : World) → w.table ≡ table_of descriptors.now → w.interactive ≡ interactive → Answers (stat w memory.old fd result_at) w memory.old w memory.new (errno_of result) }
 {
     let descriptor = described(descriptors, fd)?;
     check_range(memory, result_at, 24)?;
-    write_bytes(memory, result_at, &fdstat(&descriptor));
+    write_bytes(memory, result_at, &fdstat(&descriptor, interactive));
     Ok(())
 }
 

@@ -22,4 +22,4 @@ pub use host::wasi_host::{HostParts, RefusedHost, WasiHost};
 pub use laws::{
     confined, confined_host, host_calls_are_rows, host_calls_keep_moments, kept, pauses,
 };
-pub use streams::{Input, Output};
+pub use streams::{Input, Output, Terminals};

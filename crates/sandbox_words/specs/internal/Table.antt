@@ -47,8 +47,9 @@ abbrev pub rules_for : Arguments → List Rule
 rules_for rows.Run = run_rules
 rules_for rows.Put = word_rule (codes "FILE") ∷ word_rule (codes "PATH") ∷ flag_rule (codes "whole") ∷ []
 rules_for rows.Module = word_rule (codes "MODULE") ∷ []
-rules_for rows.Format = word_rule (codes "FILE") ∷ number_word_rule (codes "SECTORS") ∷ number_word_rule (codes "SLOTS") ∷ flag_rule (codes "large") ∷ flag_rule (codes "new") ∷ []
+rules_for rows.Format = word_rule (codes "FILE") ∷ number_word_rule (codes "SECTORS") ∷ number_word_rule (codes "SLOTS") ∷ flag_rule (codes "large") ∷ flag_rule (codes "huge") ∷ flag_rule (codes "new") ∷ []
 rules_for rows.Volume = word_rule (codes "FILE") ∷ []
+rules_for rows.Upgrade = word_rule (codes "FILE") ∷ flag_rule (codes "huge") ∷ []
 rules_for rows.Path = word_rule (codes "FILE") ∷ word_rule (codes "PATH") ∷ []
 rules_for rows.List = word_rule (codes "FILE") ∷ word_rule (codes "PATH") ∷ flag_rule (codes "escape") ∷ flag_rule (codes "null") ∷ []
 rules_for rows.Move = word_rule (codes "FILE") ∷ word_rule (codes "FROM") ∷ word_rule (codes "TO") ∷ []

@@ -38,10 +38,10 @@ no_more_closed fd old new h k o is = elim (cases_eq k fd) [
 
 -- no bytes
 abbrev pub nothing : StreamBytes
-nothing = record { input = []; output = []; errors = [] }
+nothing = record { input = []; pieces = []; output = []; errors = [] }
 
 pub same_after : (others : StreamBytes) → after_moving nothing others ≡ others
-same_after others = λ i. record { input = others.input; output = append-nil others.output i; errors = append-nil others.errors i }
+same_after others = λ i. record { input = others.input; pieces = others.pieces; output = append-nil others.output i; errors = append-nil others.errors i }
 
 -- ---- the settings
 
@@ -80,6 +80,7 @@ module _ {D R W1 W2 : Type 0} (honest : D → Type 0) (disk : D → Disk) (secto
     errors = Appends-nil (err_contents old.err.writer);
     ended = λ is. (refl, is);
     end = λ is. inl is;
+    pieces = λ is. (refl, is);
   }
 
   pub still_set_up : (old : Inner D R W1 W2) (d : Descriptors) (s : Settings) (g : Option ChaCha) → IsSetUp remaining old → settings_fit s ≡ true
@@ -165,13 +166,13 @@ module _ {D R W1 W2 : Type 0} (honest : D → Type 0) (disk : D → Disk) (secto
       → Serves honest disk sectors_on failures goes_on remaining out_contents err_contents c used args old m (record old { volume = v }) m' e
   serves_volume c used args r old v m m' e reaches io h step same answers = serves_reaching c used args r old v m m' e io h step same (λ known. answers (known reaches))
 
--- ---- the input gives bytes
+-- ---- the input gives bytes, and in an interactive run a piece
 
-abbrev pub from_in : List ℕ → StreamBytes
-from_in bytes = record { input = bytes; output = []; errors = [] }
+abbrev pub from_in : List ℕ → List ℕ → StreamBytes
+from_in bytes pieces = record { input = bytes; pieces = pieces; output = []; errors = [] }
 
-pub after_in : (bytes : List ℕ) (others : StreamBytes) → after_moving (from_in bytes) others ≡ others
-after_in bytes others = λ i. record { input = others.input; output = append-nil others.output i; errors = append-nil others.errors i }
+pub after_in : (bytes pieces : List ℕ) (others : StreamBytes) → after_moving (from_in bytes pieces) others ≡ others
+after_in bytes pieces others = λ i. record { input = others.input; pieces = others.pieces; output = append-nil others.output i; errors = append-nil others.errors i }
 
 -- ---- calls that change the volume and the descriptors
 

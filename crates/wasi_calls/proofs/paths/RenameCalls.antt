@@ -136,10 +136,12 @@ world_with v table = record {
   tree = v.tree;
   table = table;
   input = [];
+  pieces = [];
   output = [];
   errors = [];
   random = listed [];
   given = record { args = []; env = []; moment = 0 };
+  interactive = None;
   volume_failed = v.failed;
   input_failed = false;
   input_ended = false;

@@ -1,5 +1,5 @@
 -- Calls that read from the input.
-use Rattle.std.proofs.Common.{◌≡◌, ◌⊎◌, inl, inr, Result, OnOk, OnErr, IfErr, ℕ, ◌+◌, ◌≤◌, Bool, true, false, not, cond, ◌||◌, nat_lt, List, [], ◌∷◌, ◌++◌, length, take, drop, Option, Some, None, Ok, Err, vec_capacity, refl, sym, ap, ◌∙◌, subst, append-nil, arith}
+use Rattle.std.proofs.Common.{◌≡◌, ◌⊎◌, inl, inr, Result, OnOk, OnErr, IfErr, ℕ, ◌+◌, ◌≤◌, Bool, true, false, not, cond, ◌||◌, nat_lt, is_some, List, [], ◌∷◌, ◌++◌, length, take, drop, Option, Some, None, Ok, Err, vec_capacity, refl, sym, ap, ◌∙◌, subst, append-nil, arith}
 use Rattle.std.proofs.lemmas.Bool.{false≢true}
 use Rattle.std.proofs.lemmas.List.{length-append, length-take, length-drop, take_all, drop_all}
 use Rattle.std.proofs.Math.Seq.{take-append_seam, drop-append_seam}
@@ -16,13 +16,13 @@ use Rattle.wasi_fd.specs.declared.descriptor.Opened.{Opened as OpenedEntry}
 use Rattle.wasi_fd.specs.Table.{table_of}
 use Rattle.wasi_calls.specs.declared.host.inner.Inner.{Inner}
 use Rattle.wasi_calls.specs.host.Settings.{settings_fit}
-use Rattle.wasi_calls.specs.World.{World, unread, with_stream_failed}
+use Rattle.wasi_calls.specs.World.{World, unread, reads_short, most_read, least_read, pieces_after, with_stream_failed}
 use Rattle.wasi_calls.specs.Checks.{Checked, Done, Buffer, put, total, scattered}
 use Rattle.wasm_store.specs.declared.call.HostCall.{HostCall}
 use Rattle.wasi_calls.specs.Calls.{row, Answered, by_row, input_fails, input_left, filled}
 use Rattle.wasi_calls.specs.host.Worlds.{HostState, StreamBytes, HasFailed, LeavesNone, StreamsMove, before_moving, after_moving, world_of, VolumeStep}
 use Rattle.wasi_calls.specs.internal.Bodies.{state_of, errno_of, IsSetUp, Serves}
-use Rattle.wasi_calls.specs.internal.streams.Inputs.{SomeDealt, IsRead, read_to}
+use Rattle.wasi_calls.specs.internal.streams.Inputs.{Broke, IsRead, read_to}
 use Rattle.wasi_calls.proofs.checks.Chains.{guard_passes, guard_fails, goes_on, stops}
 use Rattle.wasi_calls.proofs.bodies.Answering.{answers_done, answers_refused}
 use Rattle.wasi_calls.proofs.bodies.PlainCalls.{nothing, same_after, from_in, after_in, volume_rests, settings_rest, streams_rest}
@@ -32,6 +32,7 @@ use Rattle.wasi_calls.specs.declared.streams.Input.{Input as InputValue}
 use Rattle.wasi_calls.specs.declared.checks.buffers.TheConstants.{MOST_BUFFERS}
 use Rattle.wasi_calls.specs.declared.streams.inputs.TheConstants.{INPUT_PIECE}
 use Rattle.wasi_calls.proofs.streams.ReaderBytes.{ended_or, none_long}
+use Rattle.wasi_calls.proofs.streams.ShortReads.{piece_of, no_piece, later, reads_so_many, reads_no_more, reads_before_failure}
 
 -- ---- the bytes before a read and after it
 
@@ -66,10 +67,14 @@ cut_all had bytes left n parts few full = elim full [
 
 -- the bytes that are taken
 abbrev taken_in : World → List Buffer → List ℕ
-taken_in w bs = take (total bs) (unread w)
+taken_in w bs = take (most_read (reads_short w) w.pieces (total bs)) (unread w)
 
 abbrev world_in : World → List Buffer → World
-world_in w bs = record w { input = drop (length (taken_in w bs)) w.input; input_ended = w.input_ended || nat_lt (length (taken_in w bs)) (total bs) }
+world_in w bs = record w {
+  input = drop (length (taken_in w bs)) w.input;
+  pieces = pieces_after (reads_short w) w.pieces;
+  input_ended = w.input_ended || nat_lt (length (taken_in w bs)) (least_read (reads_short w) (total bs));
+}
 
 abbrev done_in : World → List Buffer → ℕ → Done
 done_in w bs result = record {
@@ -115,11 +120,11 @@ module _ {D R W1 W2 : Type 0} (honest : D → Type 0) (disk : D → Disk) (secto
   in_rests : VolumeStep honest disk sectors_on failures device_goes_on old.volume new.volume
   in_rests = subst (λ (s : HostState D R W1 W2). VolumeStep honest disk sectors_on failures device_goes_on old.volume s.volume) (sym state) (volume_rests honest disk sectors_on failures device_goes_on old.volume)
 
-  in_moves : (bytes : List ℕ) → Consumes (remaining old.input.reader) (remaining new.input.reader) bytes → (old.input.ended ≡ true → (bytes ≡ []) × (new.input.ended ≡ true))
-      → StreamsMove remaining out_contents err_contents (state_of old) (state_of new) (from_in bytes)
-  in_moves bytes consumed ended =
-      subst (λ (t : HostState D R W1 W2). StreamsMove remaining out_contents err_contents (state_of old) t (from_in bytes)) (sym state)
-      (record { input = consumed; output = Appends-nil (out_contents old.out.writer); errors = Appends-nil (err_contents old.err.writer); ended = ended; end = λ is. inr (leaves_none _ _ bytes consumed (end is)) })
+  in_moves : (bytes pieces : List ℕ) → Consumes (remaining old.input.reader) (remaining new.input.reader) bytes → (old.input.ended ≡ true → (bytes ≡ []) × (new.input.ended ≡ true))
+      → (old.interactive ≡ None → pieces ≡ []) → StreamsMove remaining out_contents err_contents (state_of old) (state_of new) (from_in bytes pieces)
+  in_moves bytes pieces consumed ended none =
+      subst (λ (t : HostState D R W1 W2). StreamsMove remaining out_contents err_contents (state_of old) t (from_in bytes pieces)) (sym state)
+      (record { input = consumed; output = Appends-nil (out_contents old.out.writer); errors = Appends-nil (err_contents old.err.writer); ended = ended; end = λ is. inr (leaves_none _ _ bytes consumed (end is)); pieces = λ is. (none is, is) })
 
   idle_in : old.input.failed ≡ true → new.input ≡ old.input → m' ≡ m → Serves honest disk sectors_on failures device_goes_on remaining out_contents err_contents c used args old m new m' 29
   idle_in failed none bytes =
@@ -140,38 +145,45 @@ module _ {D R W1 W2 : Type 0} (honest : D → Type 0) (disk : D → Disk) (secto
         io = λ _. cause (ap (λ (i : InputValue R). i.failed) none ∙ failed);
       }
 
-  came_in : IsRead remaining old.input new.input m bs result m' → Serves honest disk sectors_on failures device_goes_on remaining out_contents err_contents c used args old m new m' 0
+  abbrev short_in : Bool
+  short_in = is_some old.interactive
+
+  came_in : IsRead short_in remaining old.input new.input m bs result m' → Serves honest disk sectors_on failures device_goes_on remaining out_contents err_contents c used args old m new m' 0
   came_in r =
       let bytes : List ℕ = r.dealt.bytes in
       let none = λ (is : old.input.ended ≡ true). none_long bytes (omega (arith, r.dealt.many, r.none is)) in
-      let stays = λ (is : old.input.ended ≡ true). r.ended ∙ ap (λ (x : Bool). x || nat_lt r.count (total bs)) is in
+      let stays = λ (is : old.input.ended ≡ true). r.ended ∙ ap (λ (x : Bool). x || nat_lt r.count (least_read short_in (total bs))) is in
+      let few : length bytes ≤ total bs = omega (arith, r.dealt.many, r.dealt.few) in
+      let piece : List ℕ = piece_of short_in (length bytes) in
       record {
         set_up = in_set_up;
         row = λ _. (
-          from_in bytes,
-          in_moves bytes r.dealt.consumed (λ is. (none is, stays is)),
+          from_in bytes piece,
+          in_moves bytes piece r.dealt.consumed (λ is. (none is, stays is)) (λ is. no_piece short_in (length bytes) (ap is_some is)),
           λ others last.
-              let b : StreamBytes = before_moving (from_in bytes) others in
+              let b : StreamBytes = before_moving (from_in bytes piece) others in
+              let most : ℕ = most_read short_in (piece ++ others.pieces) (total bs) in
               let w : World = world_of (state_of old) b in
               let had : List ℕ = bytes ++ others.input in
               let rest : drop (length bytes) had ≡ others.input = drop-append_seam bytes others.input in
               let first : taken_in w bs ≡ bytes = elim (ended_or old.input.ended) [
-                | inl is ↦ ap (take (total bs)) (unread_ended w is) ∙ (take_all (total bs) [] (omega arith) ∙ sym (none is))
+                | inl is ↦ ap (take most) (unread_ended w is) ∙ (take_all most [] (omega arith) ∙ sym (none is))
                 | inr goes_on ↦
-                    let cut : IsCut had bytes others.input (total bs) = cut_all had bytes others.input (total bs) refl (omega (arith, r.dealt.many, r.dealt.few)) (elim (ended_or new.input.ended) [
+                    let cut : IsCut had bytes others.input most = cut_all had bytes others.input most refl (reads_no_more short_in (length bytes) (total bs) others.pieces few) (elim (ended_or new.input.ended) [
                       | inl is ↦ inr (last is)
-                      | inr still ↦ inl (r.dealt.many ∙ r.full still)
+                      | inr still ↦ inl (reads_so_many short_in (length bytes) (total bs) others.pieces few (subst (λ (n : ℕ). least_read short_in (total bs) ≤ n) (sym r.dealt.many) (r.full still)))
                     ]) in
-                    ap (take (total bs)) (unread_on w goes_on) ∙ cut.first
+                    ap (take most) (unread_on w goes_on) ∙ cut.first
               ] in
               let long : r.count ≡ length (taken_in w bs) = sym r.dealt.many ∙ ap length (sym first) in
               let left : others.input ≡ drop (length (taken_in w bs)) had = sym (ap (λ (l : List ℕ). drop (length l) had) first ∙ rest) in
-              let marked : new.input.ended ≡ (old.input.ended || nat_lt (length (taken_in w bs)) (total bs)) = r.ended ∙ ap (λ (n : ℕ). old.input.ended || nat_lt n (total bs)) long in
-              subst (λ (x : StreamBytes). Answered in_run w m (world_of (state_of new) x) m' 0) (sym (after_in bytes others))
+              let marked : new.input.ended ≡ (old.input.ended || nat_lt (length (taken_in w bs)) (least_read short_in (total bs))) = r.ended ∙ ap (λ (n : ℕ). old.input.ended || nat_lt n (least_read short_in (total bs))) long in
+              let next : others.pieces ≡ pieces_after short_in (piece ++ others.pieces) = later short_in (length bytes) others.pieces in
+              subst (λ (x : StreamBytes). Answered in_run w m (world_of (state_of new) x) m' 0) (sym (after_in bytes piece others))
               (subst (λ (t : HostState D R W1 W2). Answered in_run w m (world_of t others) m' 0) (sym state)
               (by_row (answers_done (in_run w) w m (world_of (state_of (record old { input = new.input })) others) m' (done_in w bs result)
               (same w refl ∙ in_alive w fd bs result r.worked)
-              (λ i. record w { input = left i; input_ended = marked i; input_failed = (r.works ∙ sym r.worked) i })
+              (λ i. record w { input = left i; pieces = next i; input_ended = marked i; input_failed = (r.works ∙ sym r.worked) i })
               (r.stand ∙ ((λ i. written (r.dealt.stand i) result (little_bytes 4 (long i)))
               ∙ λ i. written (put m (scattered (sym first i) bs)) result (little_bytes 4 (length (taken_in w bs)))))))),
         );
@@ -181,30 +193,32 @@ module _ {D R W1 W2 : Type 0} (honest : D → Type 0) (disk : D → Disk) (secto
       }
 
   broke_in : old.input.failed ≡ false → new.input.failed ≡ true → old.input.ended ≡ false → new.input.ended ≡ false
-      → SomeDealt (remaining old.input.reader) (remaining new.input.reader) m bs m' → Serves honest disk sectors_on failures device_goes_on remaining out_contents err_contents c used args old m new m' 29
+      → Broke short_in (remaining old.input.reader) (remaining new.input.reader) m bs m' → Serves honest disk sectors_on failures device_goes_on remaining out_contents err_contents c used args old m new m' 29
   broke_in before after goes_on still some =
-      let dealt = some.dealt in
+      let dealt = some.some.dealt in
       let bytes : List ℕ = dealt.bytes in
       let few : length bytes ≤ total bs = omega (arith, dealt.many, dealt.few) in
       record {
         set_up = in_set_up;
         row = λ _. (
-          from_in bytes,
-          in_moves bytes dealt.consumed (λ is. absurd (false≢true (sym goes_on ∙ is))),
+          from_in bytes [],
+          in_moves bytes [] dealt.consumed (λ is. absurd (false≢true (sym goes_on ∙ is))) (λ is. refl),
           λ others last.
-              let b : StreamBytes = before_moving (from_in bytes) others in
+              let b : StreamBytes = before_moving (from_in bytes []) others in
+              let most : ℕ = most_read short_in others.pieces (total bs) in
+              let fewer : length bytes ≤ most = reads_before_failure short_in (length bytes) (total bs) others.pieces few (λ is. dealt.many ∙ some.none is) in
               let w : World = world_of (state_of old) b in
               let had : List ℕ = bytes ++ others.input in
               let cut = cut_at had bytes others.input refl in
               let is_row : in_run w ≡ Ok (done_in w bs result) = same w refl ∙ in_alive w fd bs result before in
-              let short : World = record w { input = take (length bytes) had } in
-              let row_short : in_run short ≡ Ok (done_in short bs result) = same short refl ∙ in_alive short fd bs result before in
-              let all : taken_in short bs ≡ bytes = ap (take (total bs)) (unread_on short goes_on ∙ cut.first) ∙ take_all (total bs) bytes few in
-              let taken : length (taken_in w bs) ≡ length (take (total bs) had) = ap (λ (l : List ℕ). length (take (total bs) l)) (unread_on w goes_on) in
+              let cut_off : World = record w { input = take (length bytes) had } in
+              let row_cut : in_run cut_off ≡ Ok (done_in cut_off bs result) = same cut_off refl ∙ in_alive cut_off fd bs result before in
+              let all : taken_in cut_off bs ≡ bytes = ap (take most) (unread_on cut_off goes_on ∙ cut.first) ∙ take_all most bytes fewer in
+              let taken : length (taken_in w bs) ≡ length (take most had) = ap (λ (l : List ℕ). length (take most l)) (unread_on w goes_on) in
               let long = length-append bytes others.input in
-              let part = length-take (total bs) had in
+              let part = length-take most had in
               let rest = length-drop (length (taken_in w bs)) had in
-              subst (λ (x : StreamBytes). Answered in_run w m (world_of (state_of new) x) m' 29) (sym (after_in bytes others))
+              subst (λ (x : StreamBytes). Answered in_run w m (world_of (state_of new) x) m' 29) (sym (after_in bytes [] others))
               (subst (λ (t : HostState D R W1 W2). Answered in_run w m (world_of t others) m' 29) (sym state)
               (input_fails (record {
                 reaches = record {
@@ -214,9 +228,9 @@ module _ {D R W1 W2 : Type 0} (honest : D → Type 0) (disk : D → Disk) (secto
                 goes_on = goes_on;
                 answer = refl;
                 count = length bytes;
-                no_more = subst (λ (x : Checked Done). length bytes + length (input_left x w) ≤ length had) (sym is_row) (omega (arith, few, long, taken, part, rest));
+                no_more = subst (λ (x : Checked Done). length bytes + length (input_left x w) ≤ length had) (sym is_row) (omega (arith, fewer, long, taken, part, rest));
                 after = λ i. record w { input = sym cut.rest i; input_ended = (still ∙ sym goes_on) i; input_failed = after i };
-                bytes = dealt.stand ∙ ((λ i. put m (scattered (sym all i) bs)) ∙ ap (λ (x : Checked Done). filled x m) (sym row_short));
+                bytes = dealt.stand ∙ ((λ i. put m (scattered (sym all i) bs)) ∙ ap (λ (x : Checked Done). filled x m) (sym row_cut));
               }))),
         );
         volume = in_rests;
@@ -224,8 +238,8 @@ module _ {D R W1 W2 : Type 0} (honest : D → Type 0) (disk : D → Disk) (secto
         io = λ _. cause after;
       }
 
-  pub served_in : (r : Result (Unit {0}) Errno) → (old.input.failed ≡ true → (new.input ≡ old.input) × (m' ≡ m)) → OnOk r (IsRead remaining old.input new.input m bs result m')
-      → OnErr r (old.input.failed ≡ false → (new.input.failed ≡ true) × (old.input.ended ≡ false) × (new.input.ended ≡ false) × SomeDealt (remaining old.input.reader) (remaining new.input.reader) m bs m')
+  pub served_in : (r : Result (Unit {0}) Errno) → (old.input.failed ≡ true → (new.input ≡ old.input) × (m' ≡ m)) → OnOk r (IsRead short_in remaining old.input new.input m bs result m')
+      → OnErr r (old.input.failed ≡ false → (new.input.failed ≡ true) × (old.input.ended ≡ false) × (new.input.ended ≡ false) × Broke short_in (remaining old.input.reader) (remaining new.input.reader) m bs m')
       → IfErr r (λ e. e.0 ≡ 29) → Serves honest disk sectors_on failures device_goes_on remaining out_contents err_contents c used args old m new m' (errno_of r)
   served_in (Ok u) idle came broke answer = came_in came
   served_in (Err e) idle came broke answer =

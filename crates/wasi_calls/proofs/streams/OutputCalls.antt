@@ -49,12 +49,12 @@ pub record Takes {D R W1 W2 W : Type 0} (remaining : R → Option (List ℕ)) (o
   err : List ℕ → List ℕ
   rests : after ≡ before → new ≡ old
   moves : (taken : List ℕ) → Appends (contents before.writer) (contents after.writer) taken
-      → StreamsMove remaining out_contents err_contents old new (record { input = []; output = out taken; errors = err taken })
+      → StreamsMove remaining out_contents err_contents old new (record { input = []; pieces = []; output = out taken; errors = err taken })
   mark : (b : StreamBytes) → has_stream_failed (world_of old b) s ≡ before.failed
   done : (b : StreamBytes) (taken : List ℕ) → after.failed ≡ before.failed
-      → world_of new (after_moving (record { input = []; output = out taken; errors = err taken }) b) ≡ with_output (world_of old b) s taken
+      → world_of new (after_moving (record { input = []; pieces = []; output = out taken; errors = err taken }) b) ≡ with_output (world_of old b) s taken
   broken : (b : StreamBytes) (taken bytes : List ℕ) → after.failed ≡ true → output_of s (world_of old b) ++ taken ≡ bytes
-      → world_of new (after_moving (record { input = []; output = out taken; errors = err taken }) b) ≡ with_stream_failed s (with_all s (world_of old b) bytes)
+      → world_of new (after_moving (record { input = []; pieces = []; output = out taken; errors = err taken }) b) ≡ with_stream_failed s (with_all s (world_of old b) bytes)
   has : (w : World) (bytes : List ℕ) → output_of s w ++ bytes ≡ output_of s (with_output w s bytes)
   marked : (w : World) → has_stream_failed (with_stream_failed s w) s ≡ true
   table : (w : World) → (with_stream_failed s w).table ≡ w.table
@@ -66,7 +66,7 @@ module _ {D R W1 W2 : Type 0} (remaining : R → Option (List ℕ)) (out_content
     out = λ taken. taken;
     err = λ taken. [];
     rests = λ is i. record old { out = is i };
-    moves = λ taken more. record { input = Consumes-nil (remaining old.input.reader); output = more; errors = Appends-nil (err_contents old.err.writer); ended = λ is. (refl, is); end = λ is. inl is };
+    moves = λ taken more. record { input = Consumes-nil (remaining old.input.reader); output = more; errors = Appends-nil (err_contents old.err.writer); ended = λ is. (refl, is); end = λ is. inl is; pieces = λ is. (refl, is) };
     mark = λ b. refl;
     done = λ b taken same i. record (world_of old b) { output = b.output ++ taken; errors = append-nil b.errors i; output_failed = same i };
     broken = λ b taken bytes failed is i. record (world_of old b) { output = is i; errors = append-nil b.errors i; output_failed = failed i };
@@ -81,7 +81,7 @@ module _ {D R W1 W2 : Type 0} (remaining : R → Option (List ℕ)) (out_content
     out = λ taken. [];
     err = λ taken. taken;
     rests = λ is i. record old { err = is i };
-    moves = λ taken more. record { input = Consumes-nil (remaining old.input.reader); output = Appends-nil (out_contents old.out.writer); errors = more; ended = λ is. (refl, is); end = λ is. inl is };
+    moves = λ taken more. record { input = Consumes-nil (remaining old.input.reader); output = Appends-nil (out_contents old.out.writer); errors = more; ended = λ is. (refl, is); end = λ is. inl is; pieces = λ is. (refl, is) };
     mark = λ b. refl;
     done = λ b taken same i. record (world_of old b) { output = append-nil b.output i; errors = b.errors ++ taken; errors_failed = same i };
     broken = λ b taken bytes failed is i. record (world_of old b) { output = append-nil b.output i; errors = is i; errors_failed = failed i };
@@ -113,12 +113,12 @@ module _ {D R W1 W2 W : Type 0} (honest : D → Type 0) (disk : D → Disk) (sec
 
   -- what the call leaves, by the bytes that its outputs take
   leaves : (out err : List ℕ) (e : ℕ) → (e ≡ 29 → HasFailed c (state_of new))
-      → StreamsMove remaining out_contents err_contents (state_of old) (state_of new) (record { input = []; output = out; errors = err })
-      → ((b : StreamBytes) → Answered run (world_of (state_of old) b) m (world_of (state_of new) (after_moving (record { input = []; output = out; errors = err }) b)) m' e)
+      → StreamsMove remaining out_contents err_contents (state_of old) (state_of new) (record { input = []; pieces = []; output = out; errors = err })
+      → ((b : StreamBytes) → Answered run (world_of (state_of old) b) m (world_of (state_of new) (after_moving (record { input = []; pieces = []; output = out; errors = err }) b)) m' e)
       → Serves honest disk sectors_on failures device_goes_on remaining out_contents err_contents c used args old m new m' e
   leaves out err e io moves answered = record {
     set_up = set_up;
-    row = λ _. (record { input = []; output = out; errors = err }, moves, λ b end. answered b);
+    row = λ _. (record { input = []; pieces = []; output = out; errors = err }, moves, λ b end. answered b);
     volume = subst (λ (s : HostState D R W1 W2). VolumeStep honest disk sectors_on failures device_goes_on old.volume s.volume) (sym state) (volume_rests honest disk sectors_on failures device_goes_on old.volume);
     settings = settings_rest old.settings new.settings (ap (λ (s : HostState D R W1 W2). s.settings) state);
     io = io;

@@ -98,7 +98,7 @@ put_append : (m : List ℕ) (xs ys : List (ℕ × List ℕ)) → put m (xs ++ ys
 put_append m [] ys = refl
 put_append m (w ∷ xs) ys = put_append (written m w.0 w.1) xs ys
 
-put_none : (m : List ℕ) (bs : List Buffer) → put m (scattered [] bs) ≡ m
+pub put_none : (m : List ℕ) (bs : List Buffer) → put m (scattered [] bs) ≡ m
 put_none m [] = refl
 put_none m (b ∷ bs) =
     (λ i. put (written m b.0 (take_all b.1 [] (omega arith) i)) (scattered (drop_all b.1 [] (omega arith) i) bs))
@@ -149,7 +149,7 @@ dealt_push a b c m m1 m2 bs p n k x y full =
       stand = y.stand ∙ (ap (λ (l : List ℕ). written l p.0 ys) x.stand ∙ (sym (put_append m (scattered xs bs) ((p.0, ys) ∷ [])) ∙ ap (put m) (sym both)));
     }
 
-dealt_rest : (a b : Option (List ℕ)) (m m1 : List ℕ) (bs rest : List Buffer) (n : ℕ) → Dealt a b m bs m1 n → Dealt a b m (bs ++ rest) m1 n
+pub dealt_rest : (a b : Option (List ℕ)) (m m1 : List ℕ) (bs rest : List Buffer) (n : ℕ) → Dealt a b m bs m1 n → Dealt a b m (bs ++ rest) m1 n
 dealt_rest a b m m1 bs rest n x =
     let sum = sum_by-append (λ (b : Buffer). b.1) bs rest in
     record {
@@ -193,7 +193,7 @@ pub no_count : {E : Type 0} (e : E) (n : ℕ) → ◌≡◌ {A = Result ℕ E} (
 no_count e n h = cc
 
 -- the mark of the input's end
-pub ended_so : (old new : Bool) (n most : ℕ) → (old ≡ true → new ≡ true) → (old ≡ false → new ≡ true → n < most) → (new ≡ false → n ≡ most) → new ≡ (old || nat_lt n most)
+pub ended_so : (old new : Bool) (n most : ℕ) → (old ≡ true → new ≡ true) → (old ≡ false → new ≡ true → n < most) → (new ≡ false → most ≤ n) → new ≡ (old || nat_lt n most)
 ended_so true new n most stays short full = stays refl
 ended_so false true n most stays short full = sym (lt-ltb n most (short refl refl))
-ended_so false false n most stays short full = sym (le-ltb n most (omega (arith, full refl)))
+ended_so false false n most stays short full = sym (le-ltb n most (full refl))

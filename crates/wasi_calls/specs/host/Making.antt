@@ -23,7 +23,7 @@ module _ {D R W1 W2 : Type 0} where
   abbrev pub parts_of : HostState D R W1 W2 → HostParts D R W1 W2
   parts_of h = record { settings = h.settings; volume = h.volume; input = h.input.reader; out = h.out.writer; err = h.err.writer }
 
-  -- the settings fit, the streams are the descriptors 0 to 2, none has failed, and the host is not seeded
+  -- the settings fit, the streams are the descriptors 0 to 2, none has failed, and the host is neither seeded nor interactive
   pub record IsNewHost (parts : HostParts D R W1 W2) (h : HostState D R W1 W2) : Type 0 where
     pub fits : settings_fit parts.settings ≡ true
     pub volume : h.volume ≡ parts.volume
@@ -33,6 +33,7 @@ module _ {D R W1 W2 : Type 0} where
     pub err : h.err ≡ record { writer = parts.err; failed = false }
     pub settings : h.settings ≡ parts.settings
     pub generator : h.generator ≡ None
+    pub interactive : h.interactive ≡ None
 
   -- the settings exactly where they don't fit
   abbrev pub IsRefusedFor : HostParts D R W1 W2 → HostFault → Type 0
@@ -99,13 +100,14 @@ module _ {D R W1 W2 : Type 0} where
   abbrev pub HasNoMore : HostState D R W1 W2 → HostState D R W1 W2 → Type 0
   HasNoMore old new = (n : ℕ) → table_of new.descriptors n ≡ table_of old.descriptors n
 
-  -- streams, settings and the generator are as they were
+  -- streams, settings, the generator and what is interactive are as they were
   pub record KeepsStreams (old new : HostState D R W1 W2) : Type 0 where
     pub input : new.input ≡ old.input
     pub out : new.out ≡ old.out
     pub err : new.err ≡ old.err
     pub settings : new.settings ≡ old.settings
     pub generator : new.generator ≡ old.generator
+    pub interactive : new.interactive ≡ old.interactive
 
 -- refused because the volume fails
 abbrev pub is_device : {X : Type 0} → Result X HostFault → Bool

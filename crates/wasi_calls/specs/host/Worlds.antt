@@ -14,6 +14,7 @@ use Rattle.wasm_store.specs.declared.call.Answer.{Answer}
 use Rattle.wasm_store.specs.declared.call.Answer.TheVariants.{Value as value, Exit as exit}
 use Rattle.wasi_calls.specs.declared.streams.Input.{Input}
 use Rattle.wasi_calls.specs.declared.streams.Output.{Output}
+use Rattle.wasi_calls.specs.declared.streams.Terminals.{Terminals}
 use Rattle.wasi_calls.specs.declared.host.settings.Settings.{Settings}
 use Rattle.wasi_calls.specs.supplies.Texts.{texts_of}
 use Rattle.wasi_calls.specs.supplies.Random.{supply}
@@ -22,7 +23,7 @@ use Rattle.wasi_calls.specs.Calls.{Calls, reaches_volume}
 use Rattle.wasi_calls.specs.laws.Moments.{IsSynced}
 
 -- What callers see of a host: the random bytes of its settings are those that are left. One that is seeded has a generator,
--- and takes none of these.
+-- and takes none of these. One that is interactive knows which streams are terminals.
 pub record HostState (D R W1 W2 : Type 0) : Type 0 where
   pub volume : Opened D
   pub descriptors : Descriptors
@@ -31,10 +32,13 @@ pub record HostState (D R W1 W2 : Type 0) : Type 0 where
   pub err : Output W2
   pub settings : Settings
   pub generator : Option ChaCha
+  pub interactive : Option Terminals
 
--- bytes of the streams: of the input those that are not read yet, and of the outputs those that were written
+-- Bytes of the streams: of the input those that are not read yet, and of the outputs those that were written. In an interactive
+-- run also how many bytes each read of the input finds.
 pub record StreamBytes : Type 0 where
   pub input : List ℕ
+  pub pieces : List ℕ
   pub output : List ℕ
   pub errors : List ℕ
 
@@ -49,11 +53,13 @@ world_of h b = record {
   tree = h.volume.tree;
   table = table_of h.descriptors;
   input = b.input;
+  pieces = b.pieces;
   input_ended = h.input.ended;
   output = b.output;
   errors = b.errors;
   random = supply h.generator h.settings.random.now;
   given = given_of h.settings;
+  interactive = h.interactive;
   volume_failed = h.volume.failed;
   input_failed = h.input.failed;
   output_failed = h.out.failed;
@@ -67,10 +73,10 @@ Shows h w = (b : StreamBytes) × (w ≡ world_of h b)
 -- The bytes of streams that move by some: before, when the input still has them, and after, when the outputs have them; with
 -- whatever others.
 abbrev pub before_moving : StreamBytes → StreamBytes → StreamBytes
-before_moving moved others = record { input = moved.input ++ others.input; output = others.output; errors = others.errors }
+before_moving moved others = record { input = moved.input ++ others.input; pieces = moved.pieces ++ others.pieces; output = others.output; errors = others.errors }
 
 abbrev pub after_moving : StreamBytes → StreamBytes → StreamBytes
-after_moving moved others = record { input = others.input; output = others.output ++ moved.output; errors = others.errors ++ moved.errors }
+after_moving moved others = record { input = others.input; pieces = others.pieces; output = others.output ++ moved.output; errors = others.errors ++ moved.errors }
 
 -- known bytes were all given
 abbrev pub LeavesNone : Option (List ℕ) → Option (List ℕ) → Type 0
@@ -93,13 +99,14 @@ HasFailed other h = h.volume.failed ≡ true
 
 module _ {D R W1 W2 : Type 0} (remaining : R → Option (List ℕ)) (out_contents : W1 → Option (List ℕ)) (err_contents : W2 → Option (List ℕ)) where
   -- The streams moved by these bytes: the reader gave them, and each writer took its own, where they tell. The input ends only
-  -- where a reader that tells its bytes has none left, and gives none then.
+  -- where a reader that tells its bytes has none left, and gives none then. Without an interactive run there are no pieces.
   pub record StreamsMove (old new : HostState D R W1 W2) (moved : StreamBytes) : Type 0 where
     pub input : Consumes (remaining old.input.reader) (remaining new.input.reader) moved.input
     pub output : Appends (out_contents old.out.writer) (out_contents new.out.writer) moved.output
     pub errors : Appends (err_contents old.err.writer) (err_contents new.err.writer) moved.errors
     pub ended : old.input.ended ≡ true → (moved.input ≡ []) × (new.input.ended ≡ true)
     pub end : new.input.ended ≡ true → (old.input.ended ≡ true) ⊎ LeavesNone (remaining old.input.reader) (remaining new.input.reader)
+    pub pieces : old.interactive ≡ None → (moved.pieces ≡ []) × (new.interactive ≡ None)
 
 module _ {D : Type 0} (honest : D → Type 0) (disk : D → Disk) (sectors_on failures : D → ℕ) (goes_on : ℕ → D → D → Type 0) where
   -- What a call leaves of the volume. On any device it fails by one operation that failed, and after that none is done; and

@@ -56,7 +56,7 @@ with_volume v w = record w { volume = geometry v.numbers; tree = v.tree; volume_
 module _ {D R W1 W2 : Type 0} where
   -- what callers see
   abbrev pub state_of : Inner D R W1 W2 → HostState D R W1 W2
-  state_of p = record { volume = p.volume; descriptors = p.descriptors; input = p.input; out = p.out; err = p.err; settings = p.settings; generator = p.generator }
+  state_of p = record { volume = p.volume; descriptors = p.descriptors; input = p.input; out = p.out; err = p.err; settings = p.settings; generator = p.generator; interactive = p.interactive }
 
   -- What holds on any device: the settings fit, there is room, after the input's end the reader has no bytes that it
   -- tells, and each open entry has a number of the volume.

@@ -28,7 +28,7 @@ impl<'s, 't, D: Device, R: Read, W1: Write, W2: Write> Inner<'s, 't, D, R, W1, W
         ensures { (used : _) → Serves D.honest D.disk D.size D.failures D.goes_on R.remaining W1.contents W2.contents call.FdFdstatGet used arguments.now self.now memory.old self.now memory.new (errno_of result) }
     {
         let (fd, result_at) = (descriptor(arguments, 0), word(arguments, 1));
-        descriptors::fd_fdstat_get(&self.descriptors, memory, fd, result_at)
+        descriptors::fd_fdstat_get(&self.descriptors, self.interactive, memory, fd, result_at)
     }
 
     /// `fd_filestat_get(fd, result)`.
@@ -38,7 +38,15 @@ impl<'s, 't, D: Device, R: Read, W1: Write, W2: Write> Inner<'s, 't, D, R, W1, W
         ensures { (used : _) → Serves D.honest D.disk D.size D.failures D.goes_on R.remaining W1.contents W2.contents call.FdFilestatGet used arguments.now self.old memory.old self.new memory.new (errno_of result) }
     {
         let (fd, result_at) = (descriptor(arguments, 0), word(arguments, 1));
-        stat::filestat_get(&mut self.volume, &self.descriptors, memory, fd, result_at)
+        let (descriptors, interactive) = (&self.descriptors, self.interactive);
+        stat::filestat_get(
+            &mut self.volume,
+            descriptors,
+            interactive,
+            memory,
+            fd,
+            result_at,
+        )
     }
 
     /// `fd_prestat_get(fd, result)`.

@@ -4,7 +4,7 @@ ghost use Rattle.std.specs.Prelude.{true, ◌≡◌, ◌≤◌, IsSome, IsTrue};
 ghost use Rattle.vol_sector.specs.Disk.{Leaves};
 ghost use Rattle.vol_tree.specs.Tree.{entry};
 ghost use Rattle.vol_tree.specs.Opened.{Tells, Keeps, GoesOn, is_io};
-ghost use Rattle.wasi_calls.specs.descriptors.Rows.{filestat, entry_stat, fd_filestat_get as stat_row};
+ghost use Rattle.wasi_calls.specs.descriptors.Rows.{filestat, entry_stat, type_of_stream, fd_filestat_get as stat_row};
 ghost use Rattle.wasi_fd.specs.Table.{table_of};
 ghost use Rattle.wasi_calls.specs.World.{World};
 ghost use Rattle.wasi_calls.specs.Calls.{Answered, is_entry};
@@ -14,10 +14,11 @@ ghost use Rattle.wasi_calls.specs.internal.Bodies.{KnowsEntries, errno_of, with_
 use crate::checks::{Takes, allowed, check_range, write_bytes};
 use crate::errno::refused;
 use crate::numbers::le64;
+use crate::streams::Terminals;
 use vol_inode::Kind;
 use vol_sector::Device;
 use vol_tree::{Serial, Volume};
-use wasi_fd::{Descriptor, Descriptors, Fd, Rights};
+use wasi_fd::{Descriptor, Descriptors, Fd, Rights, Stream};
 use wasm_store::{Errno, Memory};
 
 /// `filestat`: the inode at 8, which is an entry's serial or 0 of a stream, the type at 16, one link at 24 and the size at 32.
@@ -39,6 +40,16 @@ pub(crate) fn type_of_entry(kind: Kind) -> u8
     match kind {
         Kind::Directory => 3,
         Kind::File => 4,
+    }
+}
+
+/// The `filetype` of a stream: a character device. In an interactive run a terminal is one, and what any other stream is isn't told.
+pub(crate) fn type_of_stream(stream: Stream, interactive: Option<Terminals>) -> u8
+    ensures { result ≡ type_of_stream interactive stream }
+{
+    match interactive {
+        None => 2,
+        Some(terminals) => { if terminals.has(stream) { 2 } else { 0 } }
     }
 }
 
@@ -67,6 +78,7 @@ pub(crate) fn stat_entry<D: Device>(
 pub(crate) fn filestat_get<D: Device>(
     volume: &mut Volume<D>,
     descriptors: &Descriptors<'_>,
+    interactive: Option<Terminals>,
     memory: &mut Memory,
     fd: Fd,
     result_at: u32,
@@ -77,6 +89,7 @@ pub(crate) fn filestat_get<D: Device>(
     ensures answered { (IsTrue (is_entry (table_of descriptors.now fd)) → D.honest volume.old.device)
         → (w : World) → w.table ≡ table_of descriptors.now
         → w ≡ with_volume volume.old w
+        → w.interactive ≡ interactive
         → Answered (λ v. stat_row v memory.old fd result_at) w memory.old (with_volume volume.new w) memory.new (errno_of result) }
 {
     let descriptor = match allowed(descriptors, fd, Takes::Any, Rights::FD_FILESTAT_GET) {
@@ -87,8 +100,9 @@ pub(crate) fn filestat_get<D: Device>(
         return Err(errno);
     }
     match descriptor {
-        Descriptor::Stream(_) => {
-            write_bytes(memory, result_at, &filestat(0, 2, 0));
+        Descriptor::Stream(stream) => {
+            let bytes = filestat(0, type_of_stream(stream, interactive), 0);
+            write_bytes(memory, result_at, &bytes);
             Ok(())
         }
         Descriptor::Entry(opened) => match stat_entry(volume, Serial::new(opened.serial)) {

@@ -43,7 +43,9 @@ impl<'s, 't, D: Device, R: Read, W1: Write, W2: Write> Inner<'s, 't, D, R, W1, W
                 let buffers = self.buffers.as_slice();
                 inputs::fill_up(&mut self.piece);
                 let piece = self.piece.as_mut_slice();
-                inputs::read_stream(&mut self.input, piece, memory, buffers, request.result_at)
+                let short = self.interactive.is_some();
+                let result_at = request.result_at;
+                inputs::read_stream(&mut self.input, piece, memory, buffers, result_at, short)
             }
             Descriptor::Stream(Stream::Output) => Err(NOTCAPABLE),
             Descriptor::Stream(Stream::Error) => Err(NOTCAPABLE),

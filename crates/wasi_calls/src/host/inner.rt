@@ -4,7 +4,7 @@ ghost use Rattle.std.specs.Prelude.{◌≡◌};
 
 use crate::host::settings::Settings;
 use crate::host::wasi_host::HostParts;
-use crate::streams::{Input, Output};
+use crate::streams::{Input, Output, Terminals};
 use rand_chacha::ChaCha20Rng;
 use vol_sector::Device;
 use vol_tree::{Span, Volume};
@@ -22,6 +22,8 @@ pub(crate) struct Inner<'s, 't, D: Device, R, W1, W2> {
     pub settings: Settings<'s, 't>,
     /// What random bytes come from where the host is seeded.
     pub generator: Option<ChaCha20Rng>,
+    /// Which streams are terminals, where reads of the input give what is there.
+    pub interactive: Option<Terminals>,
     /// Place for the buffers of a call.
     pub buffers: Vec<Span>,
     /// Place for the bytes of a call.
@@ -44,6 +46,7 @@ impl<'s, 't, D: Device, R: Drop, W1: Drop, W2: Drop> Inner<'s, 't, D, R, W1, W2>
             err,
             settings,
             generator: _,
+            interactive: _,
             buffers: _,
             piece: _,
         } = self;

@@ -10,7 +10,7 @@ use crate::host::inner::Inner;
 use crate::host::settings::Settings;
 use crate::host::{VolumeHost, linking};
 use crate::streams::inputs::INPUT_PIECE;
-use crate::streams::{Input, Output};
+use crate::streams::{Input, Output, Terminals};
 use rand_chacha::ChaCha20Rng;
 use rand_core::SeedableRng;
 use std::alloc::Global;
@@ -132,6 +132,7 @@ impl<'s, 't, D: Device, R: Read + Drop, W1: Write + Drop, W2: Write + Drop> Wasi
                 },
                 settings,
                 generator: None,
+                interactive: None,
                 buffers,
                 piece,
             },
@@ -207,6 +208,14 @@ impl<'s, 't, D: Device, R: Read, W1: Write, W2: Write> WasiHost<'s, 't, D, R, W1
         ensures { self.new ≡ record self.old { generator = Some (seeded seed) } }
     {
         self.inner.generator = Some(ChaCha20Rng::seed_from_u64(seed));
+    }
+
+    /// From now on a read of descriptor 0 gives what one read of the input finds, and none only at its end; and the guest is told
+    /// of each stream whether it is one of these terminals: a character device, or else a file of no known type.
+    pub fn interact(&mut self, terminals: Terminals)
+        ensures { self.new ≡ record self.old { interactive = Some terminals } }
+    {
+        self.inner.interactive = Some(terminals);
     }
 }
 

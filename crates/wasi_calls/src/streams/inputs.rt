@@ -1,12 +1,13 @@
 //! Bytes that a call reads from a stream.
 
-ghost use Rattle.std.specs.Prelude.{◌≡◌, ◌<◌, ◌≤◌, ◌+◌, ◌^◌, length, take, [], true, false, Ok, Err, OnOk, OnErr, IfOk, IfErr, vec_len, vec_capacity};
+ghost use Rattle.std.specs.Prelude.{◌≡◌, ◌<◌, ◌≤◌, ◌+◌, ◌^◌, length, take, min, [], true, false, Ok, Err, OnOk, OnErr, IfOk, IfErr, MatchOption, vec_len, vec_capacity};
 ghost use Rattle.std.specs.List.{list_all};
 ghost use Rattle.std.specs.Io.KnownBytes.{Consumes, IsAtEnd};
 ghost use Rattle.wasm_store.specs.Bytes.{written};
+ghost use Rattle.wasi_calls.specs.World.{least_read};
 ghost use Rattle.wasi_calls.specs.Checks.{is_inside, total};
 ghost use Rattle.wasi_calls.specs.internal.checks.Buffers.{list_of, AreUsable};
-ghost use Rattle.wasi_calls.specs.internal.streams.Inputs.{Came, SomeCame, Dealt, SomeDealt, IsRead};
+ghost use Rattle.wasi_calls.specs.internal.streams.Inputs.{Came, SomeCame, Dealt, SomeDealt, Broke, IsRead, IsFirstWithRoom};
 ghost use Rattle.wasi_calls.specs.declared.checks.buffers.TheConstants.{MOST_BUFFERS};
 
 use crate::checks::write_bytes;
@@ -190,29 +191,116 @@ fn fill_buffers<R: Read>(
     Ok(count)
 }
 
-/// Reads from a stream into the buffers until they are full or it ends, and then writes how many bytes came.
+/// The place of the first buffer that has room.
+fn first_with_room(buffers: &[Span]) -> Option<usize>
+    ensures { MatchOption result (total (list_of buffers.now) ≡ 0) (IsFirstWithRoom buffers.now) }
+{
+    for index in 0..buffers.len() {
+        if buffers[index].len > 0 {
+            return Some(index);
+        }
+    }
+    None
+}
+
+/// Reads once, into the first buffer that has room, and says how many bytes came: none at the input's end, or where there is no
+/// room.
+fn read_once<R: Read>(
+    input: &mut Input<R>,
+    piece: &mut [u8],
+    memory: &mut Memory,
+    buffers: &[Span],
+) -> Result<usize, ReaderFailed>
+    // The groups of `fill_buffers`: asked for (`room` to `end`); of an `Ok` (`dealt`, `some`, `short`, `none`); of an `Err` (`still`,
+    // `broke`); of both (`long`, `end`, `mark`).
+    requires room { 0 < length piece.old }
+    requires inside { list_all (is_inside memory.old) (list_of buffers.now) ≡ true }
+    requires end { input.old.ended ≡ true → IsAtEnd (R.remaining input.old.reader) }
+    ensures long { length memory.new ≡ length memory.old }
+    ensures dealt { IfOk result (λ n. Dealt (R.remaining input.old.reader) (R.remaining input.new.reader) memory.old (list_of buffers.now) memory.new n) }
+    ensures some { IfOk result (λ n. input.new.ended ≡ false → min (total (list_of buffers.now)) 1 ≤ n) }
+    ensures short { IfOk result (λ n. input.old.ended ≡ false → input.new.ended ≡ true → n < min (total (list_of buffers.now)) 1) }
+    ensures still { OnErr result (input.new.ended ≡ false) }
+    ensures none { input.old.ended ≡ true → (result ≡ Ok 0) × (input.new.ended ≡ true) }
+    ensures end { input.new.ended ≡ true → IsAtEnd (R.remaining input.new.reader) }
+    ensures broke { OnErr result (Dealt (R.remaining input.old.reader) (R.remaining input.new.reader) memory.old (list_of buffers.now) memory.new 0) }
+    ensures mark { input.new.failed ≡ input.old.failed }
+{
+    if input.ended {
+        return Ok(0);
+    }
+    let Some(index) = first_with_room(buffers) else {
+        return Ok(0);
+    };
+    let buffer = buffers[index];
+    let (start, len) = (buffer.pointer as usize, buffer.len as usize);
+    let reader = &mut input.reader;
+    match read_some(reader, piece, memory, start, len) {
+        Ok(0) => {
+            input.ended = true;
+            Ok(0)
+        }
+        Ok(count) => Ok(count),
+        Err(failed) => Err(failed),
+    }
+}
+
+/// Reads into the buffers, and says how many bytes came: where reads are short those of one read, else until the buffers are full or
+/// the input ends.
+fn read_buffers<R: Read>(
+    input: &mut Input<R>,
+    piece: &mut [u8],
+    memory: &mut Memory,
+    buffers: &[Span],
+    short: bool,
+) -> Result<usize, ReaderFailed>
+    // The groups of `fill_buffers`.
+    requires room { 0 < length piece.old }
+    requires few { length buffers.now ≤ MOST_BUFFERS }
+    requires inside { list_all (is_inside memory.old) (list_of buffers.now) ≡ true }
+    requires end { input.old.ended ≡ true → IsAtEnd (R.remaining input.old.reader) }
+    ensures long { length memory.new ≡ length memory.old }
+    ensures dealt { IfOk result (λ n. Dealt (R.remaining input.old.reader) (R.remaining input.new.reader) memory.old (list_of buffers.now) memory.new n) }
+    ensures full { IfOk result (λ n. input.new.ended ≡ false → least_read short (total (list_of buffers.now)) ≤ n) }
+    ensures fewer { IfOk result (λ n. input.old.ended ≡ false → input.new.ended ≡ true → n < least_read short (total (list_of buffers.now))) }
+    ensures still { OnErr result (input.new.ended ≡ false) }
+    ensures none { input.old.ended ≡ true → (result ≡ Ok 0) × (input.new.ended ≡ true) }
+    ensures end { input.new.ended ≡ true → IsAtEnd (R.remaining input.new.reader) }
+    ensures broke { OnErr result (Broke short (R.remaining input.old.reader) (R.remaining input.new.reader) memory.old (list_of buffers.now) memory.new) }
+    ensures mark { input.new.failed ≡ input.old.failed }
+{
+    if short {
+        read_once(input, piece, memory, buffers)
+    } else {
+        fill_buffers(input, piece, memory, buffers)
+    }
+}
+
+/// Reads from a stream into the buffers until they are full or it ends, or once where reads are short, and then writes how many
+/// bytes came.
 pub(crate) fn read_stream<R: Read>(
     input: &mut Input<R>,
     piece: &mut [u8],
     memory: &mut Memory,
     buffers: &[Span],
     result_at: u32,
+    short: bool,
 ) -> Result<(), Errno>
     requires room { 0 < length piece.old }
     requires few { length buffers.now ≤ MOST_BUFFERS }
     requires usable { AreUsable memory.old (list_of buffers.now) result_at }
     requires end { input.old.ended ≡ true → IsAtEnd (R.remaining input.old.reader) }
     ensures idle { input.old.failed ≡ true → (input.new ≡ input.old) × (memory.new ≡ memory.old) × (result ≡ Err Errno.IO) }
-    ensures took { OnOk result (IsRead R.remaining input.old input.new memory.old (list_of buffers.now) result_at memory.new) }
+    ensures took { OnOk result (IsRead short R.remaining input.old input.new memory.old (list_of buffers.now) result_at memory.new) }
     ensures broke { OnErr result (input.old.failed ≡ false → (input.new.failed ≡ true) × (input.old.ended ≡ false) × (input.new.ended ≡ false)
-        × SomeDealt (R.remaining input.old.reader) (R.remaining input.new.reader) memory.old (list_of buffers.now) memory.new) }
+        × Broke short (R.remaining input.old.reader) (R.remaining input.new.reader) memory.old (list_of buffers.now) memory.new) }
     ensures answer { IfErr result (λ e. e.0 ≡ 29) }
     ensures end { input.new.ended ≡ true → IsAtEnd (R.remaining input.new.reader) }
 {
     if input.failed {
         return Err(Errno::IO);
     }
-    match fill_buffers(input, piece, memory, buffers) {
+    match read_buffers(input, piece, memory, buffers, short) {
         Ok(count) => {
             write_bytes(memory, result_at, &le32(count as u32));
             Ok(())

@@ -1,7 +1,7 @@
 //! Files: their bytes, sizes and positions.
 
 use super::guest::Step::{Call, Has, Open, Put};
-use super::guest::{PLAIN, assert_over, assert_plain, opened_on};
+use super::guest::{PLAIN, Prepared, assert_over, assert_plain, opened_on};
 use super::streams::Feeding;
 use wasm_store::HostCall::{
     FdFilestatGet, FdFilestatSetSize, FdPread, FdPwrite, FdRead, FdSeek, FdTell, FdWrite, PathOpen,
@@ -37,7 +37,7 @@ fn a_size_has_a_limit(rt: HostRuntime) {
         PLAIN,
         volume,
         Feeding::new(&[]),
-        None,
+        Prepared::Plain,
         &[
             Open(b"a", 1, 0),
             Call(FdFilestatSetSize, &[4, 95_232], 0),

@@ -5,7 +5,7 @@ use std::alloc::Global;
 use std::process::Abort;
 use vol_sector::{FlakyDevice, MemoryDevice};
 use vol_tree::Volume;
-use wasi_calls::{HostFault, HostParts, Preopen, Settings, WasiHost};
+use wasi_calls::{HostFault, HostParts, Preopen, Settings, Terminals, WasiHost};
 use wasm_store::{Answer, Errno, Host, HostCall, Memory};
 
 /// What a guest does, and what is wanted of it.
@@ -223,7 +223,15 @@ pub fn assert_steps<H: Host>(rt: &impl Abort, alloc: Global, guest: &mut H, step
     drop(memory);
 }
 
-/// Does the steps in turn over a volume, with random bytes from a seed where there is one. (Each function that owns a guest
+/// What is done with a host before its first call.
+#[derive(Clone, Copy)]
+pub enum Prepared {
+    Plain,
+    Seeded(u64),
+    Interactive(Terminals),
+}
+
+/// Does the steps in turn over a volume, with a host that is prepared so. (Each function that owns a guest
 /// costs its proof several seconds, so this one is for most tests.)
 pub fn assert_over(
     rt: &impl Abort,
@@ -231,12 +239,14 @@ pub fn assert_over(
     settings: Settings<'_, '_>,
     volume: Flaky,
     input: Feeding,
-    seed: Option<u64>,
+    prepared: Prepared,
     steps: &[Step<'_>],
 ) {
     let mut guest = over(rt, alloc, settings, volume, input, Taking::all(alloc));
-    if let Some(seed) = seed {
-        guest.seed(seed);
+    match prepared {
+        Prepared::Plain => {}
+        Prepared::Seeded(seed) => guest.seed(seed),
+        Prepared::Interactive(terminals) => guest.interact(terminals),
     }
     assert_steps(rt, alloc, &mut guest, steps);
     drop(guest);
@@ -251,7 +261,7 @@ pub fn assert_fed(
     steps: &[Step<'_>],
 ) {
     let volume = opened(alloc, 0).expect(rt, "no volume");
-    assert_over(rt, alloc, settings, volume, input, None, steps);
+    assert_over(rt, alloc, settings, volume, input, Prepared::Plain, steps);
 }
 
 /// Does the steps in turn over a fresh volume, with random bytes from this seed.
@@ -263,7 +273,7 @@ pub fn assert_seeded(rt: &impl Abort, alloc: Global, seed: u64, steps: &[Step<'_
         PLAIN,
         volume,
         Feeding::new(&[]),
-        Some(seed),
+        Prepared::Seeded(seed),
         steps,
     );
 }

@@ -1,12 +1,13 @@
 //! A reader and a writer for all tests, and a guest's standard streams.
 
 use super::guest::Step::{Call, Has, Put};
-use super::guest::{PLAIN, Step, assert_fed, assert_steps, fresh};
+use super::guest::{PLAIN, Prepared, Step, assert_fed, assert_over, assert_steps, fresh, opened};
 use std::alloc::Global;
 use std::io;
 use std::io::{ErrorKind, Read, Write};
 use std::process::Abort;
-use wasm_store::HostCall::{FdRead, FdWrite};
+use wasi_calls::Terminals;
+use wasm_store::HostCall::{FdFdstatGet, FdFilestatGet, FdRead, FdWrite};
 
 /// What a reader does for a while.
 #[derive(Clone, Copy)]
@@ -132,6 +133,51 @@ fn input_is_read_to_its_end(rt: HostRuntime) {
             Call(FdRead, &[0, 200, 3, 228], 0),
             Has(228, b"\0\0\0\0"),
             Call(FdWrite, &[0, 200, 3, 228], 76),
+        ],
+    );
+}
+
+/// Each read gives what the reader has, into the first buffer with room. What isn't a terminal is of no known type.
+#[test]
+fn interactive_reads_give_what_is_there(rt: HostRuntime) {
+    let terminals = Terminals {
+        input: true,
+        output: false,
+        error: true,
+    };
+    let volume = opened(rt.alloc(), 0).expect(&rt, "no volume");
+    assert_over(
+        &rt,
+        rt.alloc(),
+        PLAIN,
+        volume,
+        Feeding::new(ENDS),
+        Prepared::Interactive(terminals),
+        &[
+            Put(200, BUFFERS),
+            Call(FdRead, &[0, 200, 1, 228], 0),
+            Has(228, b"\x02\0\0\0"),
+            Has(300, b"ab\0"),
+            Call(FdRead, &[0, 208, 1, 228], 0),
+            Has(228, b"\0\0\0\0"),
+            Call(FdRead, &[0, 208, 2, 228], 0),
+            Has(228, b"\x01\0\0\0"),
+            Has(320, b"c\0"),
+            Call(FdRead, &[0, 200, 3, 228], 0),
+            Has(228, b"\x01\0\0\0"),
+            Has(300, b"db\0"),
+            Call(FdRead, &[0, 200, 3, 228], 0),
+            Has(228, b"\0\0\0\0"),
+            Call(FdRead, &[0, 200, 3, 228], 0),
+            Has(228, b"\0\0\0\0"),
+            Call(FdFdstatGet, &[0, 400], 0),
+            Has(400, b"\x02"),
+            Call(FdFdstatGet, &[1, 400], 0),
+            Has(400, b"\0"),
+            Call(FdFilestatGet, &[1, 400], 0),
+            Has(416, b"\0"),
+            Call(FdFilestatGet, &[2, 400], 0),
+            Has(416, b"\x02"),
         ],
     );
 }

@@ -1,6 +1,7 @@
 use Rattle.std.proofs.Common.{refl, subst, arith}
 use Rattle.sandbox_core.specs.Devices.{devices}
 use Rattle.sandbox_core.specs.Slices.{RunsSlice, stop_of}
+use Rattle.sandbox_core.proofs.Following.{none_tallied}
 use Rattle.sandbox_core.proofs.Stopping.{slice_spends}
 use Rattle.observed_run.proofs.Going.{goes_first, goes_on, ends_in_slices, spends_in_slices}
 use Rattle.observed_run.proofs.slices.run_in_slices.Goals as goal
@@ -11,7 +12,7 @@ loop-outcome-init g c = record {
   started = omega (arith, c.used-until.ensures);
   within = omega (arith, c.used-until.ensures, c.requires.within);
   short = omega (arith, c.used-until.ensures);
-  goes = goes_first (devices g.D.Device g.R.Read g.W1.Write g.W2.Write) c.args.every (g.S.Resumable.state c.args.session.now) c.args.profile.now _ (record { calls = refl; syncs = refl });
+  goes = goes_first (devices g.D.Device g.R.Read g.W1.Write g.W2.Write) c.args.every (g.S.Resumable.state c.args.session.now) c.args.profile.now _ (none_tallied _ c.none-tally.ensures);
 }
 
 pub run_charged-end-requires-clause-few : goal.run_charged-end-requires-clause-few

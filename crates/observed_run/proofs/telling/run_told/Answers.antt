@@ -1,5 +1,6 @@
 use Rattle.std.proofs.Common.{[], refl, subst}
 use Rattle.sandbox_core.specs.Devices.{devices}
+use Rattle.sandbox_core.proofs.Following.{none_tallied}
 use Rattle.sandbox_core.proofs.Stopping.{module_follow, slice_follows}
 use Rattle.observed_run.proofs.Ending.{stops_in_one, told_after}
 use Rattle.observed_run.proofs.telling.run_told.Goals as goal
@@ -15,4 +16,4 @@ pub returns-clause-told : goal.returns-clause-told
 returns-clause-told g c =
     let on = devices g.D.Device g.R.Read g.W1.Write g.W2.Write in
     let slice = c.run_slice-end.ensures in
-    told_after on _ _ _ _ _ _ _ _ _ (stops_in_one on _ _ _ _ _ _ _ c.outcome_of.ensures slice) (slice.tallies [] (record { calls = refl; syncs = refl })) c.finish_run-kept.ensures.reports c.tell_frames-depth.ensures
+    told_after on _ _ _ _ _ _ _ _ _ (stops_in_one on _ _ _ _ _ _ _ c.outcome_of.ensures slice) (slice.tallies [] (none_tallied _ c.none.ensures)) c.finish_run-kept.ensures.reports c.tell_frames-depth.ensures

@@ -2,6 +2,7 @@ use Rattle.std.proofs.Common.{ℕ, inl, inr, refl, sym, ◌∙◌, ap, subst, So
 use Rattle.run_report.specs.declared.fault.Fault.{Fault}
 use Rattle.sandbox_command.specs.Execution.{IsUntouched}
 use Rattle.sandbox_command.specs.Stopping.{AreLinesBy, TellsLines}
+use Rattle.sandbox_command.specs.internal.Runnable.{module_in}
 use Rattle.sandbox_command.proofs.Charged.{none_tells}
 use Rattle.sandbox_command.proofs.Frames.{lines_told}
 use Rattle.sandbox_command.proofs.Launching.{kept_streams}
@@ -13,7 +14,7 @@ use Rattle.sandbox_command.proofs.program.run.Goals.{in-Ok+in-Err-load, in-Err}
 pub returns-in-Ok-load-clause-runs : goal.returns-in-Ok-load-clause-runs
 returns-in-Ok-load-clause-runs g c =
     let found = c.in-Ok-load.ensures.found in
-    inr (inr (c.in-Ok-load.valid, found.0, found.1, c.run_valid-valid.ensures.runs))
+    inr (inr (c.in-Ok-load.valid, found.0, found.1, c.run_valid-ran.ensures.runs))
 
 -- the words are refused, or the bytes
 pub returns-clause-runs : goal.returns-clause-runs
@@ -53,8 +54,8 @@ returns-clause-runs g c =
 -- it tells where it stopped
 pub returns-in-Ok-load-clause-lines : goal.returns-in-Ok-load-clause-lines
 returns-in-Ok-load-clause-lines g c =
-    lines_told c.args.«module».now c.in-Ok-load.valid c.args.run.now.frames c.run_valid-valid.result.1.stopped c.lines_of-lines.result.items c.in-Ok-load.ensures.found.0
-    (subst (λ m. AreLinesBy c.args.«module».now m c.args.run.now.frames c.run_valid-valid.result.1.stopped c.lines_of-lines.result.items) (c.«module».ensures.value ∙ c.run_valid-valid.ensures.module) c.lines_of-lines.ensures)
+    lines_told c.args.«module».now c.in-Ok-load.valid c.args.run.now.frames c.run_valid-ran.result.1.stopped c.lines_of-lines.result.items c.in-Ok-load.ensures.found.0
+    (subst (λ m. AreLinesBy c.args.«module».now m c.args.run.now.frames c.run_valid-ran.result.1.stopped c.lines_of-lines.result.items) (c.«module».ensures ∙ ap module_in c.run_valid-ran.ensures.«module») c.lines_of-lines.ensures)
 
 -- nothing is told where it didn't begin
 pub returns-clause-lines : goal.returns-clause-lines

@@ -1,7 +1,8 @@
-use Rattle.std.proofs.Common.{◌≡◌, ◌⊎◌, ◌<◌, ◌+◌, ℕ, Bool, true, false, List, length, take, get_or, inl, inr, refl, ◌∙◌, subst}
+use Rattle.std.proofs.Common.{◌≡◌, ◌⊎◌, ◌<◌, ◌+◌, ℕ, Bool, true, false, List, length, take, get_or, inl, inr, refl, sym, ◌∙◌, ap, subst}
 use Rattle.wasm_module.specs.declared.module.Module.{Module}
 use Rattle.sandbox_command.specs.declared.testing.Test.{Test}
 use Rattle.sandbox_command.specs.Testing.{HasFailed, HasRun}
+use Rattle.sandbox_command.specs.internal.Runnable.{IsReadyFor, module_in}
 use Rattle.sandbox_command.specs.internal.Tests.{AllEndAs, OneEndsAs}
 use Rattle.sandbox_command.proofs.Chains.{AllEndAs-end, AllEndAs-next}
 use Rattle.sandbox_command.proofs.testing.run_all.Goals as goal
@@ -15,7 +16,7 @@ one_more Went Failed first m had has now cases tests i d p q r same lt so_far la
 
 -- no test so far
 pub loop-test-init : goal.loop-test-init
-loop-test-init g c = record { valid = refl; ends = refl }
+loop-test-init g c = record { same = refl; ends = refl }
 
 -- one test more
 pub loop-test-preserved : goal.loop-test-preserved
@@ -23,16 +24,20 @@ loop-test-preserved g c =
     let cases : ((c.loop-test.have_run ≡ true) × (c.if-have_run.have_run ≡ c.run_test-kept.result.1)) ⊎ ((c.loop-test.have_run ≡ false) × (c.if-have_run.have_run ≡ c.loop-test.have_run)) =
     elim c.if-have_run.branch [ then-have_run w ↦ inl (w.if-have_run.true, w.have_run-is) | else-have_run w ↦ inr (w.if-have_run.false, w.have_run-is) ] in
     record {
-      valid = c.run_test-kept.ensures.«module» ∙ c.loop-test.invariant.valid;
+      same = c.run_test-kept.ensures.«module» ∙ c.loop-test.invariant.same;
       ends = one_more
           (λ m. HasRun g.P.Places g.P.Input.Read g.P.Output.Write c.args.run.now c.args.files.«module».now m c.args.files.random.now)
           (λ m. HasFailed g.P.Places g.P.Input.Read g.P.Output.Write c.args.run.now c.args.files.«module».now m c.args.files.random.now)
-          c.args.valid c.loop-test.valid c.loop-test.have_run c.run_test-kept.result.1 c.if-have_run.have_run cases c.args.tests.now c.loop-test.test-index _ c.args.places.now c.loop-test.places c.run_test-kept.new.places
-          c.loop-test.invariant.valid c.loop-test-test.true c.loop-test.invariant.ends c.run_test-kept.ensures.ends;
+          (module_in c.args.runnable) (module_in c.loop-test.runnable) c.loop-test.have_run c.run_test-kept.result.1 c.if-have_run.have_run cases c.args.tests.now c.loop-test.test-index _ c.args.places.now c.loop-test.places c.run_test-kept.new.places
+          (ap module_in c.loop-test.invariant.same) c.loop-test-test.true c.loop-test.invariant.ends c.run_test-kept.ensures.ends;
     }
 
 pub returns : goal.returns
 returns g c = AllEndAs-end
-    (HasRun g.P.Places g.P.Input.Read g.P.Output.Write c.args.run.now c.args.files.«module».now c.args.valid c.args.files.random.now)
-    (HasFailed g.P.Places g.P.Input.Read g.P.Output.Write c.args.run.now c.args.files.«module».now c.args.valid c.args.files.random.now)
+    (HasRun g.P.Places g.P.Input.Read g.P.Output.Write c.args.run.now c.args.files.«module».now (module_in c.args.runnable) c.args.files.random.now)
+    (HasFailed g.P.Places g.P.Input.Read g.P.Output.Write c.args.run.now c.args.files.«module».now (module_in c.args.runnable) c.args.files.random.now)
     c.loop-test.have_run c.args.tests.now c.loop-test.test-index c.args.places.now c.loop-test.places c.loop-test-test.false c.loop-test.invariant.ends
+
+-- it is ready as it was
+pub run_test-kept-requires-clause-ready : goal.run_test-kept-requires-clause-ready
+run_test-kept-requires-clause-ready g c = subst (λ r. IsReadyFor c.args.run.now.limits.pages r) (sym c.loop-test.invariant.same) c.requires.ready

@@ -1,14 +1,15 @@
 use Rattle.std.proofs.Common.{◌≡◌, take}
 use Rattle.sandbox_command.specs.Testing.{HasFailed, HasRun}
+use Rattle.sandbox_command.specs.internal.Runnable.{module_in}
 use Rattle.sandbox_command.specs.internal.Tests.{AllEndAs}
 use Rattle.sandbox_command.proofs.testing.run_all.Given as goal
 
 -- it is the module that was handed in, and each test so far was tried
 abbrev pub invariant-loop-test : goal.invariant-loop-test
 invariant-loop-test g l = record {
-  valid : l.valid ≡ l.initial.valid;
+  same : l.runnable ≡ l.initial.runnable;
   ends : AllEndAs
-      (HasRun g.P.Places g.P.Input.Read g.P.Output.Write l.run l.files.«module».now l.initial.valid l.files.random.now)
-      (HasFailed g.P.Places g.P.Input.Read g.P.Output.Write l.run l.files.«module».now l.initial.valid l.files.random.now)
+      (HasRun g.P.Places g.P.Input.Read g.P.Output.Write l.run l.files.«module».now (module_in l.initial.runnable) l.files.random.now)
+      (HasFailed g.P.Places g.P.Input.Read g.P.Output.Write l.run l.files.«module».now (module_in l.initial.runnable) l.files.random.now)
       l.have_run (take l.test-index l.tests) l.initial.places l.places;
 }

@@ -18,6 +18,7 @@ use Rattle.sandbox_command.specs.declared.testing.Test.{Test}
 use Rattle.sandbox_command.specs.Beginning.{unread}
 use Rattle.sandbox_command.specs.Places.{Makes}
 use Rattle.sandbox_command.specs.Testing.{HasFailed, HasRun, IsTested, IsTestedOrUnread}
+use Rattle.sandbox_command.specs.internal.Runnable.{module_in}
 use Rattle.sandbox_command.specs.internal.Tests.{IsTold, OneEndsAs}
 use Rattle.sandbox_command.proofs.Chains.{of_err}
 use Rattle.sandbox_command.proofs.testing.run_test.Goals as goal
@@ -103,17 +104,17 @@ returns-in_default g c =
 pub returns-in_default-said : goal.returns-in_default-said
 returns-in_default-said g c =
     absurd (said_something g.P.Places g.P.Input.Read g.P.Output.Write
-    c.args.run.now c.args.files.«module».now c.args.valid c.args.files.random.now c.args.test c.make.new.self c.tested-valid.new.places c.tested-valid.result.1 c.tested-valid.result.2.items c.in_default-said.is c.tested-valid.ensures.tested)
+    c.args.run.now c.args.files.«module».now (module_in c.args.runnable) c.args.files.random.now c.args.test c.make.new.self c.tested-runnable.new.places c.tested-runnable.result.1 c.tested-runnable.result.2.items c.in_default-said.is c.tested-runnable.ensures.tested)
 
 pub returns : goal.returns
 returns g c = record {
-  «module» = c.tested-valid.ensures.«module»;
+  «module» = c.tested-runnable.ensures.«module»;
   ends = ends g.P.Places g.P.Input.Read g.P.Output.Write
-      c.args.run.now c.args.files.«module».now c.args.valid c.args.files.random.now c.args.test c.is_told_of_guest-has_run.result c.args.places.now c.make.new.self c.tested-valid.new.places _ c.in-Ok.report c.in-Some.summary
+      c.args.run.now c.args.files.«module».now (module_in c.args.runnable) c.args.files.random.now c.args.test c.is_told_of_guest-has_run.result c.args.places.now c.make.new.self c.tested-runnable.new.places _ c.in-Ok.report c.in-Some.summary
       c.as_slice.result.now c.in-Ok.ensures.output c.make.ensures.asked
       (subst (λ (text : Text). IsTestedOrUnread g.P.Places g.P.Input.Read g.P.Output.Write
-      c.args.run.now c.args.files.«module».now c.args.valid c.args.files.random.now c.args.test c.make.new.self c.tested-valid.new.places (Some c.in-Some.summary) text) (sym c.as_slice.ensures.value)
+      c.args.run.now c.args.files.«module».now (module_in c.args.runnable) c.args.files.random.now c.args.test c.make.new.self c.tested-runnable.new.places (Some c.in-Some.summary) text) (sym c.as_slice.ensures.value)
       (subst (λ (s : Option Summary). IsTestedOrUnread g.P.Places g.P.Input.Read g.P.Output.Write
-      c.args.run.now c.args.files.«module».now c.args.valid c.args.files.random.now c.args.test c.make.new.self c.tested-valid.new.places s c.tested-valid.result.2.items) c.in-Some.is c.tested-valid.ensures.tested))
+      c.args.run.now c.args.files.«module».now (module_in c.args.runnable) c.args.files.random.now c.args.test c.make.new.self c.tested-runnable.new.places s c.tested-runnable.result.2.items) c.in-Some.is c.tested-runnable.ensures.tested))
       c.is_told_of_guest-has_run.ensures;
 }

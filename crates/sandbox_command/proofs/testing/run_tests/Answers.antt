@@ -1,7 +1,10 @@
-use Rattle.std.proofs.Common.{Some, inl, inr, refl}
+use Rattle.std.proofs.Common.{Some, inl, inr, refl, sym, subst}
+use Rattle.wasm_module.specs.Module.{Spells}
+use Rattle.wasm_valid.specs.Validity.{IsValid}
 use Rattle.run_report.specs.declared.fault.Fault.TheVariants as reason
 use Rattle.run_report.specs.declared.summary.Kept.TheVariants as kept
 use Rattle.sandbox_command.specs.Reporting.{not_run, session_reason}
+use Rattle.sandbox_command.specs.internal.Runnable.{module_in}
 use Rattle.sandbox_command.specs.Testing.{HasFailed, HasRun}
 use Rattle.sandbox_command.proofs.Chains.{failed_some, went_all}
 use Rattle.sandbox_command.proofs.testing.run_tests.Goals as goal
@@ -18,16 +21,17 @@ returns-in-Err-clause-runs g c =
 -- a guest ran in each test
 pub returns-then-run_all-clause-runs : goal.returns-then-run_all-clause-runs
 returns-then-run_all-clause-runs g c =
-    let found = c.in-Ok-load.ensures.found in
+    let prepared = module_in c.new-runnable.result in
+    let found = subst (λ m. Spells c.args.«module».now m × IsValid m) (sym c.new-runnable.ensures.«module») c.in-Ok-load.ensures.found in
     inr (inr (
-      c.in-Ok-load.valid,
+      prepared,
       found.0,
       found.1,
       inl (
         refl,
         went_all
-            (HasRun g.P.Places g.P.Input.Read g.P.Output.Write c.args.run.now c.args.«module».now c.in-Ok-load.valid c.args.random.now)
-            (HasFailed g.P.Places g.P.Input.Read g.P.Output.Write c.args.run.now c.args.«module».now c.in-Ok-load.valid c.args.random.now)
+            (HasRun g.P.Places g.P.Input.Read g.P.Output.Write c.args.run.now c.args.«module».now prepared c.args.random.now)
+            (HasFailed g.P.Places g.P.Input.Read g.P.Output.Write c.args.run.now c.args.«module».now prepared c.args.random.now)
             c.run_all.result c.args.tests.now _ _ c.if-run_all.true c.run_all.ensures,
       ),
     ))
@@ -35,16 +39,17 @@ returns-then-run_all-clause-runs g c =
 -- or not in each
 pub returns-in-Ok-load-clause-runs : goal.returns-in-Ok-load-clause-runs
 returns-in-Ok-load-clause-runs g c =
-    let found = c.in-Ok-load.ensures.found in
+    let prepared = module_in c.new-runnable.result in
+    let found = subst (λ m. Spells c.args.«module».now m × IsValid m) (sym c.new-runnable.ensures.«module») c.in-Ok-load.ensures.found in
     inr (inr (
-      c.in-Ok-load.valid,
+      prepared,
       found.0,
       found.1,
       inr (
         c.refuse_tests.ensures.status,
         failed_some
-            (HasRun g.P.Places g.P.Input.Read g.P.Output.Write c.args.run.now c.args.«module».now c.in-Ok-load.valid c.args.random.now)
-            (HasFailed g.P.Places g.P.Input.Read g.P.Output.Write c.args.run.now c.args.«module».now c.in-Ok-load.valid c.args.random.now)
+            (HasRun g.P.Places g.P.Input.Read g.P.Output.Write c.args.run.now c.args.«module».now prepared c.args.random.now)
+            (HasFailed g.P.Places g.P.Input.Read g.P.Output.Write c.args.run.now c.args.«module».now prepared c.args.random.now)
             c.run_all.result c.args.tests.now _ _ c.if-run_all.false c.run_all.ensures,
       ),
     ))

@@ -1,12 +1,13 @@
 use Rattle.std.proofs.Common.{Some, ◌∙◌, ap, inl, inr, refl, subst}
 use Rattle.sandbox_command.specs.Stopping.{AreLinesBy}
+use Rattle.sandbox_command.specs.internal.Runnable.{module_in}
 use Rattle.sandbox_command.proofs.testing.tested.Goals as goal
 
 pub returns-in-Ok : goal.returns-in-Ok
 returns-in-Ok g c =
     let files = c.in-Ok.ensures in
     record {
-      «module» = c.run_valid-valid.ensures.«module»;
+      «module» = c.run_valid-runnable.ensures.«module»;
       tested = inr (record {
         prepared = c.prepare.new.places;
         asked_for = files.asked_for;
@@ -19,10 +20,10 @@ returns-in-Ok g c =
         device = c.in-Ok.field-0.device;
         new = files.new;
         of_image = files.of_image;
-        left = c.run_valid-valid.result.1;
-        runs = c.run_valid-valid.ensures.runs;
+        left = c.run_valid-runnable.result.1;
+        runs = c.run_valid-runnable.ensures.runs;
         summary_is = refl;
-        are_lines = subst (λ m. AreLinesBy c.args.files.«module».now m c.args.run.now.frames c.run_valid-valid.result.1.stopped c.lines_of-frames.result.items) (c.«module».ensures.value ∙ c.run_valid-valid.ensures.«module») c.lines_of-frames.ensures;
+        are_lines = subst (λ m. AreLinesBy c.args.files.«module».now m c.args.run.now.frames c.run_valid-runnable.result.1.stopped c.lines_of-frames.result.items) (c.«module».ensures ∙ ap module_in c.run_valid-runnable.ensures.«module») c.lines_of-frames.ensures;
         ended = c.end.ensures;
       });
     }

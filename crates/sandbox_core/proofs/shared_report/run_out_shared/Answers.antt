@@ -1,7 +1,7 @@
 use Rattle.std.proofs.Common.{[], refl, ◌∙◌, arith}
 use Rattle.vol_tree.proofs.GoingOn.{goes_then}
 use Rattle.sandbox_core.specs.Devices.{Calls, devices, disk_of, numbers_of, tree_of}
-use Rattle.sandbox_core.proofs.Following.{followed_on, followed_to_end}
+use Rattle.sandbox_core.proofs.Following.{followed_on, followed_to_end, none_tallied}
 use Rattle.sandbox_core.proofs.Reaching.{safe_so_far, safe_on, ran_out, ran_to_end}
 use Rattle.sandbox_core.proofs.shared_report.run_out_shared.Goals as goal
 
@@ -14,7 +14,7 @@ running-init g c =
       going = λ running. running;
       size = refl;
       goes = λ end le first from. from;
-      followed = ([], refl, record { calls = refl; syncs = refl });
+      followed = ([], refl, none_tallied _ c.none-tally.ensures);
       so_far = safe_so_far _ (Calls on)
           (disk_of on) numbers_of tree_of
           (λ h. g.D.Device.honest h.volume.device) c.args.session.now.host c.args.session.now.machine;
@@ -32,7 +32,7 @@ running-preserved g c =
       going = λ running. c.in-Called.ensures.run.end_is;
       size = c.in-Called.ensures.size ∙ c.running.invariant.size;
       goes = goes_then g.D.Device.goes_on first.host.volume old.host.volume new.host.volume c.running.invariant.so_far.numbered c.running.invariant.goes c.in-Called.ensures.goes;
-      followed = followed_on on first old new _ _ _ _ c.running.invariant.followed c.in-Called.ensures c.with-tally.ensures;
+      followed = followed_on on first old new _ _ _ _ c.running.invariant.followed c.in-Called.ensures c.add.ensures;
       so_far = safe_on _ (Calls on)
           (disk_of on) numbers_of tree_of
           (λ h. g.D.Device.honest h.volume.device) first.host old.host new.host

@@ -11,7 +11,7 @@ running-init g c = record { within = c.requires; since = none_since (devices g.D
 pub running-preserved : goal.running-preserved
 running-preserved g c = record {
   within = let rise = c.in-Called.ensures.run.units_rise in omega (arith, rise, c.used.ensures, c.running.invariant.within);
-  since = one_since (devices g.D.Device g.R.Read g.W1.Write g.W2.Write) _ _ _ _ _ _ _ _ _ c.running.invariant.since c.in-Called.ensures c.with-tally.ensures;
+  since = one_since (devices g.D.Device g.R.Read g.W1.Write g.W2.Write) _ _ _ _ _ _ _ _ _ c.running.invariant.since c.in-Called.ensures c.add.ensures;
 }
 
 -- the units were used

@@ -3,7 +3,7 @@ use Rattle.std.proofs.lemmas.Bool.{false≢true}
 use Rattle.std.proofs.lemmas.Option.{IfSome_then}
 use Rattle.std.specs.Option.{is_none}
 use Rattle.sandbox_host.specs.declared.handle.Handle.{Handle}
-use Rattle.sandbox_host.specs.Sessions.{finished, finished_in, loaded, prepared}
+use Rattle.sandbox_host.specs.Sessions.{finished, finished_in, loaded, prepared, bytes_of}
 use Rattle.sandbox_host.proofs.closing.close_loaded.Goals as goal
 
 -- the module of the session that was finished
@@ -19,6 +19,7 @@ returns-then-number-eq-OK c =
         | inr is_open ↦ absurd (false≢true (sym is_open ∙ closed))
       ];
       closed = rw had (IfSome_then (finished_in c.replace.result) unloaded.kept (λ e kept _. (kept.0, c.take.ensures.closed, ap loaded has ∙ kept.1, ap prepared has ∙ kept.2)));
+      bytes = λ _. ap bytes_of has ∙ (unloaded.bytes ∙ sym (ap bytes_of had));
     }
 
 -- what the session's handle had is put back
@@ -34,4 +35,5 @@ returns-else-number-eq-OK c =
         | inr is_open ↦ absurd (false≢true (sym is_open ∙ closed))
       ];
       closed = rw had (IfSome_then (finished_in c.replace.result) unloaded.kept (λ e kept _. absurd (c.if-number-eq-OK.false kept.0)));
+      bytes = λ none. absurd (c.if-number-eq-OK.false none);
     }

@@ -1,9 +1,9 @@
-use Rattle.std.proofs.Common.{◌≡◌, ◌∙◌, Option, true, false, refl, ap, sym, subst, inl, inr}
+use Rattle.std.proofs.Common.{◌≡◌, ◌∙◌, Option, true, false, refl, ap, sym, subst, inl, inr, arith}
 use Rattle.std.proofs.lemmas.Bool.{false≢true}
 use Rattle.std.specs.Option.{IsSomeAnd, is_none}
 use Rattle.sandbox_host.specs.declared.handle.Handle.{Handle}
 use Rattle.sandbox_host.specs.declared.held.Held.{Held}
-use Rattle.sandbox_host.specs.Sessions.{loaded, prepared, IsLoaded}
+use Rattle.sandbox_host.specs.Sessions.{loaded, prepared, bytes_of, IsLoaded}
 use Rattle.sandbox_host.proofs.Closed.{none_of}
 use Rattle.sandbox_host.proofs.opening.load_module.Goals as goal
 
@@ -14,6 +14,7 @@ returns-in-Ok c =
       misuse = λ is_open. absurd (false≢true (sym is_open ∙ closed));
       loaded = λ _ e. (subst (λ (h : Option Held). IsSomeAnd (loaded h) (IsLoaded c.args.bytes.now)) (sym (c.keep.ensures.kept e)) c.in-Ok.ensures.loaded, ap prepared (c.keep.ensures.kept e), refl);
       refused = λ _ e. let no = c.keep.ensures.refused e in (no.1, inr (no.0, refl));
+      bytes = λ e. ap bytes_of (c.keep.ensures.kept e) ∙ c.new.ensures;
     }
 
 pub returns-in-Err : goal.returns-in-Err
@@ -23,6 +24,7 @@ returns-in-Err c =
       misuse = λ is_open. absurd (false≢true (sym is_open ∙ closed));
       loaded = λ _ e. absurd (c.in-Err.ensures.some e);
       refused = λ _ _. (ap (λ (h : Handle). h.held) c.is_closed.ensures.1 ∙ none_of _ closed, inl (refl, c.in-Err.ensures.refused));
+      bytes = λ e. absurd (c.in-Err.ensures.some e);
     }
 
 pub returns-then-not-is_closed : goal.returns-then-not-is_closed
@@ -32,4 +34,5 @@ returns-then-not-is_closed c =
       misuse = λ _. (refl, c.is_closed.ensures.1, refl);
       loaded = λ closed. absurd (false≢true (sym is_open ∙ closed));
       refused = λ closed. absurd (false≢true (sym is_open ∙ closed));
+      bytes = λ e. absurd (omega (arith, e));
     }

@@ -1,4 +1,4 @@
-use Rattle.std.proofs.Common.{◌≡◌, ◌∙◌, Some, true, false, refl, ap, sym, inl, inr}
+use Rattle.std.proofs.Common.{◌≡◌, ◌∙◌, Some, true, false, refl, ap, sym, inl, inr, arith}
 use Rattle.std.proofs.lemmas.Bool.{false≢true}
 use Rattle.std.specs.Option.{is_none}
 use Rattle.sandbox_host.specs.Volumes.{origin_of}
@@ -12,6 +12,7 @@ returns c =
       misuse = λ wrong. elim wrong [ inl is_open ↦ absurd (false≢true (sym is_open ∙ closed)) | inr unknown ↦ absurd (false≢true (sym (ap is_none named) ∙ unknown)) ];
       opened = λ _. rw named c.open_from.ensures.opened;
       refused = λ _. rw named c.open_from.ensures.refused;
+      bytes = c.open_from.ensures.bytes;
     }
 
 pub returns-then-not-is_closed : goal.returns-then-not-is_closed
@@ -21,4 +22,5 @@ returns-then-not-is_closed c =
       misuse = λ _. (refl, c.is_closed.ensures.1, refl);
       opened = λ closed. absurd (false≢true (sym is_open ∙ closed));
       refused = λ closed. absurd (false≢true (sym is_open ∙ closed));
+      bytes = λ e. absurd (omega (arith, e));
     }

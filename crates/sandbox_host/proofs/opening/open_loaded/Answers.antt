@@ -4,7 +4,7 @@ use Rattle.std.proofs.lemmas.Option.{IfSome_then}
 use Rattle.std.specs.Option.{IsSomeAnd, is_none}
 use Rattle.sandbox_host.specs.declared.handle.Handle.{Handle}
 use Rattle.sandbox_host.specs.declared.held.Held.{Held}
-use Rattle.sandbox_host.specs.Sessions.{running, loaded, loaded_in, prepared, Begins}
+use Rattle.sandbox_host.specs.Sessions.{running, loaded, loaded_in, prepared, bytes_of, Begins}
 use Rattle.sandbox_host.specs.Volumes.{origin_of}
 use Rattle.sandbox_host.proofs.opening.open_loaded.Goals as goal
 
@@ -27,6 +27,7 @@ returns-then-number-eq-OK c =
         ap prepared has ∙ both.1,
       )));
       refused = λ _. rw (named, had) (IfSome_then (loaded_in c.replace.result) begun.begins (λ m _ some. absurd (some c.if-number-eq-OK.true)));
+      bytes = λ _. ap bytes_of has ∙ (begun.bytes ∙ sym (ap bytes_of had));
     }
 
 -- what the module's handle had is put back
@@ -45,4 +46,5 @@ returns-else-number-eq-OK c =
       ];
       opened = λ _. rw (named, had) (IfSome_then (loaded_in c.replace.result) begun.begins (λ m _ none. absurd (c.if-number-eq-OK.false none)));
       refused = λ _. rw (named, had) (IfSome_then (loaded_in c.replace.result) begun.refused (λ m refused some. let told = refused some in (same, has ∙ ap Some told.0, told.1)));
+      bytes = λ none. absurd (c.if-number-eq-OK.false none);
     }

@@ -17,6 +17,9 @@ returns-in-Format c = ap rules_for (sym c.in-Format.is)
 pub returns-in-Volume : goal.returns-in-Volume
 returns-in-Volume c = ap rules_for (sym c.in-Volume.is)
 
+pub returns-in-Upgrade : goal.returns-in-Upgrade
+returns-in-Upgrade c = ap rules_for (sym c.in-Upgrade.is)
+
 pub returns-in-Path : goal.returns-in-Path
 returns-in-Path c = ap rules_for (sym c.in-Path.is)
 

@@ -3,7 +3,7 @@ use Rattle.std.proofs.KnownBytes.{Keeps-refl}
 use Rattle.vol_sector.specs.Disk.{counted}
 use Rattle.vol_log.proofs.Moments.{leaves_quiet}
 use Rattle.vol_tree.specs.Stands.{StandsAs}
-use Rattle.large_volume.proofs.Going.{past_opened}
+use Rattle.volume_tasks.proofs.PastVolumes.{past_opened}
 use Rattle.volume_tasks.specs.Exporting.{PerformsExport, blames_export}
 use Rattle.volume_tasks.proofs.FreshVolume.{refused_open}
 use Rattle.volume_tasks.proofs.exporting.export_from.Goals as goal

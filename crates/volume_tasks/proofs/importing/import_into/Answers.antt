@@ -2,7 +2,7 @@ use Rattle.std.proofs.Common.{inl, inr, refl, sym, ◌∙◌, ap, subst, Err, On
 use Rattle.vol_sector.specs.Disk.{Image, counted}
 use Rattle.vol_tree.specs.declared.superblock.Superblock.{Superblock}
 use Rattle.vol_tree.specs.Stands.{StandsAs}
-use Rattle.large_volume.proofs.Going.{past_opened}
+use Rattle.volume_tasks.proofs.PastVolumes.{past_opened}
 use Rattle.volume_tasks.specs.Importing.{IsPartOfBringing, PerformsImport, blames_import}
 use Rattle.volume_tasks.proofs.Brought.{opened_then}
 use Rattle.volume_tasks.proofs.FreshVolume.{refused_open}

@@ -1,6 +1,6 @@
 use Rattle.std.proofs.Common.{arith}
 use Rattle.std.proofs.lemmas.Grind.{common_steps}
-use Rattle.large_volume.proofs.Going.{past_made}
+use Rattle.volume_tasks.proofs.PastVolumes.{past_made}
 use Rattle.volume_tasks.proofs.Going.{opening_goes}
 use Rattle.volume_tasks.proofs.FreshVolume.{fresh_opened, fresh_refused, has_room}
 use Rattle.volume_tasks.proofs.opening.open_fresh.Goals as goal

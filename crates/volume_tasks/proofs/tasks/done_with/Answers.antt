@@ -2,11 +2,13 @@ use Rattle.std.proofs.Common.{◌⊎◌, inl, Bool, ap, sym, subst, arith}
 use Rattle.std.proofs.KnownBytes.{Keeps-refl}
 use Rattle.std.proofs.lemmas.Grind.{common_steps}
 use Rattle.vol_sector.specs.Disk.{Leaves, counted}
+use Rattle.vol_inode.specs.declared.version.Version.{Version}
+use Rattle.vol_tree.specs.Opened.{MayUpgrade}
 use Rattle.sandbox_words.specs.declared.request.Task.{Task}
 use Rattle.volume_tasks.specs.Tasks.{ReflectsAny, IsPartOfPut}
 use Rattle.volume_tasks.specs.Changes.{IsPartOfChange}
 use Rattle.volume_tasks.specs.Replacing.{IsPartOfWhole, path_beside}
-use Rattle.volume_tasks.specs.Doing.{IsPartOf, IsRaised}
+use Rattle.volume_tasks.specs.Doing.{IsPartOf, IsRaised, version_after}
 use Rattle.volume_archive.proofs.Moments.{leaves_more}
 use Rattle.volume_tasks.proofs.Beginning.{upgrade_any}
 use Rattle.volume_tasks.proofs.tasks.done_with.Goals as goal
@@ -56,7 +58,7 @@ returns-in_err-upgrade-in-Upgrade-clause-crash g c h =
     let disk = g.D.Device.disk in
     subst (λ (t : Task). Leaves (disk v.device) (disk c.upgrade.new.self.device)
     (λ m. ReflectsAny (disk v.device) v.numbers (IsPartOf t v.numbers v.tree (g.R.Read.remaining c.args.input.now)) m ⊎ IsRaised t v.numbers v.tree m)) (sym c.in-Upgrade.is)
-    (upgrade_any (disk v.device) (disk c.upgrade.new.self.device) v.numbers v.tree (c.upgrade.ensures.crash h))
+    (upgrade_any (disk v.device) (disk c.upgrade.new.self.device) v.numbers (version_after c.in-Upgrade.huge) v.tree (subst (λ (to : Version). Leaves (disk v.device) (disk c.upgrade.new.self.device) (MayUpgrade (disk v.device) v.numbers to v.tree)) c.version_after.ensures (c.upgrade.ensures.crash h)))
 
 pub returns-in_ok-upgrade-in-Upgrade-clause-crash : goal.returns-in_ok-upgrade-in-Upgrade-clause-crash
 returns-in_ok-upgrade-in-Upgrade-clause-crash g c h =
@@ -64,7 +66,7 @@ returns-in_ok-upgrade-in-Upgrade-clause-crash g c h =
     let disk = g.D.Device.disk in
     subst (λ (t : Task). Leaves (disk v.device) (disk c.upgrade.new.self.device)
     (λ m. ReflectsAny (disk v.device) v.numbers (IsPartOf t v.numbers v.tree (g.R.Read.remaining c.args.input.now)) m ⊎ IsRaised t v.numbers v.tree m)) (sym c.in-Upgrade.is)
-    (upgrade_any (disk v.device) (disk c.upgrade.new.self.device) v.numbers v.tree (c.upgrade.ensures.crash h))
+    (upgrade_any (disk v.device) (disk c.upgrade.new.self.device) v.numbers (version_after c.in-Upgrade.huge) v.tree (subst (λ (to : Version). Leaves (disk v.device) (disk c.upgrade.new.self.device) (MayUpgrade (disk v.device) v.numbers to v.tree)) c.version_after.ensures (c.upgrade.ensures.crash h)))
 
 pub returns-in_err-upgrade-in-Upgrade-clause-prints_nothing : goal.returns-in_err-upgrade-in-Upgrade-clause-prints_nothing
 returns-in_err-upgrade-in-Upgrade-clause-prints_nothing g c nothing = Keeps-refl (g.W.Write.contents c.args.out.now)

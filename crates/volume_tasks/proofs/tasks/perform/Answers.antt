@@ -1,7 +1,7 @@
 use Rattle.std.proofs.Common.{inl, inr, refl, sym, ◌∙◌, ap, subst}
 use Rattle.std.proofs.KnownBytes.{Keeps-refl}
 use Rattle.vol_sector.specs.Disk.{counted}
-use Rattle.large_volume.proofs.Going.{past_opened}
+use Rattle.volume_tasks.proofs.PastVolumes.{past_opened}
 use Rattle.volume_tasks.specs.Blame.{blames_device}
 use Rattle.volume_tasks.specs.Doing.{IsPartOf, IsRaised, Performs}
 use Rattle.volume_tasks.proofs.Beginning.{task_after}

@@ -1,4 +1,5 @@
-use Rattle.std.proofs.Common.{refl, ap, ◌∙◌}
+use Rattle.std.proofs.Common.{Option, refl, sym, ap, ◌∙◌}
+use Rattle.wasi_calls.specs.declared.streams.Terminals.{Terminals}
 use Rattle.wasm_store.specs.Bytes.{written}
 use Rattle.wasi_calls.specs.Checks.{with_result}
 use Rattle.wasi_calls.specs.descriptors.Rows.{fdstat}
@@ -7,15 +8,15 @@ use Rattle.wasi_calls.proofs.bodies.Answering.{answers_done, refusal_answers}
 use Rattle.wasi_calls.proofs.descriptors.fd_fdstat_get.Goals as goal
 
 pub returns : goal.returns
-returns c = λ w is.
+returns c = λ w is shown.
     let m = c.args.memory.now in
     let d = c.in_ok-descriptor.descriptor in
-    answers_done _ w m w _ (with_result w c.args.result_at (fdstat d))
+    answers_done _ w m w _ (with_result w c.args.result_at (fdstat w.interactive d))
     (goes_on _ _ d (c.in_ok-descriptor.ensures w is) ∙ goes_on _ _ tt c.in_ok-check_range.ensures.range)
-    refl (c.write_bytes.ensures.bytes ∙ ap (written m c.args.result_at) c.fdstat.ensures)
+    refl (c.write_bytes.ensures.bytes ∙ ap (written m c.args.result_at) (c.fdstat.ensures ∙ ap (λ (t : Option Terminals). fdstat t d) (sym shown)))
 
 pub returns-in_err-check_range : goal.returns-in_err-check_range
-returns-in_err-check_range c = λ w is.
+returns-in_err-check_range c = λ w is shown.
     let r = c.from_residual-in_err-check_range.result in
     let x = c.in_err-check_range.field-0.0 in
     let is_x = c.from_residual-in_err-check_range.ensures.1 in

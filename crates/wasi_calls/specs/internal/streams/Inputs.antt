@@ -1,14 +1,16 @@
 -- What a reader gave, and where its bytes stand in the guest's memory. `Came` is for one place and `Dealt` for the
 -- buffers of a call; `SomeCame` and `SomeDealt` are the same after a failure.
-use Rattle.std.specs.Prelude.{◌≡◌, ◌≤◌, ℕ, List, [], ◌∷◌, ◌||◌, nat_lt, length, true, false, Option, Ok}
+use Rattle.std.specs.Prelude.{◌≡◌, ◌<◌, ◌≤◌, ℕ, Bool, List, [], ◌∷◌, ◌||◌, nat_lt, length, take, get_or, true, false, Option, Ok}
 use Rattle.std.specs.Io.KnownBytes.{Consumes}
 use Rattle.byteorder.specs.Endian.{little_bytes}
 use Rattle.wasm_store.specs.Bytes.{written}
+use Rattle.vol_body.specs.declared.source.Span.{Span}
 use Rattle.wasi_fd.specs.declared.descriptor.Descriptor.{Descriptor}
 use Rattle.wasi_calls.specs.declared.streams.Input.{Input}
-use Rattle.wasi_calls.specs.World.{World}
+use Rattle.wasi_calls.specs.World.{World, least_read}
 use Rattle.wasi_calls.specs.Checks.{Checked, Done, ◌>>=◌, Buffer, put, total, scattered}
 use Rattle.wasi_calls.specs.files.Rows.{read_from}
+use Rattle.wasi_calls.specs.internal.checks.Buffers.{list_of}
 
 -- this many bytes came, which stand in memory from a place on
 pub record Came (before after : Option (List ℕ)) (old : List ℕ) (place most : ℕ) (memory : List ℕ) (count : ℕ) : Type 0 where
@@ -35,16 +37,27 @@ pub record SomeDealt (before after : Option (List ℕ)) (old : List ℕ) (bs : L
   pub count : ℕ
   pub dealt : Dealt before after old bs memory count
 
--- They fill the buffers, but for those that no bytes came for since the input ended; and how many came is written.
-pub record IsRead {R : Type 0} (remaining : R → Option (List ℕ)) (old new : Input R) (m : List ℕ) (bs : List Buffer) (result : ℕ) (memory : List ℕ) : Type 0 where
+-- the place of the first buffer that has room
+pub record IsFirstWithRoom (bs : List Span) (i : ℕ) : Type 0 where
+  pub inside : i < length bs
+  pub before : total (list_of (take i bs)) ≡ 0
+  pub room : 0 < (get_or bs i (record { pointer = 0; len = 0 })).len
+
+-- the reader failed after some came; where reads are short it was the only read
+pub record Broke (short : Bool) (before after : Option (List ℕ)) (old : List ℕ) (bs : List Buffer) (memory : List ℕ) : Type 0 where
+  pub some : SomeDealt before after old bs memory
+  pub none : short ≡ true → some.count ≡ 0
+
+-- They fill the buffers, but for those that no bytes came for since the input ended, or reads are short; and how many came is written.
+pub record IsRead {R : Type 0} (short : Bool) (remaining : R → Option (List ℕ)) (old new : Input R) (m : List ℕ) (bs : List Buffer) (result : ℕ) (memory : List ℕ) : Type 0 where
   pub worked : old.failed ≡ false
   pub works : new.failed ≡ false
   pub count : ℕ
   pub filled : List ℕ
   pub dealt : Dealt (remaining old.reader) (remaining new.reader) m bs filled count
-  pub full : new.ended ≡ false → count ≡ total bs
+  pub full : new.ended ≡ false → least_read short (total bs) ≤ count
   pub none : old.ended ≡ true → count ≡ 0
-  pub ended : new.ended ≡ (old.ended || nat_lt count (total bs))
+  pub ended : new.ended ≡ (old.ended || nat_lt count (least_read short (total bs)))
   pub stand : memory ≡ written filled result (little_bytes 4 count)
 
 -- the bytes of what a number stands for, in the buffers

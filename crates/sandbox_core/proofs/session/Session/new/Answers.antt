@@ -16,6 +16,7 @@ returns-in-Ok-preopen-clause-opens g c =
       err = kept.err ∙ made.err;
       settings = kept.settings ∙ made.settings;
       supply = kept.generator ∙ made.generator;
+      interactive = kept.interactive ∙ made.interactive;
     }
 
 pub returns-in-Err-new-clause-refused : goal.returns-in-Err-new-clause-refused

@@ -1,16 +1,20 @@
-use Rattle.std.proofs.Common.{rules, arith}
 use Rattle.vol_tree.proofs.volume.Volume.format.Goals as goal
 
-pub returns-in-Ok-clause-durable : goal.returns-in-Ok-clause-durable
-returns-in-Ok-clause-durable g c = search rules
-
-pub returns-in-Ok-clause-empty : goal.returns-in-Ok-clause-empty
-returns-in-Ok-clause-empty g c = search rules
-
-pub returns-in-Ok-clause-past_ok : goal.returns-in-Ok-clause-past_ok
-returns-in-Ok-clause-past_ok g c h =
-    g.met.D.Device.leaves_past c.args.sectors c.args.device c.lay_out.new.device h (c.lay_out.ensures.goes_on c.args.sectors (omega arith) c.args.device (g.met.D.Device.begins c.args.sectors c.args.device))
-
-pub returns-in-Err-clause-past_err : goal.returns-in-Err-clause-past_err
-returns-in-Err-clause-past_err g c h =
-    g.met.D.Device.leaves_past c.args.sectors c.args.device c.lay_out.new.device h (c.lay_out.ensures.goes_on c.args.sectors (omega arith) c.args.device (g.met.D.Device.begins c.args.sectors c.args.device))
+pub returns : goal.returns
+returns g c =
+    let e = c.format_as.ensures in
+    record {
+      geometry = e.geometry;
+      too_small = e.too_small;
+      otherwise = e.otherwise;
+      durable = e.durable;
+      empty = e.empty;
+      crash_ok = e.crash_ok;
+      crash_err = e.crash_err;
+      past_ok = e.past_ok;
+      past_err = e.past_err;
+      kept_ok = e.kept_ok;
+      kept_err = e.kept_err;
+      goes_on_ok = e.goes_on_ok;
+      goes_on_err = e.goes_on_err;
+    }

@@ -1,4 +1,4 @@
-use Rattle.std.proofs.Common.{◌≡◌, ◌^◌, ℕ, List, false, Ok, Some, refl, sym, ap, ◌∙◌, subst}
+use Rattle.std.proofs.Common.{◌≡◌, ◌^◌, ℕ, List, false, Option, Ok, Some, refl, sym, ap, ◌∙◌, subst}
 use Rattle.wasm_store.specs.Bytes.{written}
 use Rattle.wasi_fd.specs.Table.{table_of}
 use Rattle.wasi_calls.specs.declared.checks.Takes.TheVariants as takes
@@ -6,7 +6,8 @@ use Rattle.wasi_calls.proofs.checks.CausesOf29.{asked_29, check_not_29, no_29_at
 use Rattle.wasi_calls.proofs.checks.NoneAnswers29.{descriptor_never, range_never}
 use Rattle.wasi_calls.specs.World.{World, with_volume_failed}
 use Rattle.wasi_calls.specs.Checks.{any_kind, with_result, descriptor, range}
-use Rattle.wasi_calls.specs.descriptors.Rows.{fd_filestat_get, filestat, entry_stat, stat_of}
+use Rattle.wasi_calls.specs.declared.streams.Terminals.{Terminals}
+use Rattle.wasi_calls.specs.descriptors.Rows.{fd_filestat_get, filestat, type_of_stream, entry_stat, stat_of}
 use Rattle.wasi_fd.specs.declared.descriptor.Descriptor.TheVariants.{Entry}
 use Rattle.wasi_calls.specs.Calls.{Answered, is_entry}
 use Rattle.wasi_calls.specs.internal.Bodies.{with_volume, refusals_of}
@@ -20,7 +21,7 @@ use Rattle.wasi_calls.proofs.descriptors.stat.filestat_get.Goals as goal
 pub returns-in-Err : goal.returns-in-Err
 returns-in-Err g c = record {
   step = volume_rests g.D.Device.honest g.D.Device.disk g.D.Device.size g.D.Device.failures g.D.Device.goes_on c.args.volume.now;
-  answered = λ h w table shown.
+  answered = λ h w table shown talks.
       refused_first w c.args.memory.now (λ v. fd_filestat_get v c.args.memory.now c.args.fd c.args.result_at) c.args.volume.now _ shown (stops _ _ _ (c.in-Err.ensures w table));
   io = check_not_29 (table_of c.args.descriptors.now) (λ w. descriptor w c.args.fd (refusals_of takes.Any) (2 ^ 21)) _ (descriptor_never c.args.fd takes.Any (2 ^ 21)) c.in-Err.ensures;
 }
@@ -28,7 +29,7 @@ returns-in-Err g c = record {
 pub returns-in-Err-check_range : goal.returns-in-Err-check_range
 returns-in-Err-check_range g c = record {
   step = volume_rests g.D.Device.honest g.D.Device.disk g.D.Device.size g.D.Device.failures g.D.Device.goes_on c.args.volume.now;
-  answered = λ h w table shown.
+  answered = λ h w table shown talks.
       refused_first w c.args.memory.now (λ v. fd_filestat_get v c.args.memory.now c.args.fd c.args.result_at) c.args.volume.now _ shown
       (goes_on _ _ c.in-Ok.descriptor (c.in-Ok.ensures w table) ∙ stops _ _ _ c.in-Err-check_range.ensures.range);
   io = not_29 (range c.args.memory.now c.args.result_at 64) _ (range_never c.args.memory.now c.args.result_at 64) c.in-Err-check_range.ensures.range;
@@ -48,11 +49,14 @@ stat_entry-requires g c =
 pub returns-in-Stream : goal.returns-in-Stream
 returns-in-Stream g c = record {
   step = volume_rests g.D.Device.honest g.D.Device.disk g.D.Device.size g.D.Device.failures g.D.Device.goes_on c.args.volume.now;
-  answered = λ h w table shown.
+  answered = λ h w table shown talks.
       let m = c.args.memory.now in
-      done_by w m (λ v. fd_filestat_get v m c.args.fd c.args.result_at) c.args.volume.now _ (with_result w c.args.result_at (filestat 0 2 0))
-      (goes_on _ _ c.in-Ok.descriptor (c.in-Ok.ensures w table) ∙ (goes_on _ _ tt c.in_default.ensures.range ∙ goes_on _ _ (filestat 0 2 0) (ap (stat_of w) c.in-Stream.is)))
-      (sym shown) (c.write_bytes.ensures.bytes ∙ ap (written m c.args.result_at) c.filestat.ensures);
+      let s = c.in-Stream.stream in
+      let bytes = filestat 0 (type_of_stream w.interactive s) 0 in
+      let same : c.type_of_stream.result ≡ type_of_stream w.interactive s = c.type_of_stream.ensures ∙ ap (λ (t : Option Terminals). type_of_stream t s) (sym talks) in
+      done_by w m (λ v. fd_filestat_get v m c.args.fd c.args.result_at) c.args.volume.now _ (with_result w c.args.result_at bytes)
+      (goes_on _ _ c.in-Ok.descriptor (c.in-Ok.ensures w table) ∙ (goes_on _ _ tt c.in_default.ensures.range ∙ goes_on _ _ bytes (ap (stat_of w) c.in-Stream.is)))
+      (sym shown) (c.write_bytes.ensures.bytes ∙ ap (written m c.args.result_at) (c.filestat-bytes.ensures ∙ ap (λ (k : ℕ). filestat 0 k 0) same));
   io = no_29_at_0;
 }
 
@@ -60,7 +64,7 @@ pub returns-in-Ok-stat_entry : goal.returns-in-Ok-stat_entry
 returns-in-Ok-stat_entry g c = record {
   step = let told = c.in-Ok-stat_entry.ensures in
       asked_step g.D.Device.honest g.D.Device.disk g.D.Device.size g.D.Device.failures g.D.Device.goes_on c.args.volume.now c.stat_entry.new.volume _ (record { tree = λ h. (told.answer h).1; crash = told.crash; kept = told.kept; goes = told.goes_on });
-  answered = λ h w table shown.
+  answered = λ h w table shown talks.
       let m = c.args.memory.now in
       let old = c.args.volume.now in
       let new = c.stat_entry.new.volume in
@@ -83,7 +87,7 @@ pub returns-in-Err-stat_entry : goal.returns-in-Err-stat_entry
 returns-in-Err-stat_entry g c = record {
   step = let told = c.in-Err-stat_entry.ensures in
       asked_step g.D.Device.honest g.D.Device.disk g.D.Device.size g.D.Device.failures g.D.Device.goes_on c.args.volume.now c.stat_entry.new.volume _ (record { tree = λ h. (told.answer h).1; crash = told.crash; kept = told.kept; goes = told.goes_on });
-  answered = λ h w table shown.
+  answered = λ h w table shown talks.
       let m = c.args.memory.now in
       let old = c.args.volume.now in
       let new = c.stat_entry.new.volume in

@@ -35,12 +35,12 @@ returns-in-Ok g c = record {
         worked = c.if-input.false;
         works = c.in-Ok.ensures.mark ∙ c.if-input.false;
         count = c.in-Ok.count;
-        filled = c.fill_buffers.new.memory;
+        filled = c.read_buffers.new.memory;
         dealt = c.in-Ok.ensures.dealt;
         full = c.in-Ok.ensures.full;
         none = λ ended. same_count c.in-Ok.count 0 (c.in-Ok.ensures.none ended).0;
-        ended = ended_so _ _ _ _ (λ is. (c.in-Ok.ensures.none is).1) c.in-Ok.ensures.short c.in-Ok.ensures.full;
-        stand = c.write_bytes.ensures.bytes ∙ ap (written c.fill_buffers.new.memory c.args.result_at) c.le32.ensures;
+        ended = ended_so _ _ _ _ (λ is. (c.in-Ok.ensures.none is).1) c.in-Ok.ensures.fewer c.in-Ok.ensures.full;
+        stand = c.write_bytes.ensures.bytes ∙ ap (written c.read_buffers.new.memory c.args.result_at) c.le32.ensures;
       };
   broke = tt;
   answer = tt;

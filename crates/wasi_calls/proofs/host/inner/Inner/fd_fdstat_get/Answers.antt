@@ -14,4 +14,4 @@ returns g c = λ used.
     serves_plain g.D.Device.honest g.D.Device.disk g.D.Device.size g.D.Device.failures g.D.Device.goes_on g.R.Read.remaining g.W1.Write.contents g.W2.Write.contents
     call.FdFdstatGet used c.args.arguments.now _ s s.descriptors s.settings m _ _ (λ o. refl) c.requires c.requires.settings refl (no_more (table_of s.descriptors))
     (λ b i. fd_fdstat_get (world_of (state_of s) b) m (sym c.descriptor-fd.ensures i) (sym c.word-result_at.ensures i))
-    (λ b. c.fd_fdstat_get.ensures (world_of (state_of s) b) refl)
+    (λ b. c.fd_fdstat_get.ensures (world_of (state_of s) b) refl refl)

@@ -15,4 +15,4 @@ returns g c = λ used.
     serves_reaching g.D.Device.honest g.D.Device.disk g.D.Device.size g.D.Device.failures g.D.Device.goes_on g.R.Read.remaining g.W1.Write.contents g.W2.Write.contents
     call.FdFilestatGet used c.args.arguments.now _ s c.filestat_get.new.volume m _ _ c.filestat_get.ensures.io c.requires.set_up c.filestat_get.ensures.step
     (λ w i. fd_filestat_get w m (sym c.descriptor-fd.ensures i) (sym c.word-result_at.ensures i))
-    (λ known b. c.filestat_get.ensures.answered (λ is. known (sym (ap (λ (fd : ℕ). is_entry (table_of s.descriptors fd)) c.descriptor-fd.ensures) ∙ is)) (world_of (state_of s) b) refl refl)
+    (λ known b. c.filestat_get.ensures.answered (λ is. known (sym (ap (λ (fd : ℕ). is_entry (table_of s.descriptors fd)) c.descriptor-fd.ensures) ∙ is)) (world_of (state_of s) b) refl refl refl)

@@ -80,9 +80,10 @@ returns-in-Stream-Input g c = λ used.
       piece = with_items c.fill_up.new.piece c.read_stream.new.piece;
     } in
     let told = c.read_stream.ensures in
+    let short = c.is_some-short.ensures in
     served_in g.D.Device.honest g.D.Device.disk g.D.Device.size g.D.Device.failures g.D.Device.goes_on g.R.Read.remaining g.W1.Write.contents g.W2.Write.contents
     call.FdRead used c.args.arguments.now s new m c.read_stream.new.memory q.fd bs q.result_at c.requires.set_up c.find_buffers.ensures.place c.fill_up.ensures.place told.end refl same (λ is. inr is)
-    c.read_stream.result (λ failed. let rests = told.idle failed in (rests.0, rests.1)) told.took told.broke told.answer
+    c.read_stream.result (λ failed. let rests = told.idle failed in (rests.0, rests.1)) (rw short at told.took) (rw short at told.broke) told.answer
 
 pub returns-in-Stream-Output : goal.returns-in-Stream-Output
 returns-in-Stream-Output g c = λ used.

@@ -20,7 +20,7 @@ invariant_of-result g c = record {
 
 pub returns : goal.returns
 returns g c = record {
-  made = record { fits = sym c.fits.ensures ∙ c.if-not-fits.false; volume = refl; table = c.in-Ok.ensures; input = refl; out = refl; err = refl; settings = refl; generator = refl };
+  made = record { fits = sym c.fits.ensures ∙ c.if-not-fits.false; volume = refl; table = c.in-Ok.ensures; input = refl; out = refl; err = refl; settings = refl; interactive = refl; generator = refl };
   hands_back = tt;
   refused = tt;
 }

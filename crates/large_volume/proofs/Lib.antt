@@ -1,3 +1,0 @@
--- What crates above cite.
-pub mod Going
-mod Made

@@ -1,0 +1,7 @@
+use Rattle.sandbox_core.specs.Devices.{devices}
+use Rattle.sandbox_core.proofs.Headline.{headline_opened}
+use Rattle.sandbox_core.proofs.laws.headline_opened.Goals as goal
+
+pub returns : goal.returns
+returns g c = headline_opened (devices g.D.Device g.R.Read g.W1.Write g.W2.Write)
+    (λ d t image h. g.met.D.Device.counts_now d t image h) (λ d image h. g.met.D.Device.only_now d image h)

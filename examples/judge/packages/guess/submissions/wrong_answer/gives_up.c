@@ -1,0 +1,4 @@
+#include <stdio.h>
+int main(void) {
+  return printf("500\n"), 0;
+}
