@@ -21,9 +21,6 @@ LIMITS = {1: Limits(65_536, 8_192, 95_232), 2: Limits(65_536, 8_192, 8_483_840),
 LEVELS = [*((0, k) for k in range(58)), (1, 58), (2, 186), (3, 16_570)]
 ZEROS = bytes(SECTOR)
 
-# A rule that is broken, as the words of the page's tables and lists; what several of them say of one byte is told as any of these.
-RULES = ("superblock", "device", "header", "kind", "root", "root serial", "name", "zeros", "size", "past", "pointer", "twice", "last", "space", "parent", "same name", "ancestors")
-
 
 def up(a, b):
     return -(-a // b)

@@ -35,7 +35,7 @@ pub record KeepsRecord (sectors : List (List ℕ)) (recorded : Bool) (earlier la
 -- that of a session as it is: while it runs, what isn't committed isn't on it yet
 abbrev pub recorded_in : Held → Option RecordedDevice
 recorded_in (Loaded m bytes) = None
-recorded_in (Running s bytes) = recorded_on (state_of s).host.volume.device
+recorded_in (Running r) = recorded_on (state_of r.session).host.volume.device
 recorded_in (Finished e) = recorded_on e.device
 recorded_in Nothing = None
 

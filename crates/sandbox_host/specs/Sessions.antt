@@ -49,13 +49,13 @@ ready_with (Shared s) = Some s.ready
 
 abbrev pub is_session : Held → Bool
 is_session (Loaded m bytes) = false
-is_session (Running s bytes) = true
+is_session (Running r) = true
 is_session (Finished e) = true
 is_session Nothing = false
 
 abbrev pub is_loaded : Held → Bool
 is_loaded (Loaded m bytes) = true
-is_loaded (Running s bytes) = false
+is_loaded (Running r) = false
 is_loaded (Finished e) = false
 is_loaded Nothing = false
 
@@ -70,33 +70,33 @@ has_module (Some held) = is_loaded held
 -- the session that isn't finished, what a finished one left, and the module that no session has
 abbrev pub running_in : Held → Option State
 running_in (Loaded m bytes) = None
-running_in (Running s bytes) = Some (state_of s)
+running_in (Running r) = Some (state_of r.session)
 running_in (Finished e) = None
 running_in Nothing = None
 
 abbrev pub finished_in : Held → Option Ended
 finished_in (Loaded m bytes) = None
-finished_in (Running s bytes) = None
+finished_in (Running r) = None
 finished_in (Finished e) = Some e
 finished_in Nothing = None
 
 abbrev pub loaded_in : Held → Option Module
 loaded_in (Loaded m bytes) = Some (module_of m)
-loaded_in (Running s bytes) = None
+loaded_in (Running r) = None
 loaded_in (Finished e) = None
 loaded_in Nothing = None
 
 -- what its module was prepared as, loaded or in a session, if it was
 abbrev pub prepared_in : Held → Option Ready
 prepared_in (Loaded m bytes) = ready_of m
-prepared_in (Running s bytes) = ready_with s
+prepared_in (Running r) = ready_with r.session
 prepared_in (Finished e) = ready_of e.loaded
 prepared_in Nothing = None
 
 -- the bytes of its module
 abbrev pub bytes_in : Held → List ℕ
 bytes_in (Loaded m bytes) = bytes
-bytes_in (Running s bytes) = bytes
+bytes_in (Running r) = r.bytes
 bytes_in (Finished e) = e.bytes
 bytes_in Nothing = []
 
@@ -126,7 +126,7 @@ stream out err descriptor = if descriptor == 1 then out.bytes.items else (if des
 
 abbrev pub output_of : Held → ℕ → List ℕ
 output_of (Loaded m bytes) descriptor = []
-output_of (Running s bytes) descriptor = stream (state_of s).host.out.writer (state_of s).host.err.writer descriptor
+output_of (Running r) descriptor = stream (state_of r.session).host.out.writer (state_of r.session).host.err.writer descriptor
 output_of (Finished e) descriptor = stream e.out e.err descriptor
 output_of Nothing descriptor = []
 
@@ -143,13 +143,13 @@ is_filled out err descriptor = if descriptor == 1 then out.full else (if descrip
 
 abbrev pub bound_of : Held → ℕ → ℕ
 bound_of (Loaded m bytes) descriptor = 0
-bound_of (Running s bytes) descriptor = bound (state_of s).host.out.writer (state_of s).host.err.writer descriptor
+bound_of (Running r) descriptor = bound (state_of r.session).host.out.writer (state_of r.session).host.err.writer descriptor
 bound_of (Finished e) descriptor = bound e.out e.err descriptor
 bound_of Nothing descriptor = 0
 
 abbrev pub is_filled_of : Held → ℕ → Bool
 is_filled_of (Loaded m bytes) descriptor = false
-is_filled_of (Running s bytes) descriptor = is_filled (state_of s).host.out.writer (state_of s).host.err.writer descriptor
+is_filled_of (Running r) descriptor = is_filled (state_of r.session).host.out.writer (state_of r.session).host.err.writer descriptor
 is_filled_of (Finished e) descriptor = is_filled e.out e.err descriptor
 is_filled_of Nothing descriptor = false
 
@@ -164,7 +164,7 @@ was_filled (Some held) descriptor = is_filled_of held descriptor
 -- the sectors of a finished session's volume
 abbrev pub sectors_of : Held → List (List ℕ)
 sectors_of (Loaded m bytes) = []
-sectors_of (Running s bytes) = []
+sectors_of (Running r) = []
 sectors_of (Finished e) = e.device.sectors
 sectors_of Nothing = []
 

@@ -1,6 +1,6 @@
 //! Which functions are at work, where they stand, and what they are called.
 
-ghost use Rattle.std.specs.Prelude.{◌≡◌, None, IfSome, is_none, true, length, slice_get};
+ghost use Rattle.std.specs.Prelude.{◌≡◌, ◌-◌, ◌^◌, min, None, IfSome, is_none, true, length, slice_get};
 ghost use Rattle.wasm_interp.specs.Frames.{frames_of};
 ghost use Rattle.wasm_module.specs.Module.{Spells};
 ghost use Rattle.sandbox_host.specs.Sessions.{running, state_of, bytes_of, IsShown};
@@ -41,6 +41,13 @@ fn instruction_of(number: usize, next: usize) -> usize
     }
 }
 
+/// A number as four bytes hold it: the largest for those that they don't.
+fn in_four_bytes(number: usize) -> u32
+    ensures { result ≡ min number (2 ^ 32 - 1) }
+{
+    u32::try_from(number).unwrap_or(u32::MAX)
+}
+
 /// Where the instruction of this index begins, of one of the module's own functions, in bytes from the first of the module.
 fn offset_of(
     alloc: Global,
@@ -56,7 +63,7 @@ fn offset_of(
         return 0;
     };
     match bytes.instruction_offset(alloc, own, body, instruction) {
-        Some(offset) => u32::try_from(offset).unwrap_or(u32::MAX),
+        Some(offset) => in_four_bytes(offset),
         None => 0,
     }
 }
@@ -76,7 +83,7 @@ fn tell_frame(
     let index = imported.saturating_add(frame.own);
     let instruction = instruction_of(number, frame.next);
     FunctionFrame {
-        function: u32::try_from(index).unwrap_or(u32::MAX),
+        function: in_four_bytes(index),
         offset: offset_of(alloc, module, bytes, frame.own, instruction),
     }
 }
@@ -118,7 +125,9 @@ pub fn frame_at(alloc: Global, session: &mut Handle, number: usize, told: &mut F
         return MISUSE;
     };
     let answer = match &mut *held {
-        Held::Running(running, bytes) => frame_of(alloc, running, bytes, number, told),
+        Held::Running(running) => {
+            frame_of(alloc, &running.session, &mut running.bytes, number, told)
+        }
         _ => MISUSE,
     };
     session.put(held);

@@ -11,6 +11,13 @@ use module_survey::ModuleBytes;
 use sandbox_device::RecordedDevice;
 use vol_sector::Device;
 
+/// A session that isn't finished.
+#[derive(Drop)]
+pub struct Begun {
+    pub session: HostSession,
+    pub bytes: ModuleBytes<'static>,
+}
+
 /// What a finished session leaves.
 #[derive(Drop)]
 pub struct Ended {
@@ -49,7 +56,7 @@ pub enum Held {
     /// A module that no session has.
     Loaded(LoadedModule, ModuleBytes<'static>),
     /// A session that isn't finished.
-    Running(HostSession, ModuleBytes<'static>),
+    Running(Begun),
     /// A session that is finished.
     Finished(Ended),
     /// Nothing, while a call changes what it has.
@@ -78,7 +85,9 @@ impl Held {
         ensures { result.now ≡ output_of self.now descriptor }
     {
         match self {
-            Held::Running(session, _) => stream(session.out(), session.err(), descriptor),
+            Held::Running(Begun { session, .. }) => {
+                stream(session.out(), session.err(), descriptor)
+            }
             Held::Finished(ended) => stream(&ended.out, &ended.err, descriptor),
             _ => &[],
         }
@@ -89,7 +98,9 @@ impl Held {
         ensures { result ≡ is_filled_of self.now descriptor }
     {
         match self {
-            Held::Running(session, _) => is_filled(session.out(), session.err(), descriptor),
+            Held::Running(Begun { session, .. }) => {
+                is_filled(session.out(), session.err(), descriptor)
+            }
             Held::Finished(ended) => is_filled(&ended.out, &ended.err, descriptor),
             _ => false,
         }

@@ -25,7 +25,7 @@ mod whole;
 pub use closing::{close, close_loaded, unload};
 pub use frames::{FunctionFrame, NO_FRAME, frame_at, function_name};
 pub use handle::Handle;
-pub use held::{Ended, Held};
+pub use held::{Begun, Ended, Held};
 pub use kept::Kept;
 pub use modules::LoadedModule;
 pub use numbers::{DEVICE_FAILED, GEOMETRY, MISUSE, OK, OUT_OF_MEMORY, Told, VERSION, Why};

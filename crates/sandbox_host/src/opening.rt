@@ -6,7 +6,7 @@ ghost use Rattle.sandbox_host.specs.Volumes.{origin_of};
 ghost use Rattle.sandbox_host.specs.Refusals.{NotLoaded, NotBegun, NotBegunOf, NotOpened};
 
 use crate::handle::Handle;
-use crate::held::Held;
+use crate::held::{Begun, Held};
 use crate::kept::Kept;
 use crate::modules::LoadedModule;
 use crate::numbers::{
@@ -178,27 +178,24 @@ pub(crate) fn begin_from<'a>(
 /// Makes a session behind a closed handle.
 fn open_from(
     alloc: Global,
-    session: &mut Handle,
+    handle: &mut Handle,
     module: &'static [u8],
     supplies: &Supplies<'static>,
     origin: Origin<'_>,
     why: &mut Why,
 ) -> u32
-    requires { is_none session.old.held ≡ true }
-    ensures opened { result ≡ 0 → IsSomeAnd (running session.new.held)
+    requires { is_none handle.old.held ≡ true }
+    ensures opened { result ≡ 0 → IsSomeAnd (running handle.new.held)
         (BeginsFrom «module».now supplies.now origin.entry) × (why.new ≡ why.old) }
-    ensures refused { result ≢ 0 → (session.new.held ≡ None)
+    ensures refused { result ≢ 0 → (handle.new.held ≡ None)
         × NotOpened «module».now supplies.now origin.entry result why.old why.new }
-    ensures bytes { result ≡ 0 → bytes_of session.new.held ≡ «module».now }
+    ensures bytes { result ≡ 0 → bytes_of handle.new.held ≡ «module».now }
 {
     match begin_from(alloc, module, supplies, origin, why) {
         Ok(begun) => {
+            let session = HostSession::Own(begun);
             let bytes = ModuleBytes::new(module);
-            keep(
-                alloc,
-                session,
-                Held::Running(HostSession::Own(begun), bytes),
-            )
+            keep(alloc, handle, Held::Running(Begun { session, bytes }))
         }
         Err(number) => number,
     }
@@ -292,7 +289,7 @@ fn begun(alloc: Global, held: Held, supplies: &Supplies<'static>, origin: Origin
 {
     match held {
         Held::Loaded(loaded, bytes) => match begin_of(alloc, loaded, supplies, origin) {
-            Ok(session) => (Held::Running(session, bytes), OK),
+            Ok(session) => (Held::Running(Begun { session, bytes }), OK),
             Err((loaded, number)) => (Held::Loaded(loaded, bytes), number),
         },
         other => (other, MISUSE),

@@ -72,7 +72,7 @@ pub fn operation_at(
         return MISUSE;
     };
     let answer = match &*held {
-        Held::Running(running, _) => tell_of(running.device(), number, told),
+        Held::Running(running) => tell_of(running.session.device(), number, told),
         Held::Finished(ended) => tell_of(&ended.device, number, told),
         _ => MISUSE,
     };

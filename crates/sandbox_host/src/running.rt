@@ -5,7 +5,7 @@ ghost use Rattle.sandbox_host.specs.Sessions.{running, running_in, finished, fin
 ghost use Rattle.sandbox_host.specs.Sessions.{output, most_of, was_filled, sectors, IsShown, Paused, Finishes, returned_device, commit_number};
 
 use crate::handle::Handle;
-use crate::held::{Ended, Held};
+use crate::held::{Begun, Ended, Held};
 use crate::numbers::{DEVICE_FAILED, MISUSE, OK, Told, told_pause};
 use crate::session::HostSession;
 use crate::showing::show;
@@ -39,8 +39,8 @@ pub fn resume(alloc: Global, session: &mut Handle, units: u64, told: &mut Told) 
         return MISUSE;
     };
     let answer = match &mut *held {
-        Held::Running(running, _) => {
-            *told = go_on(running, units);
+        Held::Running(running) => {
+            *told = go_on(&mut running.session, units);
             OK
         }
         _ => MISUSE,
@@ -150,7 +150,7 @@ fn ended(held: Held) -> (Held, u32)
     ensures bytes { bytes_in result.0 ≡ bytes_in held }
 {
     match held {
-        Held::Running(session, bytes) => {
+        Held::Running(Begun { session, bytes }) => {
             let (ended, number) = end(session, bytes);
             (Held::Finished(ended), number)
         }

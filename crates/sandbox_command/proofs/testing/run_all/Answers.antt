@@ -39,5 +39,5 @@ returns g c = AllEndAs-end
     c.loop-test.have_run c.args.tests.now c.loop-test.test-index c.args.places.now c.loop-test.places c.loop-test-test.false c.loop-test.invariant.ends
 
 -- it is ready as it was
-pub run_test-requires-clause-ready : goal.run_test-requires-clause-ready
-run_test-requires-clause-ready g c = subst (λ r. IsReadyFor c.args.run.now.limits.pages r) (sym c.loop-test.invariant.same) c.requires.ready
+pub run_test-kept-requires-clause-ready : goal.run_test-kept-requires-clause-ready
+run_test-kept-requires-clause-ready g c = subst (λ r. IsReadyFor c.args.run.now.limits.pages r) (sym c.loop-test.invariant.same) c.requires.ready

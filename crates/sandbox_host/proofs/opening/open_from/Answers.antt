@@ -21,4 +21,4 @@ pub returns-in-Err-clause-opened : goal.returns-in-Err-clause-opened
 returns-in-Err-clause-opened c = λ e. absurd (c.in-Err.ensures.some e)
 
 pub returns-in-Err-clause-refused : goal.returns-in-Err-clause-refused
-returns-in-Err-clause-refused c = λ _. (none_of c.args.session.now.held c.requires, c.in-Err.ensures.refused)
+returns-in-Err-clause-refused c = λ _. (none_of c.args.handle.now.held c.requires, c.in-Err.ensures.refused)
