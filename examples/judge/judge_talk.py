@@ -129,7 +129,7 @@ def image(program, files, path):
 
 def talk(submission, validator, wall):
     """They talk to their end, or until the validator has said 43."""
-    end, number = time.monotonic() + wall, 0
+    end, number = time.monotonic() + 4 * wall, 0             # as judge-tests has it, four times as many by the clock
     while True:
         number += 1
         for it in (submission, validator):
@@ -155,20 +155,20 @@ def verdict(submission, validator):
     return ("accepted", "", own) if is_good else (own["end"], own.get("text") or own["code"], own)
 
 
-def judged(program, test, bounds, wall=60):
-    """A test by its line of a batch, whose `check` names the validator: the verdict, why, and the submission's report."""
+def judged(program, base, test, bounds, wall=60):
+    """A test by its line of a batch in the folder `base`, whose `check` names the validator: the verdict, why, and the submission's report."""
     with tempfile.TemporaryDirectory(prefix="judge.") as room:
         files = {}
         for name, of in (("input", "stdin"), ("answer", "expect")):
-            with open(test[of], "rb") as file:
+            with open(os.path.join(base, test[of]), "rb") as file:
                 files[name] = file.read()
         try:
             image(program, files, f"{room}/volume")
             limits = ["--fuel", str(test["fuel"]), "--pages", str(test["pages"]), "--output", "8388608"]
             guests = []
             try:
-                guests.append(Guest([program, *limits, test["module"]], room, "submission", bounds))
-                guests.append(Guest([program, *VALIDATOR, "--image", f"{room}/volume", test["check"]["programs"][0], "--", "/in/input", "/in/answer", "/out/", *test["check"].get("words", [])],
+                guests.append(Guest([program, *limits, "--name", "main.wasm", os.path.join(base, test["module"])], room, "submission", bounds))
+                guests.append(Guest([program, *VALIDATOR, "--image", f"{room}/volume", "--name", "main.wasm", os.path.join(base, test["check"]["programs"][0]), "--", "/in/input", "/in/answer", "/out/", *test["check"].get("words", [])],
                                     room, "validator", bounds))
                 talk(*guests, wall)
             finally:
