@@ -26,7 +26,7 @@ use std::alloc::Global;
 /// The version of the archive.
 #[unsafe(no_mangle)]
 pub extern "C" fn sandbox_version() -> u32
-    ensures { result ≡ 9008 }
+    ensures { result ≡ 9009 }
 {
     sandbox_host::VERSION
 }
