@@ -1,14 +1,14 @@
 -- A guest stays confined in all its life.
-use Rattle.std.proofs.Common.{◌≡◌, ◌≢◌, ◌⊎◌, ℕ, zero, suc, ◌<◌, List, [], ◌∷◌, ◌++◌, Option, Some, None, Ok, Err, refl, sym, ◌∙◌, ap, subst, inl, inr, arith}
+use Rattle.std.proofs.Common.{◌≡◌, ◌≢◌, ◌⊎◌, ℕ, zero, suc, ◌<◌, List, [], Option, Some, None, refl, sym, ◌∙◌, ap, subst, inl, inr, arith}
 use Rattle.std.proofs.lemmas.Option.{none-some}
 use Rattle.std.proofs.lemmas.Bool.{cases_eq}
 use Rattle.wasm_store.specs.declared.call.HostCall.{HostCall}
 use Rattle.wasm_store.specs.declared.call.HostCall.TheVariants as call
 use Rattle.wasm_store.specs.declared.call.Errno.{Errno}
 use Rattle.wasm_store.specs.declared.call.Answer.{Answer}
-use Rattle.wasm_steps.specs.Configuration.{Instance, Store, Configuration, store_of, first_configuration}
+use Rattle.wasm_steps.specs.Configuration.{Instance, Store, Configuration, store_of}
 use Rattle.wasm_steps.specs.Steps.{CallsOf, Event, Step, plain_step, free_step, host_answers, host_exits, in_label, in_frame, Reach, stays, goes}
-use Rattle.vol_tree.specs.Tree.{Tree, entry, IsTree, IsDirectory}
+use Rattle.vol_tree.specs.Tree.{Tree, IsTree, IsDirectory}
 use Rattle.vol_tree.specs.Calls.{is_directory}
 use Rattle.wasi_fd.specs.declared.descriptor.Descriptor.{Descriptor}
 use Rattle.wasi_fd.specs.declared.descriptor.Descriptor.TheVariants.{Stream, Entry}
@@ -17,15 +17,14 @@ use Rattle.wasi_fd.specs.declared.table.TheConstants.{PLACES}
 use Rattle.wasi_fd.specs.Table.{Table}
 use Rattle.wasi_calls.specs.World.{World}
 use Rattle.wasi_calls.specs.Calls.{row, Calls}
-use Rattle.wasi_calls.specs.laws.Confined.{Tops, IsConfined, named_by, HasOnlyDirectoriesOpen, IsHostOf}
+use Rattle.wasi_calls.specs.laws.Confined.{Tops, named_by, HasOnlyDirectoriesOpen, IsHostOf}
 use Rattle.wasi_calls.proofs.runs.HeldAlongRuns.{is_directory_kind, Holds}
 use Rattle.wasi_calls.proofs.runs.RowsKeep.{row_keeps}
 use Rattle.wasi_calls.proofs.runs.Confinement.{confined, answered_keeps}
-use Rattle.plugin_steps.specs.Talks.{Talk}
 use Rattle.wasm_module.specs.declared.module.Module.{Module}
 use Rattle.plugin_steps.specs.Lives.{Invocation}
 use Rattle.plugin_core.specs.Allocating.{AllLinks}
-use Rattle.plugin_core.specs.WholeLives.{Life, calls_in}
+use Rattle.plugin_core.specs.WholeLives.{Life}
 use Rattle.plugin_core.specs.Confined.{ConfinesLives}
 use Rattle.plugin_core.proofs.Living.{talk_carries, lives_carry}
 

@@ -1,20 +1,20 @@
 -- The answers of a life are turns, and nothing else changes the host.
-use Rattle.std.proofs.Common.{◌≡◌, ◌==◌, ℕ, Bool, IsTrue, List, [], ◌∷◌, ◌++◌, map, refl, sym, ◌∙◌, ap, subst, inl, inr}
+use Rattle.std.proofs.Common.{◌≡◌, ◌==◌, ℕ, List, [], ◌∷◌, ◌++◌, map, refl, sym, ◌∙◌, ap, subst, inl, inr}
 use Rattle.std.proofs.lemmas.Bool.{and_parts, eqb-true}
-use Rattle.vol_sector.specs.Disk.{Image, Disk}
+use Rattle.vol_sector.specs.Disk.{Disk}
 use Rattle.vol_tree.specs.Tree.{Tree}
 use Rattle.vol_tree.specs.declared.superblock.Superblock.{Superblock}
 use Rattle.wasm_store.specs.declared.call.HostCall.{HostCall}
 use Rattle.wasm_store.specs.declared.call.Errno.{Errno}
 use Rattle.wasm_steps.specs.Configuration.{Instance, Store, Configuration, store_of}
-use Rattle.wasm_steps.specs.Steps.{CallsOf, Event, silent, answers, Step, Reach, stays, goes}
+use Rattle.wasm_steps.specs.Steps.{CallsOf, silent, answers, Reach, stays, goes}
 use Rattle.wasi_calls.specs.laws.Moments.{CallsKeepMoments, Turn, Turns, is_sync}
 use Rattle.wasi_calls.proofs.runs.Moments.{Changes, step_changes, keeps_all}
 use Rattle.wasm_module.specs.declared.module.Module.{Module}
 use Rattle.plugin_steps.specs.Lives.{Invocation}
 use Rattle.plugin_core.specs.Allocating.{AllLinks}
 use Rattle.plugin_core.specs.WholeLives.{Life, calls_in}
-use Rattle.plugin_core.specs.Moments.{is_synced, ChangesBy, KeptIn, KeepsLives}
+use Rattle.plugin_core.specs.Moments.{is_synced, ChangesBy, KeepsLives}
 use Rattle.plugin_core.proofs.Living.{talk_carries, lives_carry}
 
 map_joins : {A B : Type 0} (f : A → B) (xs ys : List A) → map f (xs ++ ys) ≡ map f xs ++ map f ys

@@ -11,7 +11,7 @@ use Rattle.wasm_steps.specs.Configuration.{Instance, Store, Configuration, store
 use Rattle.wasm_steps.specs.Steps.{CallsOf}
 use Rattle.plugin_steps.specs.Serving.{Exchange}
 use Rattle.plugin_steps.specs.Talks.{Talk}
-use Rattle.plugin_steps.specs.Lives.{Ending, returns, traps, exits, is_abandoned, EndsWith, Invocation, LivesBy}
+use Rattle.plugin_steps.specs.Lives.{Ending, returns, exits, EndsWith, Invocation, LivesBy}
 use Rattle.plugin_core.specs.Allocating.{AllLinks, Allocates}
 
 -- an exported function `_initialize` of type [] -> []
