@@ -101,7 +101,7 @@ pub(crate) fn ended_task<D: Drop, R: Drop, W1: Outlet + Drop, W2: Write + Drop>(
         return ended(done, device, given, about);
     };
     let mut given = given;
-    let flushed = given.out.is_flushed();
+    let flushed = given.out.try_flush();
     tell_damage(&mut given.err, damage);
     about.tell_of_volume(&mut given.err, VolumeFault::Damaged(damage));
     left_with(FAULT, None, flushed, device, given)

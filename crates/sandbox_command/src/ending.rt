@@ -196,7 +196,7 @@ pub(crate) fn ended<
     ensures answered { Answered W1.flushed W1.refuses result.flushed result.out }
 {
     let mut given = given;
-    let flushed = given.out.is_flushed();
+    let flushed = given.out.try_flush();
     let status = match done {
         Ok(_) if flushed => 0,
         Ok(_) => refuse_output(&mut given.err),

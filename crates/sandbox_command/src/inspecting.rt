@@ -73,7 +73,7 @@ pub(crate) fn inspect<R: Drop, W1: Outlet + Drop, W2: Write + Drop>(
 {
     let mut given = given;
     let surveyed = survey(alloc, &Served, bytes, &mut given.out);
-    let flushed = given.out.is_flushed();
+    let flushed = given.out.try_flush();
     let status = survey_ended(surveyed, flushed, &mut given.err);
     left_with(status, None, flushed, (), given)
 }

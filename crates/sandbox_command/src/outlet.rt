@@ -18,7 +18,7 @@ pub trait Outlet: Write {
     ghost refuses: { Self → Self → Type 0 };
 
     /// Flushes it: whether it could be. Bytes that are known stay.
-    fn is_flushed(&mut self) -> bool
+    fn try_flush(&mut self) -> bool
         ensures bytes { Keeps (Self.contents self.old) (Self.contents self.new) }
         ensures flushed { result ≡ true → flushed self.old self.new }
         ensures refused { result ≡ false → refuses self.old self.new };
@@ -29,8 +29,8 @@ impl<W: Outlet> Outlet for &mut W {
 
     ghost refuses = { λ before after. W.refuses before.now after.now };
 
-    fn is_flushed(&mut self) -> bool {
-        (**self).is_flushed()
+    fn try_flush(&mut self) -> bool {
+        (**self).try_flush()
     }
 }
 
@@ -39,7 +39,7 @@ impl<P: Print> Outlet for Printer<'_, P> {
 
     ghost refuses = { λ before after. HasRefused before after };
 
-    fn is_flushed(&mut self) -> bool {
+    fn try_flush(&mut self) -> bool {
         self.flush().is_ok()
     }
 }
@@ -49,7 +49,7 @@ impl Outlet for Stderr {
 
     ghost refuses = { λ before after. HasRefused before after };
 
-    fn is_flushed(&mut self) -> bool {
+    fn try_flush(&mut self) -> bool {
         self.flush().is_ok()
     }
 }
@@ -59,7 +59,7 @@ impl Outlet for Output {
 
     ghost refuses = { λ before after. HasRefused before after };
 
-    fn is_flushed(&mut self) -> bool {
+    fn try_flush(&mut self) -> bool {
         self.flush().is_ok()
     }
 }

@@ -187,10 +187,10 @@ fn flush_both<W1: Outlet, W2: Outlet>(out: &mut W1, err: &mut W2) -> bool
     ensures err { Keeps (W2.contents err.old) (W2.contents err.new) }
     ensures answered { BothAnswered W1.flushed W1.refuses W2.flushed W2.refuses result out.new err.new }
 {
-    if !out.is_flushed() {
+    if !out.try_flush() {
         return false;
     }
-    err.is_flushed()
+    err.try_flush()
 }
 
 /// The status of a run: its outcome's, but where its calls couldn't be committed or the guest's output not be flushed. Gives the

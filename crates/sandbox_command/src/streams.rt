@@ -73,10 +73,10 @@ impl<F: Outlet, W: Outlet> Outlet for Sink<F, W> {
 
     ghost refuses = { sink_answered F.refuses W.refuses };
 
-    fn is_flushed(&mut self) -> bool {
+    fn try_flush(&mut self) -> bool {
         match self {
-            Sink::Given(out) => out.is_flushed(),
-            Sink::Made(file) => file.is_flushed(),
+            Sink::Given(out) => out.try_flush(),
+            Sink::Made(file) => file.try_flush(),
         }
     }
 }

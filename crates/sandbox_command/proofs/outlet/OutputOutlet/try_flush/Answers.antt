@@ -1,5 +1,5 @@
 use Rattle.sandbox_command.specs.Flushing.{has_refused, was_flushed}
-use Rattle.sandbox_command.proofs.outlet.StderrOutlet.is_flushed.Goals as goal
+use Rattle.sandbox_command.proofs.outlet.OutputOutlet.try_flush.Goals as goal
 
 pub returns-clause-flushed : goal.returns-clause-flushed
 returns-clause-flushed c = λ is. was_flushed _ _
