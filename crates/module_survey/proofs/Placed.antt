@@ -1,11 +1,12 @@
 -- The table of where the instructions of a body begin, as a loop makes it, and what it has at an index.
-use Rattle.std.proofs.Common.{◌≡◌, ℕ, zero, suc, ◌+◌, ◌-◌, ◌<◌, ◌≤◌, List, [], ◌∷◌, ◌++◌, length, take, drop, Option, Some, None, refl, sym, ap, ◌∙◌, arith, append_assoc, length-append}
-use Rattle.std.specs.Prelude.{IfSome, slice_get, slice_set}
+use Rattle.std.proofs.Common.{◌≡◌, ℕ, zero, suc, ◌+◌, ◌-◌, ◌<◌, ◌≤◌, List, [], ◌∷◌, ◌++◌, length, take, drop, Option, Some, None, sym, ap, subst, ◌∙◌, arith, append_assoc, length-append}
+use Rattle.std.specs.Prelude.{IfSome, get_or, slice_get, slice_set}
 use Rattle.std.proofs.lemmas.List.{drop_at, length-take-le}
+use Rattle.std.proofs.lemmas.Option.{slice_get-get_or}
 use Rattle.wasm_module.specs.declared.module.Body.{Body}
 use Rattle.wasm_valid.specs.Offsets.{StandsBehind}
 use Rattle.wasm_module.proofs.Laws.{some_is}
-use Rattle.module_survey.specs.Places.{own_entry}
+use Rattle.module_survey.specs.Places.{own_entry, IsInstructionAt}
 use Rattle.module_survey.specs.internal.Skipping.{after_instruction, after_instructions, after_locals}
 use Rattle.module_survey.specs.internal.Bodies.{places_from, ArePlaces}
 use Rattle.module_survey.proofs.Skipped.{locals_skipped, instructions_skipped}
@@ -42,6 +43,33 @@ are_places bytes own start count begins index place b behind before has entry wi
     let text : drop start bytes ≡ b.bytes ++ behind = ap (drop start) ends.1 ∙ drop_at ends.0 (b.bytes ++ behind) start front in
     let left : after_instructions index (after_locals (drop start bytes)) ≡ k.after ++ behind = ap (λ z. after_instructions index (after_locals z)) text ∙ rest_of_body b index before behind within k in
     omega (arith, sum, places_at (length bytes) count index place (after_locals (drop start bytes)) has, ap length left, length-append k.after behind, ap length k.bytes, length-append before k.after)
+
+-- what a table has of an instruction of a body
+pub instruction_placed : (bytes : List ℕ) (own : ℕ) (places : List ℕ) (index place : ℕ) (b : Body) (behind : List ℕ) → ArePlaces bytes own places → slice_get places index ≡ Some place
+    → index ≤ length b.code → own_entry bytes own ≡ Some (b.bytes, behind) → IsInstructionAt bytes own b index place
+instruction_placed bytes own places index place b behind are has within entry =
+    let ends = own_ends bytes own b.bytes behind entry in
+    let sum : length bytes ≡ length ends.0 + (length b.bytes + length behind) = ap length ends.1 ∙ length-append ends.0 (b.bytes ++ behind) ∙ ap (λ n. length ends.0 + n) (length-append b.bytes behind) in
+    record {
+      front = ends.0;
+      behind = behind;
+      entry = entry;
+      parts = ends.1;
+      offset_is = λ before k. omega (arith, sum, are index place b behind before has entry within k);
+    }
+
+-- what `get` finds
+pub looked_up : {X : Type 0} (xs ys : List X) (i : ℕ) (x : X) → ys ≡ xs → i < length ys → x ≡ get_or ys i x → slice_get xs i ≡ Some x
+looked_up xs ys i x e within is = ap (λ zs. slice_get zs i) (sym e) ∙ slice_get-get_or ys i x within ∙ ap Some (sym is)
+
+pub some_holds : {X : Type 0} (P : X → Type 0) (o : Option X) (x : X) → IfSome o P → o ≡ Some x → P x
+some_holds P None x h e = cc
+some_holds P (Some y) x h e = subst P (some_is y x e) h
+
+-- a table that has nothing says nothing
+pub none_yet : (bytes : List ℕ) (own : ℕ) (places : List ℕ) → places ≡ [] → ArePlaces bytes own places
+none_yet bytes own [] e index place b behind before has entry within k = cc
+none_yet bytes own (x ∷ places) e index place b behind before has entry within k = cc
 
 -- ---- lists of tables
 

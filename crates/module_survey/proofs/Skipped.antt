@@ -1,6 +1,6 @@
 -- Bytes that spell locals or instructions are skipped as a whole.
-use Rattle.std.proofs.Common.{◌≡◌, ℕ, zero, suc, ◌-◌, ◌≤◌, List, [], ◌∷◌, ◌++◌, length, Option, Some, refl, sym, ap, ◌∙◌, append_assoc, arith}
-use Rattle.std.specs.Prelude.{nat_lt, false}
+use Rattle.std.proofs.Common.{◌≡◌, ℕ, zero, suc, ◌-◌, List, [], ◌∷◌, ◌++◌, length, Option, refl, sym, ap, ◌∙◌, append_assoc}
+use Rattle.std.specs.Prelude.{◌==◌, if◌then◌else◌}
 use Rattle.std.specs.Option.{option_map_or}
 use Rattle.std.proofs.lemmas.Bool.{lt-ltb, le-ltb}
 use Rattle.wasm_module.specs.declared.number.Sign.{Sign}
@@ -27,7 +27,7 @@ use Rattle.wasm_module.specs.Sections.{SpellsLocals}
 use Rattle.wasm_module.specs.Reading.{u32_at}
 use Rattle.wasm_module.proofs.Combine.{reads_u32}
 use Rattle.wasm_valid.specs.internal.Skipping.{after_number, after_numbers}
-use Rattle.module_survey.specs.internal.Skipping.{after_labels, after_bulk, after_opcode, after_instruction, after_instructions, after_locals}
+use Rattle.module_survey.specs.internal.Skipping.{after_labels, after_opcode, after_instruction, after_instructions, after_locals}
 
 -- ---- numbers
 

@@ -1,6 +1,6 @@
 -- What follows an instruction in a module's bytes, as the code finds it by its opcode alone. Of bytes that spell an instruction it is
 -- what follows it (`proofs/Skipped.antt`).
-use Rattle.std.specs.Prelude.{ℕ, zero, suc, ◌-◌, ◌==◌, ◌||◌, ◌&&◌, nat_le, List, [], ◌∷◌, length, if◌then◌else◌, Bool}
+use Rattle.std.specs.Prelude.{ℕ, zero, suc, ◌==◌, ◌||◌, ◌&&◌, nat_le, List, [], ◌∷◌, if◌then◌else◌, Bool}
 use Rattle.std.specs.Option.{option_map_or}
 use Rattle.wasm_module.specs.Reading.{u32_at}
 use Rattle.wasm_valid.specs.internal.Skipping.{after_number, after_numbers}
