@@ -10,7 +10,7 @@ use Rattle.sandbox_host.specs.Volumes.{IsVolume, Works}
 
 pub works_of : (origin : Origin) (v : HostVolume) → IsVolume origin v → Works v
 works_of Fresh v is = is.working
-works_of (Sectors sectors recorded) v is = is.is_in.working
+works_of (Sectors sectors recorded huge) v is = is.is_in.working
 
 -- A refusal for the device would have counted a failure.
 pub no_device : (origin : Origin) (old new : HostVolume) (f : SessionFault) → IsVolume origin old → KeepsVolume known.device f old new → f ≢ Device

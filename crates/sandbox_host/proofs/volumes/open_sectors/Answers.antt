@@ -18,8 +18,8 @@ returns-in-Ok-clause-opens c =
     let stood : StandsOn (length d.sectors) (image_of d.sectors) v.numbers v.tree = c.in-Ok.ensures.stands tt in
     let crash = c.in-Ok.ensures.crash_ok v.numbers v.tree tt stood in
     let went = c.in-Ok.ensures.goes_on_ok v.numbers.sectors (omega arith) d (goes_from_itself v.numbers.sectors d) in
-    let is_in : IsIn c.args.sectors.now v = record {
-      few = omega (arith, c.if-sectors-gt-MOST_SECTORS.false);
+    let is_in : IsIn c.args.is_huge c.args.sectors.now v = record {
+      few = omega (arith, c.if-sectors-most.false, c.most_sectors-most.ensures.most);
       stands = subst (λ (xs : List (List ℕ)). StandsOn (length xs) (image_of xs) v.numbers v.tree) same stood;
       size = c.in-Ok.ensures.kept_ok.1 ∙ ap length same;
       working = record { works = c.in-Ok.ensures.working; lasts = c.in-Ok.ensures.durable tt };
@@ -31,3 +31,7 @@ returns-in-Ok-clause-opens c =
       began = went.began ∙ unused.0;
       is_recorded = went.is_recorded ∙ c.in_ok-device.ensures.recorded.0;
     }
+
+-- more sectors than may be handed in
+pub returns-clause-refused : goal.returns-clause-refused
+returns-clause-refused c = omega (arith, c.if-sectors-most.true, c.most_sectors-most.ensures.most)
