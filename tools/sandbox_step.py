@@ -70,6 +70,7 @@ NUMBERS = {"fuel": (1_000_000_000, 0, U64), "pages": (1_024, 0, 65_536), "values
 KNOWN = (b"\0asm\1\0\0\0\1\4\1\x60\0\0\3\2\1\0\7\x0a\1\6_start\0\0\x0a\x19\1\x17\1\1\x7f\x41\xc0\x96\xb1\2\x21\0\3\x40\x20\0\x41\1\x6b\x22\0\x0d\0\x0b\x0b")
 KNOWN_UNITS = b"30000002"
 LETTER = b"--letter\n"
+LARGEST = 1 << 31                              # bytes of a file of a store: the longest that a volume has, and a list of as many entries
 NO_NAMES, CONTROLS = {b"", b".", b".."}, bytes([*range(32), 127])
 # what whoever calls can mend; any other error is the machine's
 CALLERS = {errno.EACCES, errno.EPERM, errno.EROFS, errno.ENOENT, errno.ENOTDIR, errno.EISDIR, errno.ENAMETOOLONG, errno.ELOOP, errno.EXDEV, errno.ENOTEMPTY}
@@ -644,10 +645,10 @@ class Store:
     def place(self, kind, name):
         return os.path.join(self.path, kind, name[:2], name)
 
-    def read(self, kind, name, most=128 << 20):
+    def read(self, kind, name):
         try:
-            return content(self.place(kind, name), most)
-        except (Refused, Machine):
+            return content(self.place(kind, name), LARGEST)
+        except (Refused, Machine, MemoryError):
             return None
 
     def write(self, kind, name, inside, room):

@@ -269,9 +269,9 @@ def measured(given, engines, it, module, native):
     return ratios, costs
 
 
-def table(found, others, heading):
-    """The table for `docs/USING.md`: a row a program, the means, the least and the greatest."""
-    heads = [f"{other} ({heading[other]}, {TITLES[kind]})" for other in others for kind in KINDS]
+def table(found, others, version):
+    """The table for `docs/USING.md`: a row a program, and the means. `others` has the label of each, `version` is that of what is timed."""
+    heads = [f"{label} ({version}, {TITLES[kind]})" for label in others.values() for kind in KINDS]
     lines = [["Program", *heads], ["---"] * (1 + len(heads))]
     cells = {name: [ratios[other][kind] for other in others for kind in KINDS] for name, (ratios, _) in found.items()}
     lines += [[name, *[f"{it:.2f}" for it in row]] for name, row in cells.items()]
@@ -294,6 +294,10 @@ def engines_of(given):
     return engines
 
 
+def version_of(program):
+    return subprocess.run([program, "--version"], capture_output=True, text=True).stderr.split()[-1]
+
+
 def load_of_machine():
     return f"load {os.getloadavg()[0]:.1f} on {os.cpu_count()} processors"
 
@@ -301,7 +305,7 @@ def load_of_machine():
 def rows_of(given, real):
     """Times the programs that are asked for; gives how many answer otherwise or aren't built."""
     engines, found, failed = engines_of(given), {}, 0
-    version = subprocess.run([given.program, "--version"], capture_output=True, text=True).stderr.split()[-1]
+    version = version_of(given.program)
     print(f"sandbox {version}; the others' time by ours, processor time, best of {given.times} in turn; {load_of_machine()}", flush=True)
     for it in TIMED:
         if given.names and it.name not in given.names:
@@ -324,5 +328,5 @@ def rows_of(given, real):
     print(load_of_machine())
     if given.table and found:
         with open(given.table, "w", encoding="utf-8") as file:
-            file.write(table(found, others, {"wasmi": version, "beside": version}))
+            file.write(table(found, {it: f"sandbox {version_of(engines[it])}" if it == "beside" else it for it in others}, version))
     return failed

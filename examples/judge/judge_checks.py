@@ -82,6 +82,8 @@ def said_by(program, test, output, base, store, sandbox):
                                "--in", f"input={given['input']}", "--in", f"answer={given['answer']}", "--stdin", f"{room}/said", "--report", f"{room}/report",
                                "--stdout", f"{room}/ignored", os.path.abspath(os.path.join(base, program)), "--", "/in/input", "/in/answer", "/out/", *test["check"].get("words", [])],
                               capture_output=True)
+        if done.returncode == 75 or not 0 <= done.returncode < 128:     # the machine is to blame: no verdict
+            raise OSError(0, f"a checker's step ended with {done.returncode}", program)
         if done.returncode:
             return (done.stderr.decode(errors="replace").strip().splitlines() or ["?"])[-1][-200:]
         with open(f"{room}/report", encoding="utf-8") as lines:
