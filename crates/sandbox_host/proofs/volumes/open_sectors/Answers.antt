@@ -4,7 +4,8 @@ use Rattle.vol_tree.specs.Stands.{StandsAs}
 use Rattle.sandbox_device.proofs.Recorded.{unused_leaves}
 use Rattle.vol_sector.specs.Record.{image_of}
 use Rattle.vol_tree.specs.Opening.{StandsOn}
-use Rattle.sandbox_host.specs.Volumes.{IsIn}
+use Rattle.sandbox_host.specs.Volumes.{IsIn, RefusesSectors}
+use Rattle.sandbox_host.proofs.Working.{refused_as}
 use Rattle.sandbox_host.proofs.RecordKept.{goes_from_itself}
 use Rattle.sandbox_host.proofs.volumes.open_sectors.Goals as goal
 
@@ -32,6 +33,10 @@ returns-in-Ok-clause-opens c =
       is_recorded = went.is_recorded ∙ c.in_ok-device.ensures.recorded.0;
     }
 
--- more sectors than may be handed in
+-- what the volume is refused for
 pub returns-clause-refused : goal.returns-clause-refused
-returns-clause-refused c = omega (arith, c.if-sectors-most.true, c.most_sectors-most.ensures.most)
+returns-clause-refused c =
+    let e = c.in-Err.ensures in
+    let f = c.in-Err.field-0.fault in
+    subst (λ (xs : List (List ℕ)). RefusesSectors c.args.is_huge xs f) c.in_ok-device.ensures.sectors
+    (refused_as c.args.is_huge c.in_ok-device.device.sectors f (e.not_a_volume tt) (e.version tt) (e.damaged tt) e.kept_err.2 e.faults_named)
