@@ -443,13 +443,11 @@ def ended(words, program, streams, limits, wall):
         for fd in (tell, leash):
             os.close(fd)
         wrong = os.read(said, 8)
-        _, status = os.waitpid(child, 0)
-        child = None
+        os.waitid(os.P_PID, child, os.WEXITED | os.WNOWAIT)    # it can be killed until it is asked for: a signal may end this step here
     finally:
         signal.setitimer(signal.ITIMER_REAL, 0)
-        if child:
-            os.kill(child, signal.SIGKILL)
-            os.waitpid(child, 0)
+        os.kill(child, signal.SIGKILL)
+        _, status = os.waitpid(child, 0)
         for fd in (said, mine):
             os.close(fd)
     if wrong:
