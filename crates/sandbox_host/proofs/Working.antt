@@ -1,5 +1,5 @@
 -- The volume of a guest works, and its device never fails.
-use Rattle.std.proofs.Common.{◌≡◌, ◌≢◌, ◌⊎◌, ⊎_elim, Bool, List, length, refl, subst, arith}
+use Rattle.std.proofs.Common.{◌≡◌, ◌≢◌, ◌⊎◌, ⊎_elim, ℕ, Bool, List, length, refl, subst, arith}
 use Rattle.vol_sector.specs.Disk.{counted}
 use Rattle.vol_sector.specs.Record.{image_of}
 use Rattle.vol_sector.specs.Fault.{IsDamage, is_device}
