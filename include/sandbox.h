@@ -242,7 +242,10 @@ uint32_t sandbox_full(sandbox_session **session, uint32_t descriptor);
  * after SPENT and CALLED those of the run then; after TRAPPED and NO_MEMORY those that were at work; none before the first resume
  * and after EXITED. SANDBOX_NO_FRAME past the last, MISUSE where there is no session or it is finished; *frame is as it was then.
  * A host that resumes by so many units a time, and adds them to the stack that it found before, has a profile
- * (examples/hosts/c/folded.c); by one unit a time an exact one. */
+ * (examples/hosts/c/folded.c); by one unit a time an exact one. The first question of a session makes a table of the module's
+ * functions, and the first about each function one of its instructions, so that later ones cost the same wherever it stands: 32
+ * bytes for each of at most 65,536 functions and 8 for each of at most 524,288 instructions, until the session is closed. What
+ * finds no memory, or is past that, is looked up again each time. A session that isn't asked makes none. */
 uint32_t sandbox_frame_at(sandbox_session **session, size_t number, sandbox_frame *frame);
 
 /* Copies what a function of a module is called, as far as there is room; answers how long it is: its name in the section `name`,

@@ -7,6 +7,7 @@ Inputs and outputs:
   --in PATH=HOST         the file or the folder HOST is /in/PATH of the guest; `.=HOST`: a folder that is /in itself; may come again
   --out PATH=HOST        the file /out/PATH, as the guest left it, becomes the file HOST; may come again
   --out-dir PATH=HOST    the same of a folder (`.=HOST`: /out itself); what the folder HOST held is gone then
+  --image HOST           the volume HOST, of version 2 or 4, is the guest's folder /image: a copy, whose room the guest has
   --stdin HOST           the guest's standard input (without it: nothing)
   --stdout HOST          a file for its standard output; without it the output is the step's own
   --report HOST          a file for the report of the run
@@ -56,11 +57,11 @@ import sys
 # `signal`, `argparse`, `subprocess`, `tempfile`, `shutil`, `re`, `json` and `hashlib` take longer to import than a small guest takes to run
 import _signal as signal
 
-from step_volume import FEW_SECTORS, FEW_SLOTS, LOG, MOST_FILE, MOST_SECTORS, MOST_SLOTS, SECTOR, Left, has_parents, make_volume, needs, put, removed, version_for
+from step_volume import MOST_FILE, MOST_SLOTS, SECTOR, Image, Left, has_parents, make_volume, put, removed, shown, sizes
 
 VERSION = b"2"                                 # of what a key says: another one, other keys
 ROOTS = (b"in", b"out", b"tmp")                # what the guest has
-LISTS, TEXTS, FLAGS = ("in", "out", "out-dir", "env", "exit"), ("stdin", "stdout", "report", "keep", "sandbox"), ("links", "again")
+LISTS, TEXTS, FLAGS = ("in", "out", "out-dir", "env", "exit"), ("image", "stdin", "stdout", "report", "keep", "sandbox"), ("links", "again")
 U64 = (1 << 64) - 1
 # option: what it is without it, the least and the most
 NUMBERS = {"fuel": (1_000_000_000, 0, U64), "pages": (1_024, 0, 65_536), "values": (None, 0, U64), "moment": (None, 0, U64), "seed": (None, 0, U64),
@@ -103,11 +104,6 @@ def tell(text):
             with_end = with_end[os.write(2, with_end):]
     except OSError:
         pass
-
-
-def shown(name):
-    """Bytes as a text that moves no cursor."""
-    return "".join(it if it.isprintable() else f"\\x{ord(it):02x}" for it in name.decode("utf-8", "backslashreplace"))
 
 
 def sha(*parts):
@@ -204,6 +200,8 @@ def words_of(argv):
         raise Refused("more than 1024 words or texts of the environment, or 65000 bytes of them")
     if it["again"] and not it["keep"]:
         raise Refused("--again without --keep")
+    if it["image"] and (it["room"], it["entries"]) != (None, None):
+        raise Refused("--room or --entries with --image, which has its own")
     for path, _ in (*it["out"], *it["out-dir"]):
         inner(path)
     if any(path == b"." for path, _ in it["out"]):
@@ -221,7 +219,7 @@ def check_places(it):
     places = [os.path.join(os.path.realpath(os.path.dirname(os.path.abspath(host))), os.path.basename(os.path.abspath(host))) for _, host in outputs_of(it)]
     if len(set(places)) < len(places):
         raise Refused("two outputs have one place")
-    others = [os.path.realpath(host) for host in (os.getcwdb(), it["module"], it["keep"], it["stdin"], *(host for _, host in it["in"])) if host]
+    others = [os.path.realpath(host) for host in (os.getcwdb(), it["module"], it["keep"], it["image"], it["stdin"], *(host for _, host in it["in"])) if host]
     for (name, host), place in zip(outputs_of(it), places):
         if not os.path.isdir(os.path.dirname(place)):
             raise Refused(f"{shown(host)}: no folder to put it in")
@@ -315,18 +313,14 @@ def given(inputs, links):
     return tree
 
 
-def sizes(tree, room, entries):
-    """Sectors and slots for the tree, and for what the guest adds."""
-    slots, data = len(tree) + len(ROOTS) + 1, sum(needs(len(inside)) for inside in tree.values() if inside)
-    least = slots + (entries or 0)
-    if least > MOST_SLOTS:
-        raise Refused(f"{least} entries: a volume has {MOST_SLOTS} at most")
-    slots = min(2 * slots + 1_024, FEW_SLOTS if least <= FEW_SLOTS else MOST_SLOTS) if entries is None else least
-    least = data + slots + LOG + -(-(room or 0) // SECTOR)
-    if least > MOST_SECTORS:
-        raise Refused(f"{least * SECTOR} bytes: a volume has {MOST_SECTORS * SECTOR} at most")
-    most = FEW_SECTORS if version_for(tree, least, slots) == 2 else MOST_SECTORS
-    return max(137, min(least + data + (8 << 20) // SECTOR, most) if room is None else least), slots
+def asked(of, act, *given):
+    """What `act` gives; a refusal of what it is asked of where it can't."""
+    try:
+        return act(*given)
+    except (struct.error, LookupError, ValueError) as error:
+        raise Refused(f"{of}{error}") from None
+    except OSError as error:
+        raise (Refused if error.errno in CALLERS else Machine)(f"{of}{error.strerror}") from None
 
 
 class Room:
@@ -477,6 +471,7 @@ def run(it, program, path_of_module, room, sectors, stdin):
         words += [b"--" + name.encode(), b"%d" % it[name]] if it[name] is not None else []
     words += [word for text in it["env"] for word in (b"--env", text)]
     words += [word for name in ROOTS for word in (b"--dir", b"/%s=/%s" % (name, name))]        # no guest can remove what is open
+    words += [b"--dir", b"/image=/"] if it["image"] else []
     words += [path_of_module, *([b"--", *it["words"]] if it["words"] else [])]
     limits = [(resource.RLIMIT_FSIZE, max(it["output"], sectors * SECTOR)), (resource.RLIMIT_CORE, 0), (resource.RLIMIT_CPU, it["wall"] + 5),
               *([(resource.RLIMIT_AS, it["memory"])] if it["memory"] else [])]
@@ -519,7 +514,7 @@ def judged(it, status, said, printed, complained):
         raise Machine(f"the program was ended by signal {-status}", f"memory, or the program: ended by signal {-status}")
     if said.get(b"status") != b"%d" % status or said.get(b"blame") != b"guest":
         raise Machine(f"run: status {status}, {end} {code} {text}, {tail}", "memory: more than there is" if end == "out of memory" else None)
-    if end == "fault" and code in ("15", "16"):
+    if end == "fault" and code in ("15", "16", *(("30", "31", "32") if it["image"] else ())):
         raise Refused(f"fault {code}: {text}")
     if end != "exit" or code not in map(str, (0, *it["exit"])):
         if complained:
@@ -533,7 +528,11 @@ def performed(it, inside, module, stdin, tree, sectors, slots, room):
     try:
         with open(room(b"module.wasm"), "wb", buffering=0) as file:
             put(file.fileno(), module, 0)
-        make_volume(room(b"volume"), {**dict.fromkeys(ROOTS), **{b"in/" + path: tree[path] for path in tree}}, sectors, slots)
+        whole = {**dict.fromkeys(ROOTS), **{b"in/" + path: tree[path] for path in tree}}
+        if it["image"]:
+            asked(it["image"].shown, it["image"].copy_with, room(b"volume"), whole)
+        else:
+            make_volume(room(b"volume"), whole, sectors, slots)
         status, (text, said), printed, complained = run(it, program, room(b"module.wasm"), room, sectors, stdin)
         try:
             judged(it, status, said, printed, complained)
@@ -718,6 +717,7 @@ def key_of(it, program, module, stdin, tree, sectors, slots):
     parts = [VERSION, sha(program), sha(module), sha(stdin), b"%d %d" % (sectors, slots)]
     for name in ("fuel", "pages", "values", "moment", "seed", "output", "memory"):
         parts.append(b"-" if it[name] is None else b"%d" % it[name])
+    parts += [b"image", it["image"].digest()] if it["image"] else []
     for some in (it["words"], it["env"], [b"%d" % one for one in sorted(set(it["exit"]))], *(sorted(path for path, _ in it[name]) for name in ("out", "out-dir"))):
         parts += [b"%d" % len(some), *some]
     def files():
@@ -753,7 +753,8 @@ def step(it):
     program = content(it["sandbox"], 256 << 20)
     module, stdin = content(it["module"], 64 << 20), content(it["stdin"], 64 << 20) if it["stdin"] else b""
     tree = given(it["in"], it["links"])
-    sectors, slots = sizes(tree, it["room"], it["entries"])
+    image = it["image"] = it["image"] and asked(f"--image {shown(it['image'])}: ", Image, it["image"])
+    sectors, slots = (image.sectors, image.slots) if image else asked("", sizes, tree, it["room"], it["entries"], len(ROOTS))
     if not it["keep"]:
         return done_by(it, program, module, stdin, tree, sectors, slots), ""
     store, key = Store(it["keep"]), key_of(it, program, module, stdin, tree, sectors, slots)

@@ -1,7 +1,10 @@
-"""Volumes by their format alone (docs/VOLUME.md): a new one that holds a tree, and what a run left in one.
+"""Volumes by their format alone (docs/VOLUME.md): a new one that holds a tree, a copy of one with a tree put into it, and what a run
+left in one.
 
 So one process of `sandbox` does a whole step, and none formats, fills or empties its volume. And what trees of paths need besides.
 """
+import errno
+import fcntl
 import os
 import stat
 import struct
@@ -10,6 +13,11 @@ SECTOR, LOG = 512, 122
 FEW_SECTORS, FEW_SLOTS, SMALL_FILE = 65_536, 8_192, 8_483_840                     # the most of version 2
 MOST_SECTORS, MOST_SLOTS, MOST_FILE = 16_777_216, 1_048_576, 1_082_225_664        # and of version 4
 ZEROS, MOST_PARTS = bytes(SECTOR), 1_000           # of a write: the kernel takes 1,024
+
+
+def shown(name):
+    """Bytes as a text that moves no cursor."""
+    return "".join(it if it.isprintable() else f"\\x{ord(it):02x}" for it in name.decode("utf-8", "backslashreplace"))
 
 
 def has_parents(tree):
@@ -61,18 +69,39 @@ def version_for(tree, sectors, slots):
     return 2 if is_small else 4
 
 
-def make_volume(path, tree, sectors, slots):
-    """A volume that holds a tree, bytes or None by path: the same tree gives the same bytes."""
-    serials, table, data, free = {b"": 1}, [struct.pack("<B507x4x", 3)], [], LOG + slots
+def sizes(tree, room, entries, roots):
+    """Sectors and slots for the tree and so many folders above it, and for what the guest adds. A ValueError where no volume has them."""
+    slots, data = len(tree) + roots + 1, sum(needs(len(inside)) for inside in tree.values() if inside)
+    least = slots + (entries or 0)
+    if least > MOST_SLOTS:
+        raise ValueError(f"{least} entries: a volume has {MOST_SLOTS} at most")
+    slots = min(2 * slots + 1_024, FEW_SLOTS if least <= FEW_SLOTS else MOST_SLOTS) if entries is None else least
+    least = data + slots + LOG + -(-(room or 0) // SECTOR)
+    if least > MOST_SECTORS:
+        raise ValueError(f"{least * SECTOR} bytes: a volume has {MOST_SECTORS * SECTOR} at most")
+    most = FEW_SECTORS if version_for(tree, least, slots) == 2 else MOST_SECTORS
+    return max(137, min(least + data + (8 << 20) // SECTOR, most) if room is None else least), slots
+
+
+def laid_out(tree, serial, free):
+    """The entries of a tree, from this serial on, and the bytes of their sectors, from this one on. What stands in no folder is in the root."""
+    serials, table, data = {b"": 1}, [], []
     for whole, inside in sorted(tree.items()):
         above, _, name = whole.rpartition(b"/")
-        serials[whole] = len(table) + 1
+        serials[whole] = serial + len(table)
         blocks = -(-len(inside or b"") // SECTOR)
         inner_pointers, behind = pointers(blocks, free) if blocks else (b"", [])
         table.append(struct.pack("<BB2xII256s244s", 3 if inside is None else 4, len(name), serials[above], len(inside or b""), name, inner_pointers))
         if blocks:
             data += [inside, ZEROS[:-len(inside) % SECTOR], *behind]
             free += blocks + len(behind)
+    return table, data
+
+
+def make_volume(path, tree, sectors, slots):
+    """A volume that holds a tree, bytes or None by path: the same tree gives the same bytes."""
+    table, data = laid_out(tree, 2, LOG + slots)
+    table.insert(0, struct.pack("<B507x4x", 3))
     with open(path, "xb", buffering=0) as file:
         file.truncate(sectors * SECTOR)
         for at, parts in [(0, [struct.pack("<8sIII", b"WASMVOLU", version_for(tree, sectors, slots), sectors, slots)]), (LOG, [b"".join(table)]), (LOG + slots, data)]:
@@ -93,6 +122,79 @@ def put(fd, inside, at):
     while view:
         done = os.pwrite(fd, view, at)
         view, at = view[done:], at + done
+
+
+class Image:
+    """A volume that steps begin with, of version 2 or 4. While one does, nobody writes it who asks for its lock. A ValueError where it is none."""
+
+    def __init__(self, path):
+        self.shown, self.fd = f"--image {shown(path)}: ", os.open(path, os.O_RDONLY | os.O_NONBLOCK | os.O_CLOEXEC)
+        if not stat.S_ISREG(os.fstat(self.fd).st_mode):
+            raise ValueError("it is no regular file")
+        try:
+            fcntl.flock(self.fd, fcntl.LOCK_SH | fcntl.LOCK_NB)
+        except BlockingIOError:
+            raise ValueError("it is being written") from None
+        head = os.pread(self.fd, 2 * SECTOR, 0).ljust(2 * SECTOR, b"\0")
+        mark, version, self.sectors, self.slots = struct.unpack_from("<8sIII", head)
+        if mark != b"WASMVOLU" or version not in (2, 4) or os.fstat(self.fd).st_size < self.sectors * SECTOR:
+            raise ValueError("it is no volume of version 2 or 4")
+        if any(head[SECTOR:]):
+            raise ValueError("its last run was stopped: `sandbox check` mends it")
+        self.table = os.pread(self.fd, self.slots * SECTOR, LOG * SECTOR)
+
+    def digest(self):
+        """The SHA-256 of all its sectors."""
+        from _hashlib import openssl_sha256    # here: a step that isn't kept needs none
+        at, end, whole = 0, self.sectors * SECTOR, openssl_sha256()
+        while at < end and (part := os.pread(self.fd, min(1 << 22, end - at), at)):
+            whole.update(part)
+            at += len(part)
+        return whole.hexdigest().encode()
+
+    def last_used(self):
+        """The last sector that a file has."""
+        words, kinds = memoryview(self.table).cast("I"), self.table[::SECTOR]
+        files = [words[at * 128 + 67:at * 128 + 128].tolist() for at, kind in enumerate(kinds) if kind == 4]
+        last = max(map(max, files), default=0)
+        over = {depth: [one[56 + depth] for one in files] for depth in (2, 3, 4)}
+        for depth in (4, 3, 2):                # of each pointer sector its numbers; those of depth 2 name data
+            for sector in filter(None, over[depth]):
+                numbers = struct.unpack("<128I", os.pread(self.fd, SECTOR, sector * SECTOR))
+                last = max(last, *numbers)
+                over.setdefault(depth - 1, []).extend(numbers)
+        return last
+
+    def copy_with(self, path, tree):
+        """A copy that holds a tree too, behind all that it has. A ValueError where there is no room, or a name stands there already."""
+        kinds = self.table[::SECTOR]
+        names = {self.table[at * SECTOR + 12:][:self.table[at * SECTOR + 1]] for at, kind in enumerate(kinds) if kind and self.table[at * SECTOR + 4:at * SECTOR + 8] == b"\1\0\0\0"}
+        if taken := names & {path for path in tree if b"/" not in path}:
+            raise ValueError(f"it has {sorted(taken)[0].decode()} already")
+        serial, free = len(kinds.rstrip(b"\0")) + 1, max(self.last_used() + 1, LOG + self.slots)
+        table, data = laid_out(tree, serial, free)
+        if serial - 1 + len(table) > self.slots or free + sum(map(len, data)) // SECTOR > self.sectors:
+            raise ValueError(f"it has no room for {len(table)} entries and {sum(map(len, data))} bytes")
+        with open(path, "xb", buffering=0) as file:
+            file.truncate(self.sectors * SECTOR)
+            self.copy(file.fileno())
+            for at, parts in (LOG + serial - 1, [b"".join(table)]), (free, data):
+                put_all(file.fileno(), parts, at * SECTOR)
+
+    def copy(self, out):
+        """Its bytes, without the holes."""
+        at, end = 0, self.sectors * SECTOR
+        while at < end:
+            try:
+                at = os.lseek(self.fd, at, os.SEEK_DATA)
+                hole = min(os.lseek(self.fd, at, os.SEEK_HOLE), end)
+            except OSError as error:
+                if error.errno == errno.ENXIO:  # nothing but a hole
+                    return
+                raise
+            os.lseek(out, at, os.SEEK_SET)
+            while at < hole and (done := os.sendfile(out, self.fd, at, hole - at)):
+                at += done
 
 
 class Left:

@@ -1,5 +1,5 @@
 -- The bytes of a module that they spell: the entry of each function, and where in it each instruction stands.
-use Rattle.std.proofs.Common.{◌≡◌, ◌≢◌, ℕ, zero, suc, ◌+◌, ◌≤◌, ◌<◌, ◌==◌, Bool, true, false, cond, List, [], ◌∷◌, ◌++◌, length, take, drop, Option, Some, None, refl, sym, ap, ◌∙◌, subst, arith, append_assoc, append-nil, length-append}
+use Rattle.std.proofs.Common.{◌≡◌, ◌≢◌, ℕ, zero, suc, ◌≤◌, cond, List, [], ◌∷◌, ◌++◌, length, take, drop, Option, Some, None, refl, sym, ap, ◌∙◌, subst, arith, append_assoc, length-append}
 use Rattle.std.specs.Prelude.{slice_get, nat_lt, unwrap_or}
 use Rattle.std.proofs.lemmas.Bool.{lt-ltb, ne_eqb}
 use Rattle.std.proofs.lemmas.Option.{slice_get_within}
@@ -7,15 +7,15 @@ use Rattle.wasm_module.specs.declared.instruction.Instruction.{Instruction}
 use Rattle.wasm_module.specs.declared.instruction.Instruction.TheVariants as op
 use Rattle.wasm_module.specs.declared.module.Body.{Body}
 use Rattle.wasm_module.specs.declared.module.Module.{Module}
-use Rattle.wasm_module.specs.Grammar.{Byte, Then, Each, U32, Vector, Sized, Raw}
-use Rattle.wasm_module.specs.Instructions.{Instructions, done, plain, block, loop, if_then, if_else, invoke, flatten, SpellsInstruction, SpellsUpTo, SpellsExpression}
-use Rattle.wasm_module.specs.Sections.{Custom, CustomContent, Customs, Section as SpellsSection, SpellsLocals, BodyContent}
-use Rattle.wasm_module.specs.Module.{Sections, SpellsParts, SpellsSections, Spells, module_of}
+use Rattle.wasm_module.specs.Grammar.{Each, U32, Vector, Sized}
+use Rattle.wasm_module.specs.Instructions.{Instructions, done, plain, block, loop, if_then, if_else, invoke, flatten, SpellsInstruction, SpellsUpTo}
+use Rattle.wasm_module.specs.Sections.{Custom, Section as SpellsSection, BodyContent}
+use Rattle.wasm_module.specs.Module.{Sections, SpellsSections, Spells, module_of}
 use Rattle.wasm_module.specs.Reading.{◌>>=◌, u32_at, sized_at, raw_of}
 use Rattle.wasm_module.proofs.Combine.{reads_raw, reads_sized, reads_u32}
 use Rattle.wasm_valid.specs.Offsets.{StandsBehind}
 use Rattle.module_survey.specs.declared.sections.Wanted.TheVariants.{Code}
-use Rattle.module_survey.specs.Places.{Section, section_of, is_wanted, find_section, module_section, nth_entry, own_entry}
+use Rattle.module_survey.specs.Places.{Section, section_of, is_wanted, find_section, nth_entry, own_entry}
 
 -- ---- sections
 

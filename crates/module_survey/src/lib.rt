@@ -1,6 +1,7 @@
 //! What a module is, told as lines `key:value`: its imports and exports, or why it is refused, and in which function.
 #![tactic(auto)]
 
+mod bodies;
 mod culprits;
 mod functions;
 mod links;
@@ -11,6 +12,7 @@ mod printing;
 mod refusal;
 mod sections;
 mod sites;
+mod skipping;
 mod starts;
 mod surveying;
 mod words;

@@ -1,9 +1,11 @@
-//! Where the entries of a module's own functions begin, looked up once.
+//! Where the entries of a module's own functions begin, and the instructions of those that were asked for, looked up once.
 
 ghost use Rattle.std.specs.Prelude.{◌≡◌, ◌-◌, ◌^◌, ◌<◌, ◌++◌, List, ℕ, IfOk, OnOk, Some, length};
 ghost use Rattle.module_survey.specs.Places.{IsInstructionAt, own_entry};
+ghost use Rattle.module_survey.specs.internal.Bodies.{ArePlaces};
 ghost use Rattle.module_survey.specs.internal.Starts.{AreStarts, starts_from};
 
+use crate::bodies::{MOST_PLACES, instruction_places, no_places, put};
 use crate::places::own_entry;
 use crate::sections::{Wanted, module_section, number, sized};
 use std::alloc::{AllocError, Global};
@@ -56,22 +58,29 @@ fn entry_starts(alloc: Global, bytes: &[u8]) -> Result<Vec<usize>, AllocError>
 
 /// A module's bytes, in which the offsets of instructions are asked for again and again.
 ///
-/// The first time, a table of the first functions is made, if there is memory for it.
+/// The first time, a table of the first functions is made, and for each function that is asked for one of its instructions: 32 bytes
+/// for each of at most 65,536 functions, and 8 for each of at most 524,288 instructions. What there is no room or memory for is
+/// looked up in the bytes each time.
 #[derive(Drop)]
 pub struct ModuleBytes<'a> {
     bytes: &'a [u8],
     starts: Option<Vec<usize>>,
+    bodies: Option<Vec<Vec<usize>>>,
+    /// How many instructions may still get into tables.
+    room: usize,
 }
 
 impl<'a> Model for ModuleBytes<'a> {
-    ghost use Rattle.std.specs.Prelude.{ℕ, List, IfSome};
+    ghost use Rattle.std.specs.Prelude.{ℕ, List, IfSome, slice_get};
     ghost use Rattle.module_survey.specs.internal.Starts.{AreStarts};
+    ghost use Rattle.module_survey.specs.internal.Bodies.{ArePlaces};
 
     ghost Value = { List ℕ };
 
     ghost view = { λ m. m.bytes.now };
 
-    ghost invariant = { λ m. IfSome m.starts (λ starts. AreStarts m.bytes.now starts.items) };
+    ghost invariant = { λ m. IfSome m.starts (λ starts. AreStarts m.bytes.now starts.items)
+        × IfSome m.bodies (λ tables. (own : ℕ) → IfSome (slice_get tables.items own) (λ places. ArePlaces m.bytes.now own places.items)) };
 }
 
 impl<'a> ModuleBytes<'a> {
@@ -82,6 +91,8 @@ impl<'a> ModuleBytes<'a> {
         ModuleBytes {
             bytes,
             starts: None,
+            bodies: None,
+            room: MOST_PLACES,
         }
     }
 
@@ -92,13 +103,77 @@ impl<'a> ModuleBytes<'a> {
         self.bytes
     }
 
-    /// Makes the table, if it isn't there and there is memory for it.
+    /// Makes the table of functions, if it isn't there and there is memory for it.
     fn look_up(&mut self, alloc: Global)
         ensures { self.new ≡ self.old }
     {
         if self.starts.is_none() {
             self.starts = entry_starts(alloc, self.bytes).ok();
         }
+    }
+
+    /// Makes a table of instructions for each function of that table, in which there is nothing yet.
+    fn make_room(&mut self, alloc: Global)
+        ensures { self.new ≡ self.old }
+    {
+        let functions = match &self.starts {
+            Some(starts) => starts.len(),
+            None => return,
+        };
+        if self.bodies.is_none() {
+            self.bodies = no_places(alloc, functions).ok();
+        }
+    }
+
+    /// Whether so many instructions of this function may get into its table, and none are there.
+    fn has_room(&self, own: usize, count: usize) -> bool {
+        match &self.bodies {
+            Some(tables) => match tables.as_slice().get(own) {
+                Some(places) => places.is_empty() && count <= self.room,
+                None => false,
+            },
+            None => false,
+        }
+    }
+
+    /// Keeps where the instructions of this function begin.
+    fn keep(&mut self, own: usize, places: Vec<usize>)
+        requires { ArePlaces self.now own places.items }
+        ensures { self.new ≡ self.old }
+    {
+        self.room = self.room.saturating_sub(places.len());
+        if let Some(tables) = &mut self.bodies {
+            put(tables, own, places);
+        }
+    }
+
+    /// Looks up where so many instructions of this function begin, whose entry's content begins here, if there is room and memory
+    /// to keep them.
+    fn table(&mut self, alloc: Global, own: usize, start: usize, count: usize)
+        requires { (content behind : List ℕ) → own_entry self.now own ≡ Some (content, behind)
+            → Some start ≡ Some (length self.now - length behind - length content) }
+        ensures { self.new ≡ self.old }
+    {
+        self.make_room(alloc);
+        if !self.has_room(own, count) {
+            return;
+        }
+        if let Ok(places) = instruction_places(alloc, self.bytes, start, count) {
+            self.keep(own, places);
+        }
+    }
+
+    /// Where the instruction of this index begins, by the table of its function, whose body this is.
+    fn placed(&self, own: usize, body: &Body<'_>, index: usize) -> Option<usize>
+        ensures found { (place : ℕ) (behind : List ℕ) → result ≡ Some place → own_entry self.now own ≡ Some (body.now.bytes, behind)
+            → IsInstructionAt self.now own body.now index place }
+    {
+        if index >= body.code.as_slice().len() {
+            return None;
+        }
+        let places = self.bodies.as_ref()?.as_slice().get(own)?;
+        let place = places.as_slice().get(index)?;
+        Some(*place)
     }
 
     /// Where the content of this function's entry begins, by the table.
@@ -138,8 +213,12 @@ impl<'a> ModuleBytes<'a> {
             → (offset : ℕ) × (result ≡ Some offset) × IsInstructionAt self.old own body.now index offset }
         ensures kept { self.new ≡ self.old }
     {
+        if let Some(place) = self.placed(own, body, index) {
+            return Some(place);
+        }
         self.look_up(alloc);
         let start = self.start(own)?;
+        self.table(alloc, own, start, body.code.as_slice().len());
         Some(start.saturating_add(instruction_place(body, index)))
     }
 }

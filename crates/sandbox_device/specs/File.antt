@@ -1,7 +1,7 @@
 -- A file as a device: a crash leaves each sector, apart from the others, as some moment since the last sync that
 -- succeeded had it (`docs/VOLUME.md`, "The device"). `kept` is the disk of a `FileDevice`, by the premise
 -- `KeepsItsModel`, which nobody can show of a file.
-use Rattle.std.specs.Prelude.{◌≡◌, ◌⊎◌, ◌<◌, ◌-◌, ℕ, List, [], ◌∷◌, length, take}
+use Rattle.std.specs.Prelude.{◌≡◌, ◌⊎◌, ◌<◌, ◌≤◌, ◌-◌, ℕ, List, [], ◌∷◌, length, take}
 use Rattle.vol_sector.specs.Disk.{Image, Disk}
 use Rattle.vol_sector.specs.Record.{image_of}
 use Rattle.sandbox_device.specs.Ram.{Sectors}
@@ -33,6 +33,14 @@ kept now unsynced times = record {
 -- there is a first sector, and it begins with these bytes
 abbrev pub BeginsWith : List ℕ → Sectors → Type 0
 BeginsWith bytes sectors = (0 < length sectors) × (take (length bytes) (image_of sectors 0) ≡ bytes)
+
+-- what a volume of version 4 begins with: "WASMVOLU", and its version (`docs/VOLUME.md`, "Superblock")
+abbrev pub version_4 : List ℕ
+version_4 = 87 ∷ 65 ∷ 83 ∷ 77 ∷ 86 ∷ 79 ∷ 76 ∷ 85 ∷ 4 ∷ 0 ∷ 0 ∷ 0 ∷ []
+
+-- It has no more sectors than this, or begins as a volume of version 4.
+abbrev pub IsOfSize : ℕ → Sectors → Type 0
+IsOfSize most sectors = length sectors ≤ most ⊎ BeginsWith version_4 sectors
 
 -- The file keeps this model: what a crash leaves of it is what `kept` says. It is a premise, of which nothing is known:
 -- what stands here can't be unfolded anywhere else, so nobody shows of a file that it is so, nor that it isn't.

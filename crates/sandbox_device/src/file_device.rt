@@ -1,11 +1,11 @@
 //! A device in a file of the system.
 
-ghost use Rattle.std.specs.Prelude.{◌≡◌, ◌<◌, ◌≤◌, ◌↔◌, ◌⊎◌, ℕ, IfOk, IsTrue, OnOk, MatchResult, is_err, length, min, true};
+ghost use Rattle.std.specs.Prelude.{◌≡◌, ◌<◌, ◌≤◌, ◌↔◌, ◌⊎◌, ℕ, IfOk, IsTrue, OnOk, MatchResult, is_err, length, max, min, true};
 ghost use Rattle.vol_sector.specs.Disk.{counted, put, After, Keeps, Leaves, OneMore, Only, Wrote};
 ghost use Rattle.vol_sector.specs.Past.{LeavesPast, StillGoesOn};
 ghost use Rattle.vol_sector.specs.Record.{image_of};
 ghost use Rattle.vol_sector.specs.internal.PastLaws.{past_same, past_then};
-ghost use Rattle.sandbox_device.specs.File.{BeginsWith, kept};
+ghost use Rattle.sandbox_device.specs.File.{BeginsWith, IsOfSize, kept, version_4};
 ghost use Rattle.sandbox_device.specs.FileEvidence.{IsSettled, IsUnsettled, WasLocked};
 ghost use Rattle.sandbox_device.specs.Opening.{StandsApart};
 ghost use Rattle.sandbox_device.specs.internal.FileLaws.{mixed_since, mixed_now, now_may_stay};
@@ -49,13 +49,45 @@ pub struct FileDevice<F = File> {
 /// How many sectors are read from a file at once.
 const PIECE: u32 = 64;
 
-/// The first sectors of a file. What is zeros there takes no memory.
-fn read_sectors<F: SectorFile>(alloc: Global, file: &F, count: u32) -> io::Result<Sectors>
-    ensures { IfOk result (λ s. length s ≡ count) }
+/// Whether sectors begin as a volume of version 4.
+fn begins_as_version_4(sectors: &[[u8; 512]]) -> bool
+    ensures { IsTrue result → BeginsWith version_4 sectors.now }
+{
+    match sectors.first() {
+        Some(image) => &image[..12] == VERSION_4.as_slice(),
+        None => false,
+    }
+}
+
+/// How many of the whole sectors that a file has are a device's: 65,536 at most, or as many as are wanted, or all where it begins as
+/// a volume of version 4. (So that a long file that is no such volume isn't read whole to be refused.)
+fn count_of(there: u32, wanted: u32, beginning: &[[u8; 512]]) -> u32
+    ensures few { result ≤ there }
+    ensures enough { min there 65536 ≤ result }
+    ensures sized { result ≤ max wanted 65536 ⊎ BeginsWith version_4 beginning.now }
+{
+    let most = wanted.max(MOST_OF_OLDER);
+    if there <= most || begins_as_version_4(beginning) {
+        return there;
+    }
+    most
+}
+
+/// The first sectors of a file, of which those that it begins with are read already. What is zeros there takes no memory.
+fn read_sectors<F: SectorFile>(
+    alloc: Global,
+    file: &F,
+    beginning: &[[u8; 512]],
+    count: u32,
+) -> io::Result<Sectors>
+    requires { length beginning.now ≤ count }
+    ensures count { IfOk result (λ s. length s ≡ count) }
+    ensures begins { IfOk result (λ s. 0 < length beginning.now → image_of s 0 ≡ image_of beginning.now 0) }
 {
     let mut sectors = Sectors::zeros(alloc, count)?;
+    sectors.put_all(0, beginning);
     let mut piece = [[0; 512]; PIECE as usize];
-    let mut first = 0;
+    let mut first = beginning.len() as u32;
     while first < count {
         let more = (count - first).min(PIECE);
         let images = &mut piece[..more as usize];
@@ -66,36 +98,21 @@ fn read_sectors<F: SectorFile>(alloc: Global, file: &F, count: u32) -> io::Resul
     Ok(sectors)
 }
 
-/// Whether a file begins as a volume of version 4.
-fn begins_as_version_4<F: SectorFile>(file: &F) -> io::Result<bool> {
-    let mut first = [[0; 512]];
-    file.read_into(0, &mut first)?;
-    Ok(&first[0][..12] == VERSION_4.as_slice())
-}
-
-/// How many whole sectors of a file are a device's: 65,536 at most, or as many as are wanted, or 16,777,216 where the file begins
-/// as a volume of version 4. (So that a long file that is no such volume isn't read whole to be refused.)
-fn count_of<F: SectorFile>(file: &F, wanted: u32) -> io::Result<u32>
-    ensures { IfOk result (λ n. n ≤ 16777216) }
-{
-    let there = file.sectors()?.min(u64::from(MOST_SECTORS)) as u32;
-    let most = wanted.max(MOST_OF_OLDER);
-    if there <= most || begins_as_version_4(file)? {
-        return Ok(there);
-    }
-    Ok(most)
-}
-
 /// The whole sectors of a file, as many as `count_of` says.
 pub(crate) fn whole_sectors<F: SectorFile>(
     alloc: Global,
     file: &F,
     wanted: u32,
 ) -> io::Result<Sectors>
-    ensures { IfOk result (λ s. length s ≤ 16777216) }
+    ensures few { IfOk result (λ s. length s ≤ 16777216) }
+    ensures sized { IfOk result (λ s. IsOfSize (max wanted 65536) s) }
 {
-    let count = count_of(file, wanted)?;
-    read_sectors(alloc, file, count)
+    let there = file.sectors()?.min(u64::from(MOST_SECTORS)) as u32;
+    let mut piece = [[0; 512]; PIECE as usize];
+    let beginning = &mut piece[..there.min(PIECE) as usize];
+    file.read_into(0, beginning)?;
+    let count = count_of(there, wanted, beginning);
+    read_sectors(alloc, file, beginning, count)
 }
 
 /// Locks a file that was opened under this name. It fails where it is locked, and where another file has come in its place
@@ -156,6 +173,7 @@ impl<F: SectorFile + Drop> FileDevice<F> {
     /// less, and the device has them. What the file has stays.
     pub fn lengthened(alloc: Global, file: F, sectors: u32) -> io::Result<FileDevice<F>>
         ensures few { IfOk result (λ d. length d.sectors ≤ 16777216) }
+        ensures sized { IfOk result (λ d. IsOfSize (max sectors 65536) d.sectors) }
         ensures enough { IfOk result (λ d. min sectors 16777216 ≤ length d.sectors) }
         ensures unused { IfOk result (λ d. d.failures ≡ 0) }
         ensures same { IfOk result (λ d. d.file ≡ file) }
@@ -190,6 +208,7 @@ impl<F: SectorFile + Drop> FileDevice<F> {
         beginning: &[u8; 8],
     ) -> io::Result<FileDevice<F>>
         ensures few { IfOk result (λ d. length d.sectors ≤ 16777216) }
+        ensures sized { IfOk result (λ d. IsOfSize (max sectors 65536) d.sectors) }
         ensures enough { IfOk result (λ d. min sectors 16777216 ≤ length d.sectors ⊎ BeginsWith beginning.now d.sectors) }
         ensures unused { IfOk result (λ d. d.failures ≡ 0) }
         ensures same { IfOk result (λ d. d.file ≡ file) }
@@ -206,6 +225,7 @@ impl<F: SectorFile + Drop> FileDevice<F> {
     /// volume of version 4.
     pub fn of(alloc: Global, file: F) -> io::Result<FileDevice<F>>
         ensures few { IfOk result (λ d. length d.sectors ≤ 16777216) }
+        ensures sized { IfOk result (λ d. IsOfSize 65536 d.sectors) }
         ensures unused { IfOk result (λ d. d.failures ≡ 0) }
         ensures same { IfOk result (λ d. d.file ≡ file) }
     {
@@ -215,6 +235,7 @@ impl<F: SectorFile + Drop> FileDevice<F> {
     /// The same, but it has as many as are wanted, where the file does.
     fn with(alloc: Global, file: F, wanted: u32) -> io::Result<FileDevice<F>>
         ensures few { IfOk result (λ d. length d.sectors ≤ 16777216) }
+        ensures sized { IfOk result (λ d. IsOfSize (max wanted 65536) d.sectors) }
         ensures unused { IfOk result (λ d. d.failures ≡ 0) }
         ensures same { IfOk result (λ d. d.file ≡ file) }
     {

@@ -5,6 +5,7 @@ ghost use Rattle.std.specs.Io.KnownBytes.{Appends};
 ghost use Rattle.vol_sector.specs.Past.{LeavesPast};
 ghost use Rattle.vol_sector.specs.Record.{image_of};
 ghost use Rattle.vol_sector.specs.internal.PastLaws.{past_same, past_then};
+ghost use Rattle.sandbox_device.specs.File.{IsOfSize};
 ghost use Rattle.sandbox_device.specs.Ram.{joined_sectors, held};
 ghost use Rattle.sandbox_device.specs.internal.RamLaws.{now_is_since, now_is_all};
 
@@ -53,7 +54,8 @@ impl RamDevice {
     /// A device of a file's whole sectors, 65,536 at most, or 16,777,216 where it begins as a volume of version 4, as they are now;
     /// nothing is written to the file. It fails where it can't be read, where it is a directory, and where memory is refused.
     pub fn of_file(alloc: Global, file: &File) -> io::Result<RamDevice>
-        ensures { IfOk result (λ d. length d.sectors ≤ 16777216) }
+        ensures few { IfOk result (λ d. length d.sectors ≤ 16777216) }
+        ensures sized { IfOk result (λ d. IsOfSize 65536 d.sectors) }
     {
         Ok(RamDevice {
             sectors: whole_sectors(alloc, file, 0)?,

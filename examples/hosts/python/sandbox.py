@@ -131,6 +131,11 @@ def _bytes(given):
     return given.encode() if isinstance(given, str) else bytes(memoryview(given))
 
 
+def version():
+    """The library's version: 1,000,000 * major + 1,000 * minor + patch."""
+    return _lib.sandbox_version()
+
+
 def text(number, kind=0):
     """The text of a fault (kind 0), a trap (1) or an errno (2)."""
     room = c.create_string_buffer(80)

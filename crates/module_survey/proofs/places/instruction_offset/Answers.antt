@@ -1,10 +1,9 @@
-use Rattle.std.proofs.Common.{◌≡◌, ℕ, ◌≤◌, List, ◌++◌, length, Some, false, not, ap, subst, sym, ◌∙◌, arith, length-append}
+use Rattle.std.proofs.Common.{◌≡◌, ℕ, ◌≤◌, List, ◌++◌, length, Some, false, not, ap, sym, ◌∙◌, arith, length-append}
 use Rattle.std.specs.Prelude.{nat_eq}
 use Rattle.std.specs.Cmp.Lexicographic.{pointwise, same_text}
 use Rattle.std.proofs.lemmas.Bool.{not-false}
 use Rattle.wasm_module.specs.declared.module.Body.{Body}
 use Rattle.wasm_valid.specs.Offsets.{StandsBehind}
-use Rattle.module_survey.specs.Places.{own_entry}
 use Rattle.module_survey.proofs.Entries.{held}
 use Rattle.module_survey.proofs.places.instruction_offset.Goals as goal
 

@@ -1,4 +1,4 @@
-use Rattle.std.proofs.Common.{◌≡◌, ℕ, ◌≤◌, List, ◌++◌, length, None, Some, sym, ap, ◌∙◌, refl, arith, length-append}
+use Rattle.std.proofs.Common.{◌≡◌, ℕ, ◌≤◌, List, ◌++◌, length, None, Some, ap, ◌∙◌, refl, arith, length-append}
 use Rattle.wasm_module.specs.declared.module.Body.{Body}
 use Rattle.wasm_valid.specs.Offsets.{StandsBehind}
 use Rattle.wasm_module.proofs.Laws.{some_is}
@@ -13,6 +13,9 @@ within b index before s = omega (arith, ap length s.bytes, length-append before 
 -- the start of an entry that is there is found
 is_found : (n : ℕ) → None ≡ Some n → ◌≡◌ {A = ℕ} 0 1
 is_found n e = cc
+
+pub returns-in-Some-clause-found : goal.returns-in-Some-clause-found
+returns-in-Some-clause-found c = λ behind e. (c.in-Some.place, refl, c.in-Some.ensures.found c.in-Some.place behind refl e)
 
 pub returns-in_err-start-clause-found : goal.returns-in_err-start-clause-found
 returns-in_err-start-clause-found c = λ behind e. absurd (omega (arith, is_found _ (c.in_err-start.ensures.found c.args.body.now.bytes behind (ap (λ (x : List ℕ). own_entry x c.args.own) c.look_up.ensures ∙ e))))

@@ -5,7 +5,7 @@ use Rattle.wasm_store.specs.Instantiation.{RefusedFor}
 use Rattle.wasi_calls.specs.host.Links.{link}
 use Rattle.sandbox_core.specs.Session.{IsRefused, given}
 use Rattle.sandbox_core.specs.declared.fault.SessionFault.{SessionFault}
-use Rattle.sandbox_core.proofs.Refusing.{by_instance}
+use Rattle.sandbox_core.proofs.Refusing.{by_instance, hands_back}
 use Rattle.sandbox_core.proofs.shared.SharedSession.new.Goals as goal
 
 pub returns-in-Ok-preopen-clause-opens : goal.returns-in-Ok-preopen-clause-opens
@@ -32,3 +32,11 @@ returns-in-Err-new-clause-refused g c =
     (subst (λ (r : Ready). RefusedFor link r.pages r.valid fault) c.shared.view_is c.in-Err-new.ensures.refused) in
     subst (λ (f : SessionFault). IsRefused g.D.Device.honest f c.args.shared.now.valid parts) (sym c.of_instance.ensures)
     (by_instance g.D.Device.honest c.args.shared.now.valid parts c.in-Ok.ensures.made.fits fault refused)
+
+pub returns-clause-hands_back : goal.returns-clause-hands_back
+returns-clause-hands_back g c =
+    let parts = given c.args.settings c.args.volume c.args.input c.args.out c.args.err in
+    let no = c.in-Err-preopen in
+    hands_back (Unit {0}) g.D.Device c.args.shared.now.valid parts c.in-Ok.host c.preopen.new.self c.in-Ok.ensures.made no.ensures.streams
+    no.fault no.ensures.reads no.ensures.refused c.into_parts-in-Err-preopen.result c.into_parts-in-Err-preopen.ensures
+    c.of_host-in-Err-preopen.result c.of_host-in-Err-preopen.ensures

@@ -1,0 +1,4 @@
+pub mod Allocating
+pub mod Living
+pub mod Confining
+pub mod Keeping

@@ -1,0 +1,4 @@
+pub mod Allocating
+pub mod WholeLives
+pub mod Confined
+pub mod Moments

@@ -1,0 +1,24 @@
+//! Laws over lives, over definitions alone.
+
+ghost use Rattle.plugin_core.specs.Allocating.{InstancesAllocate};
+ghost use Rattle.plugin_core.specs.Confined.{ConfinesLives};
+ghost use Rattle.plugin_core.specs.Moments.{KeepsLives};
+
+use wasi_calls::VolumeHost;
+
+/// A law: the instance that a command begins with is one by allocation, whose imports the host answers all.
+pub fn instances_allocate()
+    ensures { InstancesAllocate }
+{}
+
+/// A law: whatever is called of an instance in all its life, and whatever its embedder answers and writes, an entry that was no
+/// open directory and below none when it opened keeps its path, serial, kind and bytes, and no descriptor and no walk leads to one.
+pub fn lives_stay_confined<H: VolumeHost>()
+    ensures { ConfinesLives H.calls H.shows H.honest }
+{}
+
+/// A law: stopped at any moment of an instance's life, between two calls or inside one, an image that is left stands for the
+/// volume's tree after some of the host's answers, of those from the last sync on that was answered with 0.
+pub fn lives_keep_moments<H: VolumeHost>()
+    ensures { KeepsLives H.disk H.numbers H.tree H.honest H.calls }
+{}

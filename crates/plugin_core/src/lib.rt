@@ -1,0 +1,6 @@
+//! What holds over the whole life of an instance whose exports are called: what its guest can't reach, and what a crash may leave.
+#![tactic(auto)]
+
+mod laws;
+
+pub use laws::{instances_allocate, lives_keep_moments, lives_stay_confined};
