@@ -30,13 +30,14 @@
  * MEMORY
  *   A session asks malloc for at most, in bytes,
  *         65,536 * pages + 8 * values + 2 * output    what its limits allow (sandbox_limits)
- *       + 128 * the bytes of its module               the module's tables
+ *       + 256 * the bytes of its module               the module's tables
  *       + 520 * the volume's sectors                  202 of a fresh one
+ *       + 400 * the volume's sectors                  once more, of a huge one alone (SANDBOX_VOLUME_HUGE): its names
  *       + 1,040 * the writes and syncs so far         of a recorded volume alone (SANDBOX_VOLUME_RECORDED)
  *       + 8 MiB                                       open calls, the names of the volume, and all else
- *   whatever its guest does; sandbox_most_held is this sum. What the guest doesn't come to isn't taken, and what it took is given
- *   back by sandbox_finish (its memory and its stack) and sandbox_close (all). While a buffer grows, realloc may hold what it had
- *   a second time. A loaded module in no session holds its part of the sum. Those that share one prepared module, and their
+ *   whatever its guest does; sandbox_most_held is this sum, sandbox_most_held_huge that of a huge volume. What the guest doesn't
+ *   come to isn't taken, and what it took is given back by sandbox_finish (its memory and its stack) and sandbox_close (all). While
+ *   a buffer grows, realloc may hold what it had a second time. A loaded module in no session holds its part of the sum. Those that share one prepared module, and their
  *   sessions, hold that part once in all, until the last of them is gone; sandbox_prepare also takes the memory that its guest
  *   begins with, and gives it back. What is marked `kept` is the caller's own.
  *
@@ -103,13 +104,14 @@ typedef struct { /* what a guest is given */
 typedef struct { /* the guest's volume; borrowed */
     uint32_t kind;                 /* SANDBOX_VOLUME_* */
     const uint8_t (*sectors)[512]; /* _MEMORY, _RECORDED: copied in; sandbox_volume_out copies out */
-    size_t sectors_count;          /* _MEMORY, _RECORDED: how many, at most 65,536; else 0 */
+    size_t sectors_count;          /* _MEMORY, _RECORDED: how many, at most 65,536 (_HUGE: 16,777,216), more is 36; else 0 */
 } sandbox_volume;
 enum {
     SANDBOX_VOLUME_FRESH = 0,    /* empty, 202 sectors and 16 slots */
     SANDBOX_VOLUME_MEMORY = 1,   /* that of these sectors. The host keeps a volume by sandbox_volume_out */
-    SANDBOX_VOLUME_RECORDED = 2  /* the same, and the session keeps a record of its writes and syncs (sandbox_operation_at), for
+    SANDBOX_VOLUME_RECORDED = 2, /* the same, and the session keeps a record of its writes and syncs (sandbox_operation_at), for
                                   * a volume on a descriptor: DESCRIPTORS below. 520 bytes of memory for each, until it is closed */
+    SANDBOX_VOLUME_HUGE = 4      /* | _MEMORY or | _RECORDED: of more sectors, as a volume of version 4 may have them */
 };
 
 typedef struct { /* what a session did to its volume; a caller may pass any numbers in it */
@@ -284,6 +286,9 @@ uint32_t sandbox_unload(sandbox_module **module);
  * 36, and nothing is written. */
 uint32_t sandbox_format(uint8_t (*sectors)[512], size_t sectors_count, uint32_t slots);
 
+/* The same of version 4: 137 to 16,777,216 sectors, 1 to 1,048,576 slots. sandbox_open takes it by SANDBOX_VOLUME_HUGE. */
+uint32_t sandbox_format_huge(uint8_t (*sectors)[512], size_t sectors_count, uint32_t slots);
+
 /* How many bytes a session asks malloc for at most (MEMORY, at the head): one with these limits, of a module of so many bytes, over
  * a volume of so many sectors (202 of a fresh one). `operations`: of a recorded volume how many writes and syncs there are so far,
  * else 0. A sum past 2^64 - 1 is 2^64 - 1. */
@@ -291,7 +296,7 @@ static inline uint64_t sandbox_most_held(const sandbox_limits *limits, size_t mo
     const uint64_t counts[6] = {limits->pages ? limits->pages : 1024,
                                 limits->values ? (limits->values < 4097 ? 4097 : limits->values) : 1048576,
                                 limits->output ? limits->output : 16777216, module_length, sectors_count, operations};
-    static const uint64_t bytes[6] = {65536, 8, 2, 128, 520, 1040};
+    static const uint64_t bytes[6] = {65536, 8, 2, 256, 520, 1040};
     uint64_t sum = 8388608;
     for (int n = 0; n < 6; n++) {
         if (counts[n] > (UINT64_MAX - sum) / bytes[n])
@@ -299,6 +304,12 @@ static inline uint64_t sandbox_most_held(const sandbox_limits *limits, size_t mo
         sum += counts[n] * bytes[n];
     }
     return sum;
+}
+
+/* The same over a huge volume (SANDBOX_VOLUME_HUGE) of so many sectors. */
+static inline uint64_t sandbox_most_held_huge(const sandbox_limits *limits, size_t module_length, size_t sectors_count, size_t operations) {
+    const uint64_t sum = sandbox_most_held(limits, module_length, sectors_count, operations);
+    return sectors_count > (UINT64_MAX - sum) / 400 ? UINT64_MAX : sum + 400 * (uint64_t)sectors_count;
 }
 
 /* For callers that may have a NULL variable. */
@@ -365,12 +376,13 @@ static inline int sandbox_apart(int fd) {
 /* Whether it is the number of a standard stream. */
 static inline int sandbox_is_standard(int fd) { return fd >= 0 && fd <= 2; }
 
-/* Reads all sectors of a file or a block device, 65,536 at most, for a session that is recorded. MISUSE for descriptors 0, 1, 2. */
-static inline uint32_t sandbox_volume_from(int fd, sandbox_volume *volume) {
+/* Reads all sectors of a file or a block device, `most` at most, for a session over a volume of this kind. MISUSE for descriptors
+ * 0, 1, 2. (What sandbox_volume_from and sandbox_huge_volume_from call.) */
+static inline uint32_t sandbox_sectors_from(int fd, sandbox_volume *volume, uint32_t kind, off_t most) {
     if (sandbox_is_standard(fd))
         return SANDBOX_MISUSE;
     off_t size = lseek(fd, 0, SEEK_END);
-    size_t count = size < 0 ? 0 : size / 512 > 65536 ? 65536 : (size_t)(size / 512), so_far = 0;
+    size_t count = size < 0 ? 0 : (size_t)(size / 512 > most ? most : size / 512), so_far = 0;
     uint8_t *sectors = size < 0 ? NULL : (uint8_t *)malloc(count * 512 + 1);
     if (size < 0 || !sectors)
         return size < 0 ? SANDBOX_DEVICE_FAILED : SANDBOX_OUT_OF_MEMORY;
@@ -385,10 +397,20 @@ static inline uint32_t sandbox_volume_from(int fd, sandbox_volume *volume) {
             return SANDBOX_DEVICE_FAILED;
         }
     }
-    volume->kind = SANDBOX_VOLUME_RECORDED;
+    volume->kind = kind;
     volume->sectors = (const uint8_t(*)[512])sectors;
     volume->sectors_count = count;
     return SANDBOX_OK;
+}
+
+/* Reads all sectors of a file or a block device, 65,536 at most, for a session that is recorded. MISUSE for descriptors 0, 1, 2. */
+static inline uint32_t sandbox_volume_from(int fd, sandbox_volume *volume) {
+    return sandbox_sectors_from(fd, volume, SANDBOX_VOLUME_RECORDED, 65536);
+}
+
+/* The same of a volume of version 4: 16,777,216 at most. */
+static inline uint32_t sandbox_huge_volume_from(int fd, sandbox_volume *volume) {
+    return sandbox_sectors_from(fd, volume, SANDBOX_VOLUME_RECORDED | SANDBOX_VOLUME_HUGE, 16777216);
 }
 
 /* Once the session is opened, or refused. */

@@ -116,8 +116,11 @@ static void misuse(void) {
   want("volume_out of none", sandbox_volume_out(&session, sector, 1) == 0);
   /* a volume of no kind */
   sandbox_volume odd = fresh;
-  odd.kind = 9;
-  want("open over a volume of no kind", sandbox_open(&session, module.at, module.length, &given, &odd, &why) == SANDBOX_MISUSE && !session && same(&why, &why_before, sizeof why));
+  static const uint32_t no_kinds[] = {3, SANDBOX_VOLUME_HUGE, SANDBOX_VOLUME_HUGE | 3, 8, 9, UINT32_MAX};
+  for (size_t n = 0; n < sizeof no_kinds / sizeof *no_kinds; n++) {
+    odd.kind = no_kinds[n];
+    want("open over a volume of no kind", sandbox_open(&session, module.at, module.length, &given, &odd, &why) == SANDBOX_MISUSE && !session && same(&why, &why_before, sizeof why));
+  }
   /* a session that is there */
   want("open", sandbox_open(&session, module.at, module.length, &given, &fresh, &why) == SANDBOX_OK && session);
   sandbox_session *before = session;
@@ -218,7 +221,7 @@ static void limits(void) {
     want("a limit that can't be is 15", limited(&odd[n], &session, &told, &code) == 15 && !session);
   /* the sum, by hand: 64 MiB + 8 MiB + 2 * 16 MiB + 8 MiB and what is passed; 65,536 + 8 * 4,097 + 2 + 8 MiB */
   const sandbox_limits none = {0}, least = {.pages = 1, .values = 1, .output = 1}, most = {.output = UINT64_MAX};
-  want("the sum of the defaults", sandbox_most_held(&none, 0, 0, 0) == 117440512 && sandbox_most_held(&none, 10, 100, 1000) == 117440512 + 1280 + 52000 + 1040000);
+  want("the sum of the defaults", sandbox_most_held(&none, 0, 0, 0) == 117440512 && sandbox_most_held(&none, 10, 100, 1000) == 117440512 + 2560 + 52000 + 1040000);
   want("the sum of the least", sandbox_most_held(&least, 0, 0, 0) == 65536 + 32776 + 2 + 8388608);
   want("a sum past 2^64", sandbox_most_held(&most, 0, 0, 0) == UINT64_MAX && sandbox_most_held(&none, SIZE_MAX, 0, 0) == UINT64_MAX && sandbox_most_held(&none, 0, 0, SIZE_MAX) == UINT64_MAX);
   printf("limits: %u wrong\n", wrong);
@@ -295,6 +298,40 @@ static void wrong_volumes(const files *has) {
   want("close", sandbox_close(&session) == SANDBOX_OK);
 }
 
+/* A volume of version 4 of more sectors than an older one has: it is taken where that is asked for, and else refused. */
+static void many_sectors(void) {
+  enum { MANY = 65537 };
+  static uint8_t sectors[MANY][512];
+  sandbox_supplies given = supplies();
+  sandbox_session *session = NULL;
+  sandbox_volume volume = {.kind = SANDBOX_VOLUME_MEMORY, .sectors = (const uint8_t(*)[512])sectors, .sectors_count = MANY};
+  sandbox_why why = {0};
+  sandbox_told told = {0};
+  size_t done = 0;
+  FILE *file = tmpfile();
+  want("format of too many", sandbox_format(sectors, MANY, 16) == 36 && !sectors[0][0]);
+  want("format_huge", sandbox_format_huge(sectors, MANY, 8193) == SANDBOX_OK && sectors[0][8] == 4);
+  want("format_huge of too little", sandbox_format_huge(sectors, 136, 4) == 36 && sectors[0][8] == 4);
+  for (uint32_t kind = SANDBOX_VOLUME_MEMORY; kind <= SANDBOX_VOLUME_RECORDED; kind++) {
+    volume.kind = kind;
+    want("many sectors unasked", sandbox_open(&session, module.at, module.length, &given, &volume, &why) == 36 && !session);
+    volume.kind = kind | SANDBOX_VOLUME_HUGE;
+    want("many sectors", sandbox_open(&session, module.at, module.length, &given, &volume, &why) == SANDBOX_OK && sandbox_finish(&session) == SANDBOX_OK &&
+         sandbox_volume_out(&session, sectors, 0) == MANY && sandbox_close(&session) == SANDBOX_OK);
+  }
+  want("a file of many sectors", file && fwrite(sectors, 512, MANY, file) == MANY && !fflush(file));
+  want("volume_from takes the first", sandbox_volume_from(fileno(file), &volume) == SANDBOX_OK && volume.sectors_count == 65536 && volume.kind == SANDBOX_VOLUME_RECORDED);
+  want("a volume of which sectors are wanting", sandbox_open(&session, module.at, module.length, &given, &volume, &why) > SANDBOX_OK && !session);
+  sandbox_volume_free(&volume);
+  want("huge_volume_from", sandbox_huge_volume_from(fileno(file), &volume) == SANDBOX_OK && volume.sectors_count == MANY && volume.kind == (SANDBOX_VOLUME_RECORDED | SANDBOX_VOLUME_HUGE));
+  want("open", sandbox_open(&session, module.at, module.length, &given, &volume, &why) == SANDBOX_OK && sandbox_resume(&session, 1000, &told) == SANDBOX_OK);
+  sandbox_volume_free(&volume);
+  want("settle", sandbox_settle(&session, fileno(file), &done) == SANDBOX_OK && sandbox_close(&session) == SANDBOX_OK);
+  want("what is held at most", sandbox_most_held_huge(&given.limits, 10, MANY, 0) == sandbox_most_held(&given.limits, 10, MANY, 0) + 400 * (uint64_t)MANY);
+  want("what is held at most has an end", sandbox_most_held_huge(&given.limits, 10, SIZE_MAX, 0) == UINT64_MAX);
+  fclose(file);
+}
+
 /* Output to, and input from, descriptors that can't take or give it. */
 static void wrong_streams(const files *has) {
   sandbox_supplies given = supplies();
@@ -341,6 +378,7 @@ static void descriptors(const char *path) {
   want("files to try", has.disk > 2 && has.folder > 2 && has.zeros > 2 && has.full > 2 && has.writes > 2 && has.closed > 2 && !pipe(has.ends) && !close(has.closed));
   want("format", sandbox_format(disk, 1000, 16) == SANDBOX_OK && pwrite(has.disk, disk, sizeof disk, 0) == sizeof disk);
   wrong_volumes(&has);
+  many_sectors();
   wrong_streams(&has);
   apart(&has);
   fclose(has.file);

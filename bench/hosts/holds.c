@@ -52,7 +52,7 @@ static size_t status(const char *name) {
 }
 
 int main(int argc, char **argv) {
-  static uint8_t module[1 << 23], sectors[65536][512];
+  static uint8_t module[1 << 23], sectors[300000][512]; /* what isn't written takes no memory */
   FILE *file = argc == 9 ? fopen(argv[1], "rb") : NULL;
   if (!file)
     return 2;
@@ -63,7 +63,8 @@ int main(int argc, char **argv) {
   const sandbox_limits limits = {strtoul(argv[2], NULL, 10), strtoul(argv[3], NULL, 10), strtoull(argv[4], NULL, 10), {0}};
   const sandbox_supplies supplies = {&name, 1, &none, 0, &root, 1, 0, none, limits, none};
   const sandbox_volume volume = {strtoul(argv[7], NULL, 10), (const uint8_t(*)[512])sectors, count};
-  if (count && sandbox_format(sectors, count, strtoul(argv[6], NULL, 10)))
+  const int is_huge = volume.kind & SANDBOX_VOLUME_HUGE, is_recorded = volume.kind & SANDBOX_VOLUME_RECORDED;
+  if (count && (is_huge ? sandbox_format_huge : sandbox_format)(sectors, count, strtoul(argv[6], NULL, 10)))
     return 2;
   sandbox_session *session = NULL;
   sandbox_told told = {0};
@@ -81,12 +82,12 @@ int main(int argc, char **argv) {
   uint32_t full = sandbox_full(&session, 1) + 2 * sandbox_full(&session, 2);
   if (sandbox_finish(&session))
     return 2;
-  if (volume.kind == SANDBOX_VOLUME_RECORDED) {
+  if (is_recorded) {
     sandbox_operation operation;
     while (!sandbox_operation_at(&session, operations, &operation) && operation.kind != SANDBOX_NO_OPERATION)
       operations++;
   }
-  uint64_t most = sandbox_most_held(&limits, length, count ? count : 202, operations);
+  uint64_t most = (is_huge ? sandbox_most_held_huge : sandbox_most_held)(&limits, length, count ? count : 202, operations);
   size_t held = most_asked - before, peak = status("VmHWM"), held_resident = peak > resident ? peak - resident : 0;
   int is_ended = sandbox_close(&session) == SANDBOX_OK && !session && asked == before;
   printf("kind %u, %llu units, %zu and %zu bytes written, full %u, %zu operations: %zu asked, %zu resident, of at most %llu%s\n", told.kind, (unsigned long long)told.used, out, err, full,

@@ -4,7 +4,8 @@
 ghost use Rattle.std.specs.Prelude.{◌≡◌, ◌≢◌, ◌⊎◌, None, Some, IfSome, IsSomeAnd, is_none, true, false, length, drop, slice_get, if◌then◌else◌};
 ghost use Rattle.wasm_interp.specs.Frames.{frames_of};
 ghost use Rattle.vol_sector.specs.Record.{image_of};
-ghost use Rattle.vol_tree.specs.Fresh.{fresh};
+ghost use Rattle.vol_inode.specs.declared.version.Version.TheVariants.{Four};
+ghost use Rattle.vol_tree.specs.Fresh.{fresh, fresh_as};
 ghost use Rattle.vol_tree.specs.Stands.{StandsAs, empty_tree};
 ghost use Rattle.wasm_module.specs.declared.module.Module.{Module as ModuleValue};
 ghost use Rattle.sandbox_host.specs.Sessions.{running, finished, loaded, prepared, bytes_of, has_session, has_module, module_of, output, most_of, was_filled, sectors};
@@ -333,4 +334,14 @@ pub extern "C" fn sandbox_format(alloc: Global, sectors: &mut [[u8; 512]], slots
     ensures kept { length sectors.new ≡ length sectors.old }
 {
     sandbox_host::format(alloc, sectors, slots)
+}
+
+/// Makes sectors an empty volume of version 4.
+#[unsafe(no_mangle)]
+pub extern "C" fn sandbox_format_huge(alloc: Global, sectors: &mut [[u8; 512]], slots: u32) -> u32
+    ensures formatted { result ≡ 0 → StandsAs (image_of sectors.new) (fresh_as Four (length sectors.old) slots) (empty_tree slots) }
+    ensures refused { result ≢ 0 → IsUnformatted (fresh_as Four (length sectors.old) slots) result × (sectors.new ≡ sectors.old) }
+    ensures kept { length sectors.new ≡ length sectors.old }
+{
+    sandbox_host::format_huge(alloc, sectors, slots)
 }

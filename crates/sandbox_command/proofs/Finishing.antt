@@ -28,7 +28,8 @@ use Rattle.sandbox_command.specs.Alone.{Hands, HandsNothing, IsProfiled, IsTold,
 use Rattle.sandbox_command.specs.Around.{Around, in_memory}
 use Rattle.sandbox_command.specs.Execution.{Runs}
 use Rattle.sandbox_command.specs.Files.{Clashes, IsPerformed, RunsNamed}
-use Rattle.sandbox_command.specs.Sources.{own_of, sink_contents, source_remaining}
+use Rattle.sandbox_command.specs.Flushing.{RunAnswered}
+use Rattle.sandbox_command.specs.Sources.{own_of, sink_answered, sink_contents, source_remaining}
 use Rattle.sandbox_command.specs.Status.{file_status}
 use Rattle.sandbox_command.specs.Stopping.{TellsLines}
 use Rattle.sandbox_command.specs.Streams.{AppendsSome}
@@ -49,7 +50,11 @@ module _ {P I O V R W1 W2 : Type 0} (on : Around P I O V R W1 W2) {D : Type 0} (
   abbrev told_in : Sink O W2 → Option (List ℕ)
   told_in own = sink_contents on.written.contents on.err.contents own
 
-  pub runs_with : (bytes items random rest : List ℕ) → bytes ≡ items → random ≡ rest → (left : Executed D (Source I R) (Sink O W1) (Sink O W2)) → Ended bytes random left
+  abbrev Answered : Executed D (Source I R) (Sink O W1) (Sink O W2) → Type 0
+  Answered left = RunAnswered (sink_answered on.flushes.file_flushed on.flushes.out_flushed) (sink_answered on.flushes.file_refuses on.flushes.out_refuses)
+      (sink_answered on.flushes.file_flushed on.flushes.err_flushed) (sink_answered on.flushes.file_refuses on.flushes.err_refuses) left
+
+  pub runs_with : (bytes items random rest : List ℕ) → bytes ≡ items → random ≡ rest → (left : Executed D (Source I R) (Sink O W1) (Sink O W2)) → Ended bytes random left → Answered left
       → (own : Sink O W2) → AppendsSome (told_in (own_of left.err spare.err)) (told_in own) → (all : Left D I O R W1 W2) → all ≡ left_of left spare own
       → (last : Sink O W2) → AppendsSome (told_in all.own) (told_in last)
       → (frames : Text) → TellsLines bytes run.frames left.stopped frames
@@ -57,9 +62,10 @@ module _ {P I O V R W1 W2 : Type 0} (on : Around P I O V R W1 W2) {D : Type 0} (
       → IsProfiled on.places on.written bytes left.stopped run.profile profile handing said handed profiled before summary
       → IsTold on.places on.written run.report report summary frames before profiled told status → on.places.ended (record all { own = last }) told q
       → RunsWith on known HandsIt run items rest device streams spare profile report p q status
-  runs_with bytes items random rest first second left runs own lines all same last more frames are_lines handing said before summary p handed profiled told q status hands profiles tells ended = record {
+  runs_with bytes items random rest first second left runs answered own lines all same last more frames are_lines handing said before summary p handed profiled told q status hands profiles tells ended = record {
     left = left;
     runs = subst (λ (b : List ℕ). Ended b rest left) first (subst (λ (b : List ℕ). Ended bytes b left) second runs);
+    answered = answered;
     handing = handing;
     said = said;
     handed = handed;
@@ -165,9 +171,9 @@ module _ {P I O V R W1 W2 : Type 0} (on : Around P I O V R W1 W2) where
       subst (λ (j : Invocation). IsPerformed on j given p q status) (sym is) (inr (subst (λ (j : Invocation). Clashes j → ⊥) is never, runs))
 
 module _ {P I O V : Type 0} (places : Ghosts P I O V) where
-  pub lines_within : (read : Reader I) (written : Writer O) (run : Run) (list : Text) (p q : P) (status : ℕ) → RunsLines places read written run list p q status → status ≤ 124
-  lines_within read written run list p q status (inl (kind, ends, refused)) = file_within kind status ends
-  lines_within read written run list p q status (inr it) = elim it.runs [
+  pub lines_within : (read : Reader I) (written : Writer O) (flushed refuses : O → O → Type 0) (run : Run) (list : Text) (p q : P) (status : ℕ) → RunsLines places read written flushed refuses run list p q status → status ≤ 124
+  lines_within read written flushed refuses run list p q status (inl (kind, ends, refused)) = file_within kind status ends
+  lines_within read written flushed refuses run list p q status (inr it) = elim it.runs [
     | inl none ↦ (let is = none.0 in omega (arith, is))
     | inr (inl memory) ↦ (let is = memory.0 in omega (arith, is))
     | inr (inr (tests, lists, inl (summary, refused, same))) ↦ of_session refused.fault status refused.ends

@@ -26,8 +26,9 @@ use Rattle.sandbox_command.specs.declared.host_places.HostPlaces.{HostPlaces}
 use Rattle.sandbox_command.specs.declared.host_volume.HostVolume.{HostVolume}
 use Rattle.sandbox_command.specs.declared.streams.Streams.{Streams}
 use Rattle.sandbox_command.specs.Alone.{RunsAlone}
-use Rattle.sandbox_command.specs.Around.{Around, EndsGiven}
+use Rattle.sandbox_command.specs.Around.{Around, EndsGiven, Flushes}
 use Rattle.sandbox_command.specs.Execution.{StaysWithin, Executes}
+use Rattle.sandbox_command.specs.Flushing.{Answered}
 use Rattle.sandbox_command.specs.Formatting.{room_for, version_for}
 use Rattle.sandbox_command.specs.Inspecting.{Inspects}
 use Rattle.sandbox_command.specs.Places.{Access, Gave, HasRoom, Locks, Reads, Took, WasEnded, WasHandedOut, WasRefused, lengthens}
@@ -62,6 +63,7 @@ module _ {P I O V R W1 W2 : Type 0} (on : Around P I O V R W1 W2) where
     pub left : Executed V R W1 W2
     pub executes : Executes on.volume.honest on.volume.disk on.volume.size on.volume.failures on.volume.goes_on on.input.remaining on.out.contents on.err.contents
         does device given.input given.out given.err left
+    pub answered : Answered on.flushes.out_flushed on.flushes.out_refuses left.flushed left.out
     pub stays_within : StaysWithin on.volume.honest on.volume.disk on.volume.size on.volume.goes_on does device left.device
     pub ends : status ≡ left.status
     pub ended : on.places.ended left p q
@@ -82,6 +84,7 @@ module _ {P I O V R W1 W2 : Type 0} (on : Around P I O V R W1 W2) where
   pub record HasInspected (bytes : Text) (given : Streams R W1 W2) (p q : P) (status : ℕ) : Type 0 where
     pub left : Executed (Unit {0}) R W1 W2
     pub inspects : Inspects bytes (on.out.contents given.out) (on.out.contents left.out) left.flushed status
+    pub answered : Answered on.flushes.out_flushed on.flushes.out_refuses left.flushed left.out
     pub input_is : left.input ≡ given.input
     pub lines : AppendsSome (on.err.contents given.err) (on.err.contents left.err)
     pub ended : on.places.ended left p q
@@ -122,8 +125,8 @@ abbrev pub file_disk : HostVolume → Disk
 file_disk d = kept d.device.sectors d.device.moments.unsynced d.device.moments.times
 
 -- Of the bytes of files nothing is known, and what the system did with a name is known to the code alone that asked for it.
-abbrev pub system : {R W1 W2 : Type 0} → Reader R → Writer W1 → Writer W2 → Around HostPlaces File Output HostVolume R W1 W2
-system input out err = record {
+abbrev pub system : {R W1 W2 : Type 0} → Reader R → Writer W1 → Writer W2 → Flushes Output W1 W2 → Around HostPlaces File Output HostVolume R W1 W2
+system input out err flushes = record {
   places = record {
     asked = λ access before after. Unit {0};
     refused = λ access kind before after. WasRefused access kind;
@@ -143,12 +146,13 @@ system input out err = record {
   input = input;
   out = out;
   err = err;
+  flushes = flushes;
 }
 
-module _ {R W1 W2 : Type 0} (input : Reader R) (out : Writer W1) (err : Writer W2) where
+module _ {R W1 W2 : Type 0} (input : Reader R) (out : Writer W1) (err : Writer W2) (flushes : Flushes Output W1 W2) where
   -- on the files that the system has under their names
   abbrev pub IsPerformedOnSystem : Invocation → Streams R W1 W2 → (status : ℕ) → Type 0
-  IsPerformedOnSystem invocation given status = (p : HostPlaces) × (q : HostPlaces) × IsPerformed (system input out err) invocation given p q status
+  IsPerformedOnSystem invocation given status = (p : HostPlaces) × (q : HostPlaces) × IsPerformed (system input out err flushes) invocation given p q status
 
   -- The words can't be read, or the command line is refused. Or what some words ask for is performed.
   abbrev pub IsAnswered : Streams R W1 W2 → (status : ℕ) → Type 0

@@ -5,6 +5,7 @@ pub mod Status
 pub mod Stopping
 pub mod Profiling
 pub mod Streams
+pub mod Flushing
 pub mod Checking
 pub mod Sources
 pub mod Supplies

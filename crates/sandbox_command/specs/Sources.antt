@@ -16,6 +16,13 @@ abbrev pub sink_contents : {F W : Type 0} → (F → Option (List ℕ)) → (W �
 sink_contents of_file contents (sink.Given out) = contents out
 sink_contents of_file contents (sink.Made file) = of_file file
 
+-- one was flushed, or refused that, as the stream or the file in it was or did
+abbrev pub sink_answered : {F W : Type 0} → (F → F → Type 0) → (W → W → Type 0) → Sink F W → Sink F W → Type 0
+sink_answered of_file of_given (sink.Given before) (sink.Given after) = of_given before after
+sink_answered of_file of_given (sink.Given before) (sink.Made after) = ⊥
+sink_answered of_file of_given (sink.Made before) (sink.Given after) = ⊥
+sink_answered of_file of_given (sink.Made before) (sink.Made after) = of_file before after
+
 -- a guest reads the stream that the program was given, or a file where one is named
 abbrev pub source_of : {F R : Type 0} → Option F → R → Source F R
 source_of None input = source.Given input

@@ -4,10 +4,12 @@ ghost use Rattle.std.specs.Prelude.{◌≡◌, ◌++◌, Some, None, OnOk, OnErr
 ghost use Rattle.std.specs.Io.KnownBytes.{Appends, Keeps};
 ghost use Rattle.volume_tasks.specs.Streams.{AppendsPart};
 ghost use Rattle.sandbox_command.specs.Checking.{TellsChecked, checked_damage, damage_lines, place_text};
+ghost use Rattle.sandbox_command.specs.Flushing.{Answered};
 ghost use Rattle.sandbox_command.specs.Status.{ended_status, failure_status};
 
 use crate::ending::ended;
 use crate::explaining::About;
+use crate::outlet::Outlet;
 use crate::program::{Executed, FAULT, left_with};
 use crate::streams::Streams;
 use arrayvec::ArrayVec;
@@ -79,7 +81,7 @@ fn checked_damage(task: Task<'_>, done: Result<(), Failure>) -> Option<Damage>
 
 /// Ends a task as `ended` does, but where a volume that is checked is damaged it also tells where and how, before it says what the
 /// fault means.
-pub(crate) fn ended_task<D: Drop, R: Drop, W1: Write + Drop, W2: Write + Drop>(
+pub(crate) fn ended_task<D: Drop, R: Drop, W1: Outlet + Drop, W2: Write + Drop>(
     task: Task<'_>,
     done: Result<(), Failure>,
     device: D,
@@ -93,12 +95,13 @@ pub(crate) fn ended_task<D: Drop, R: Drop, W1: Write + Drop, W2: Write + Drop>(
     ensures out { Keeps (W1.contents given.out) (W1.contents result.out) }
     ensures err { TellsChecked (checked_damage task.entry done)
         (W2.contents given.err) (W2.contents result.err) }
+    ensures answered { Answered W1.flushed W1.refuses result.flushed result.out }
 {
     let Some(damage) = checked_damage(task, done) else {
         return ended(done, device, given, about);
     };
     let mut given = given;
-    let flushed = given.out.flush().is_ok();
+    let flushed = given.out.try_flush();
     tell_damage(&mut given.err, damage);
     about.tell_of_volume(&mut given.err, VolumeFault::Damaged(damage));
     left_with(FAULT, None, flushed, device, given)

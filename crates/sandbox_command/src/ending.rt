@@ -2,10 +2,12 @@
 
 ghost use Rattle.std.specs.Prelude.{◌≡◌, ℕ, None};
 ghost use Rattle.std.specs.Io.KnownBytes.{Keeps};
+ghost use Rattle.sandbox_command.specs.Flushing.{Answered};
 ghost use Rattle.sandbox_command.specs.Status.{ended_status, export_status, failure_status, import_status, why_status};
 ghost use Rattle.sandbox_command.specs.Streams.{AppendsSome};
 
 use crate::explaining::{About, tell_bytes, tell_of_output, tell_words};
+use crate::outlet::Outlet;
 use crate::output::{tell, tell_of_member};
 use crate::program::{Executed, FAULT, left_with, out_of_memory, refuse_file};
 use crate::streams::Streams;
@@ -177,7 +179,7 @@ pub(crate) fn ended<
     F: Failed + Drop,
     D: Drop,
     R: Drop,
-    W1: Write + Drop,
+    W1: Outlet + Drop,
     W2: Write + Drop,
 >(
     done: Result<X, F>,
@@ -191,9 +193,10 @@ pub(crate) fn ended<
     ensures input { result.input ≡ given.input }
     ensures out { Keeps (W1.contents given.out) (W1.contents result.out) }
     ensures err { AppendsSome (W2.contents given.err) (W2.contents result.err) }
+    ensures answered { Answered W1.flushed W1.refuses result.flushed result.out }
 {
     let mut given = given;
-    let flushed = given.out.flush().is_ok();
+    let flushed = given.out.try_flush();
     let status = match done {
         Ok(_) if flushed => 0,
         Ok(_) => refuse_output(&mut given.err),

@@ -3,8 +3,9 @@
 ghost use Rattle.std.specs.Prelude.{◌≡◌, ◌≤◌, MatchResult};
 ghost use Rattle.std.specs.IoError.{error_kind};
 ghost use Rattle.std.specs.Process.{exit_status};
-ghost use Rattle.sandbox_command.specs.Around.{EndsGiven, around};
+ghost use Rattle.sandbox_command.specs.Around.{EndsGiven, around, flushing};
 ghost use Rattle.sandbox_command.specs.Files.{HasExecuted, IsAnswered, IsPerformed, IsPerformedOnSystem, DoesInspect};
+ghost use Rattle.sandbox_command.specs.Flushing.{HasRefused, WasFlushed};
 ghost use Rattle.sandbox_command.specs.Status.{file_status};
 
 use crate::clashing::clashes;
@@ -12,6 +13,7 @@ use crate::formatting::{room_for, version_for};
 use crate::host_places::HostPlaces;
 use crate::inspecting::inspect;
 use crate::opening::MODULE_READ;
+use crate::outlet::Outlet;
 use crate::places::Places;
 use crate::program;
 use crate::refusals::tell_of_clash;
@@ -21,7 +23,7 @@ use crate::testing::run_list;
 use crate::work::VolumeWork;
 use sandbox_words::{Invocation, Terminals, invocation};
 use std::alloc::Global;
-use std::io::{IsTerminal, Read, Write};
+use std::io::{IsTerminal, Read};
 use std::process::ExitCode;
 use std::{env, io};
 
@@ -42,13 +44,14 @@ fn terminals(rt: &HostRuntime) -> Terminals {
 /// Does what the words of the command line ask for, with these streams, and gives the exit status.
 /// The statuses from 126 on are those of shells and of the script that builds the program, so that
 /// none of them comes from here.
-pub fn exit_code<R: Read + Drop, W1: Write + Drop, W2: Write + Drop>(
+pub fn exit_code<R: Read + Drop, W1: Outlet + Drop, W2: Outlet + Drop>(
     rt: &HostRuntime,
     input: R,
     out: W1,
     mut err: W2,
 ) -> ExitCode
-    ensures tells { IsAnswered R.Read W1.Write W2.Write (record { input = input; out = out; err = err }) (exit_status result) }
+    ensures tells { IsAnswered R.Read W1.Write W2.Write (flushing WasFlushed HasRefused W1.flushed W1.refuses W2.flushed W2.refuses)
+        (record { input = input; out = out; err = err }) (exit_status result) }
     ensures within { exit_status result ≤ 125 }
 {
     let words = match words_given(rt) {
@@ -65,14 +68,15 @@ pub fn exit_code<R: Read + Drop, W1: Write + Drop, W2: Write + Drop>(
 }
 
 /// Does what an invocation asks for on the files of the system, with these streams, and gives the exit status.
-pub fn perform<R: Read + Drop, W1: Write + Drop, W2: Write + Drop>(
+pub fn perform<R: Read + Drop, W1: Outlet + Drop, W2: Outlet + Drop>(
     rt: &HostRuntime,
     invocation: &Invocation<'_>,
     input: R,
     out: W1,
     err: W2,
 ) -> u8
-    ensures tells { IsPerformedOnSystem R.Read W1.Write W2.Write invocation.now (record { input = input; out = out; err = err }) result }
+    ensures tells { IsPerformedOnSystem R.Read W1.Write W2.Write
+        (flushing WasFlushed HasRefused W1.flushed W1.refuses W2.flushed W2.refuses) invocation.now (record { input = input; out = out; err = err }) result }
     ensures within { result ≤ 124 }
 {
     let mut places = HostPlaces::of(rt, invocation);
@@ -88,13 +92,14 @@ pub fn perform<R: Read + Drop, W1: Write + Drop, W2: Write + Drop>(
 /// and its streams; what is done with the volume in a file, which is made or lengthened to be formatted; or what a module is.
 /// Where a file can't be read or written, the status is 124, or 122 where it is out of memory. Options of a run that don't go
 /// together are refused before a file is asked for. All that it was given and all that it opened is given up at the end.
-pub fn perform_in<P: Places, R: Read + Drop, W1: Write + Drop, W2: Write + Drop>(
+pub fn perform_in<P: Places, R: Read + Drop, W1: Outlet + Drop, W2: Outlet + Drop>(
     alloc: Global,
     places: &mut P,
     invocation: &Invocation<'_>,
     given: Streams<R, W1, W2>,
 ) -> u8
-    ensures tells { IsPerformed (around P.Places P.Input.Read P.Output.Write P.Volume.Device R.Read W1.Write W2.Write)
+    ensures tells { IsPerformed (around P.Places P.Input.Read P.Output.Write P.Volume.Device R.Read W1.Write W2.Write
+        (flushing P.Output.flushed P.Output.refuses W1.flushed W1.refuses W2.flushed W2.refuses))
         invocation.now given places.old places.new result }
     ensures within { result ≤ 124 }
 {
@@ -156,13 +161,14 @@ pub fn perform_in<P: Places, R: Read + Drop, W1: Write + Drop, W2: Write + Drop>
 }
 
 /// Says that options don't go together, and gives up the streams.
-fn end_clashing<P: Places, R: Read + Drop, W1: Write + Drop, W2: Write + Drop>(
+fn end_clashing<P: Places, R: Read + Drop, W1: Outlet + Drop, W2: Outlet + Drop>(
     places: &mut P,
     invocation: &Invocation<'_>,
     given: Streams<R, W1, W2>,
 ) -> u8
     ensures status { result ≡ 124 }
-    ensures ends { EndsGiven (around P.Places P.Input.Read P.Output.Write P.Volume.Device R.Read W1.Write W2.Write)
+    ensures ends { EndsGiven (around P.Places P.Input.Read P.Output.Write P.Volume.Device R.Read W1.Write W2.Write
+        (flushing P.Output.flushed P.Output.refuses W1.flushed W1.refuses W2.flushed W2.refuses))
         given places.old places.new }
 {
     let mut given = given;
@@ -175,7 +181,7 @@ fn end_clashing<P: Places, R: Read + Drop, W1: Write + Drop, W2: Write + Drop>(
 /// Does something with the volume on the device of its file, with the streams that were given.
 // A function of its own, since its pieces of files would else be on the stack below a run, too.
 #[inline(never)]
-fn execute_on<P: Places, R: Read + Drop, W1: Write + Drop, W2: Write + Drop>(
+fn execute_on<P: Places, R: Read + Drop, W1: Outlet + Drop, W2: Outlet + Drop>(
     alloc: Global,
     places: &mut P,
     file: &str,
@@ -184,10 +190,12 @@ fn execute_on<P: Places, R: Read + Drop, W1: Write + Drop, W2: Write + Drop>(
     given: Streams<R, W1, W2>,
 ) -> u8
     ensures tells { MatchResult device
-        (λ device. HasExecuted (around P.Places P.Input.Read P.Output.Write P.Volume.Device R.Read W1.Write W2.Write)
+        (λ device. HasExecuted (around P.Places P.Input.Read P.Output.Write P.Volume.Device R.Read W1.Write W2.Write
+        (flushing P.Output.flushed P.Output.refuses W1.flushed W1.refuses W2.flushed W2.refuses))
         work.entry device given places.old places.new result)
         (λ error. (result ≡ file_status (error_kind error))
-        × EndsGiven (around P.Places P.Input.Read P.Output.Write P.Volume.Device R.Read W1.Write W2.Write) given places.old places.new) }
+        × EndsGiven (around P.Places P.Input.Read P.Output.Write P.Volume.Device R.Read W1.Write W2.Write
+        (flushing P.Output.flushed P.Output.refuses W1.flushed W1.refuses W2.flushed W2.refuses)) given places.old places.new) }
     ensures within { result ≤ 124 }
 {
     match device {
@@ -204,13 +212,14 @@ fn execute_on<P: Places, R: Read + Drop, W1: Write + Drop, W2: Write + Drop>(
 /// Tells what the module in a file is.
 // Likewise.
 #[inline(never)]
-fn inspect_file<P: Places, R: Read + Drop, W1: Write + Drop, W2: Write + Drop>(
+fn inspect_file<P: Places, R: Read + Drop, W1: Outlet + Drop, W2: Outlet + Drop>(
     alloc: Global,
     places: &mut P,
     path: &str,
     given: Streams<R, W1, W2>,
 ) -> u8
-    ensures tells { DoesInspect (around P.Places P.Input.Read P.Output.Write P.Volume.Device R.Read W1.Write W2.Write)
+    ensures tells { DoesInspect (around P.Places P.Input.Read P.Output.Write P.Volume.Device R.Read W1.Write W2.Write
+        (flushing P.Output.flushed P.Output.refuses W1.flushed W1.refuses W2.flushed W2.refuses))
         path.now given places.old places.new result }
     ensures within { result ≤ 124 }
 {

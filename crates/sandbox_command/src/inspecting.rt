@@ -2,9 +2,11 @@
 
 ghost use Rattle.std.specs.Prelude.{◌≡◌, IfErr, IfOk};
 ghost use Rattle.std.specs.IoError.{error_kind};
+ghost use Rattle.sandbox_command.specs.Flushing.{Answered};
 ghost use Rattle.sandbox_command.specs.Inspecting.{Inspects, refused_status, survey_status};
 ghost use Rattle.sandbox_command.specs.Streams.{AppendsSome};
 
+use crate::outlet::Outlet;
 use crate::program::{Executed, FAULT, left_with, out_of_memory, refuse_file};
 use crate::streams::Streams;
 use module_survey::{Links, survey};
@@ -59,7 +61,7 @@ fn survey_ended<W: Write>(
 }
 
 /// Prints what the bytes of a module are, or why they are refused, and gives the status with the streams.
-pub(crate) fn inspect<R: Drop, W1: Write + Drop, W2: Write + Drop>(
+pub(crate) fn inspect<R: Drop, W1: Outlet + Drop, W2: Write + Drop>(
     alloc: Global,
     bytes: &[u8],
     given: Streams<R, W1, W2>,
@@ -67,10 +69,11 @@ pub(crate) fn inspect<R: Drop, W1: Write + Drop, W2: Write + Drop>(
     ensures tells { Inspects bytes.now (W1.contents given.out) (W1.contents result.out) result.flushed result.status }
     ensures input { result.input ≡ given.input }
     ensures err { AppendsSome (W2.contents given.err) (W2.contents result.err) }
+    ensures answered { Answered W1.flushed W1.refuses result.flushed result.out }
 {
     let mut given = given;
     let surveyed = survey(alloc, &Served, bytes, &mut given.out);
-    let flushed = given.out.flush().is_ok();
+    let flushed = given.out.try_flush();
     let status = survey_ended(surveyed, flushed, &mut given.err);
     left_with(status, None, flushed, (), given)
 }

@@ -14,6 +14,7 @@ mod host_volume;
 mod inspecting;
 pub mod laws;
 mod opening;
+mod outlet;
 mod output;
 mod places;
 mod possession;
@@ -32,6 +33,7 @@ mod work;
 
 pub use files::{exit_code, perform, perform_in};
 pub use host_volume::HostVolume;
+pub use outlet::Outlet;
 pub use places::Places;
 pub use profiling::FuelUse;
 pub use program::{Executed, execute, refuse_command_line, refuse_words};

@@ -10,12 +10,13 @@ ghost use Rattle.sandbox_device.specs.declared.ram_device.RamDevice.{RamDevice a
 ghost use Rattle.sandbox_command.specs.Profiling.{IsProfile};
 ghost use Rattle.sandbox_command.specs.Places.{Access, Cuts, HandsOut, HasRoom, Locks, Makes, Opens, Prints, Reads, Receives, lengthens};
 
+use crate::outlet::Outlet;
 use run_profile::{Names, Profile};
 use run_report::Summary;
 use sandbox_device::{Hindrance, RamDevice};
 use std::alloc::Global;
 use std::io;
-use std::io::{Read, Write};
+use std::io::Read;
 use vol_sector::Device;
 
 /// Where files stand, each under a name.
@@ -28,7 +29,7 @@ pub trait Places {
     type Input: Read + Drop;
 
     /// A file that is written.
-    type Output: Write + Drop;
+    type Output: Outlet + Drop;
 
     /// A volume in a file.
     type Volume: Device + Drop;

@@ -6,6 +6,7 @@ ghost use Rattle.std.specs.IoError.{error_kind};
 ghost use Rattle.clap.specs.Values.{kind_of};
 ghost use Rattle.sandbox_core.specs.Session.{given};
 ghost use Rattle.run_report.specs.declared.fault.Fault.TheVariants as reason;
+ghost use Rattle.sandbox_command.specs.Flushing.{Answered, BothAnswered, RunAnswered};
 ghost use Rattle.sandbox_command.specs.Status.{status_of, EndsWith, load_status, session_status};
 ghost use Rattle.sandbox_command.specs.Status.{volume_status, words_status, command_line_status};
 ghost use Rattle.sandbox_command.specs.Profiling.{TellsUse, no_stacks};
@@ -21,6 +22,7 @@ ghost use Rattle.sandbox_command.specs.Execution.{RunsOn, Runs, Executes, StaysW
 use crate::checking::ended_task;
 use crate::ending::ended;
 use crate::explaining::About;
+use crate::outlet::Outlet;
 use crate::output::{GREATEST, NOT_COMMITTED, tell, tell_after, tell_fault, tell_outcome};
 use crate::reporting::{
     kept_after_run, kept_where_not_begun, kept_where_refused, not_run, session_reason,
@@ -180,11 +182,15 @@ pub(crate) fn tell_end<W: Write>(err: &mut W, summary: &Summary)
 }
 
 /// Flushes the outputs of a guest, its errors where its output could be: whether both could be.
-fn flush_both<W1: Write, W2: Write>(out: &mut W1, err: &mut W2) -> bool
+fn flush_both<W1: Outlet, W2: Outlet>(out: &mut W1, err: &mut W2) -> bool
     ensures out { Keeps (W1.contents out.old) (W1.contents out.new) }
     ensures err { Keeps (W2.contents err.old) (W2.contents err.new) }
+    ensures answered { BothAnswered W1.flushed W1.refuses W2.flushed W2.refuses result out.new err.new }
 {
-    out.flush().is_ok() && err.flush().is_ok()
+    if !out.try_flush() {
+        return false;
+    }
+    err.try_flush()
 }
 
 /// The status of a run: its outcome's, but where its calls couldn't be committed or the guest's output not be flushed. Gives the
@@ -256,7 +262,7 @@ fn is_broken<D: Device, R, W1, W2>(report: &Report<D, Counted<R>, Counted<W1>, C
 }
 
 /// Ends a run whose streams were counted, and says what its report is. Gives the device of the volume and the streams back.
-pub(crate) fn reported<D: Device + Drop, R: Drop, W1: Write + Drop, W2: Write + Drop>(
+pub(crate) fn reported<D: Device + Drop, R: Drop, W1: Outlet + Drop, W2: Outlet + Drop>(
     run: &Run<'_>,
     report: Report<D, Counted<R>, Counted<W1>, Counted<W2>>,
     tally: Tally,
@@ -269,6 +275,7 @@ pub(crate) fn reported<D: Device + Drop, R: Drop, W1: Write + Drop, W2: Write + 
     ensures input { result.input ≡ report.input.stream }
     ensures out { Keeps (W1.contents report.out.stream) (W1.contents result.out) }
     ensures err { Keeps (W2.contents report.err.stream) (W2.contents result.err) }
+    ensures answered { BothAnswered W1.flushed W1.refuses W2.flushed W2.refuses result.flushed result.out result.err }
 {
     let (cut, broken) = (cut_of(&report), is_broken(&report));
     let Report {
@@ -417,7 +424,7 @@ fn no_volume<D: Drop, R: Drop, W1: Drop, W2: Drop>(
 }
 
 /// Runs a valid module on the volume of a device, with random bytes, and gives the module and the device back.
-pub(crate) fn run_valid<'a, D: Device + Drop, R: Read + Drop, W1: Write + Drop, W2: Write + Drop>(
+pub(crate) fn run_valid<'a, D: Device + Drop, R: Read + Drop, W1: Outlet + Drop, W2: Outlet + Drop>(
     alloc: Global,
     run: &Run<'_>,
     runnable: Runnable<'a>,
@@ -434,6 +441,7 @@ pub(crate) fn run_valid<'a, D: Device + Drop, R: Read + Drop, W1: Write + Drop, 
     ensures fuel_use { TellsUse stacks result.1.stopped }
     ensures runs { RunsOn D.honest D.disk D.size D.failures D.goes_on R.remaining W1.contents W2.contents
         run.now (module_in runnable.entry) random.now device streams.input streams.out streams.err result.1 }
+    ensures answered { RunAnswered W1.flushed W1.refuses W2.flushed W2.refuses result.1 }
 {
     match open_for_run(alloc, volume_of(run), device) {
         Ok(volume) => {
@@ -447,7 +455,7 @@ pub(crate) fn run_valid<'a, D: Device + Drop, R: Read + Drop, W1: Write + Drop, 
 /// Runs a module on the volume of a device, with random bytes, and gives the device back, and the lines of its report that tell where
 /// it stopped. Where there are stacks, they get the units of the run. It prints no line of the program's own: `tell_end` does that,
 /// where the caller wants them.
-pub(crate) fn run<D: Device + Drop, R: Read + Drop, W1: Write + Drop, W2: Write + Drop>(
+pub(crate) fn run<D: Device + Drop, R: Read + Drop, W1: Outlet + Drop, W2: Outlet + Drop>(
     alloc: Global,
     run: &Run<'_>,
     module: &[u8],
@@ -460,6 +468,7 @@ pub(crate) fn run<D: Device + Drop, R: Read + Drop, W1: Write + Drop, W2: Write 
     ensures fuel_use { TellsUse stacks result.0.stopped }
     ensures runs { Runs D.honest D.disk D.size D.failures D.goes_on R.remaining W1.contents W2.contents
         run.now «module».now random.now device streams.input streams.out streams.err result.0 }
+    ensures answered { RunAnswered W1.flushed W1.refuses W2.flushed W2.refuses result.0 }
     ensures lines { TellsLines «module».now run.now.frames result.0.stopped result.1.items }
 {
     let (status, fault) = match supplied(alloc, run) {
@@ -484,7 +493,7 @@ pub(crate) fn run<D: Device + Drop, R: Read + Drop, W1: Write + Drop, W2: Write 
 /// Does something with the volume on a device, and gives the exit status, the device and the streams. What is put into the
 /// volume comes from the input, what is told of it goes to the output, and the program's own lines to the errors, which call the
 /// volume by this name of its file.
-pub fn execute<D: Device + Drop, R: Read + Drop, W1: Write + Drop, W2: Write + Drop>(
+pub fn execute<D: Device + Drop, R: Read + Drop, W1: Outlet + Drop, W2: Write + Drop>(
     alloc: Global,
     file: &str,
     work: VolumeWork<'_>,
@@ -493,6 +502,7 @@ pub fn execute<D: Device + Drop, R: Read + Drop, W1: Write + Drop, W2: Write + D
 ) -> Executed<D, R, W1, W2>
     ensures tells { Executes D.honest D.disk D.size D.failures D.goes_on R.remaining W1.contents W2.contents
         work.entry device given.input given.out given.err result }
+    ensures answered { Answered W1.flushed W1.refuses result.flushed result.out }
     ensures stays_within { StaysWithin D.honest D.disk D.size D.goes_on work.entry device result.device }
     ensures within { result.status ≤ 124 }
 {

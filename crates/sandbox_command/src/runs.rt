@@ -3,7 +3,7 @@
 ghost use Rattle.std.specs.Prelude.{◌≡◌, Some};
 ghost use Rattle.std.specs.IoError.{error_kind};
 ghost use Rattle.sandbox_command.specs.Alone.{Hands, HandsNothing, IsLedger, IsTold, RunsAlone, RunsOnMedium, RunsWith, file_of, stacks_of};
-ghost use Rattle.sandbox_command.specs.Around.{EndsGiven, around, in_memory};
+ghost use Rattle.sandbox_command.specs.Around.{EndsGiven, around, flushing, in_memory};
 ghost use Rattle.sandbox_command.specs.Beginning.{unread};
 ghost use Rattle.sandbox_command.specs.Places.{IsOfName};
 ghost use Rattle.sandbox_command.specs.Status.{file_status};
@@ -12,6 +12,7 @@ ghost use Rattle.sandbox_words.specs.Request.{Text};
 
 use crate::closing::{Ending, finished, handed_out, profiled, refuse, told, unread};
 use crate::opening::{Ledger, Medium, Opened, made_report, open_all};
+use crate::outlet::Outlet;
 use crate::places::Places;
 use crate::program;
 use crate::stopping::no_lines;
@@ -21,7 +22,7 @@ use sandbox_device::RamDevice;
 use sandbox_words::Run;
 use std::alloc::Global;
 use std::io;
-use std::io::{Read, Write};
+use std::io::Read;
 
 /// What a run is given: the bytes of its files, its streams, and those that are spared.
 #[derive(Drop)]
@@ -45,13 +46,14 @@ fn parted<O: Drop>(ledger: Option<Ledger<O>>) -> (Option<Profile>, Option<O>)
 }
 
 /// Opens the files of a run, makes its report, and runs it.
-pub(crate) fn run_alone<P: Places, R: Read + Drop, W1: Write + Drop, W2: Write + Drop>(
+pub(crate) fn run_alone<P: Places, R: Read + Drop, W1: Outlet + Drop, W2: Outlet + Drop>(
     alloc: Global,
     places: &mut P,
     run: &Run<'_>,
     given: Streams<R, W1, W2>,
 ) -> u8
-    ensures { RunsAlone (around P.Places P.Input.Read P.Output.Write P.Volume.Device R.Read W1.Write W2.Write)
+    ensures { RunsAlone (around P.Places P.Input.Read P.Output.Write P.Volume.Device R.Read W1.Write W2.Write
+        (flushing P.Output.flushed P.Output.refuses W1.flushed W1.refuses W2.flushed W2.refuses))
         run.now given places.old places.new result }
 {
     match open_all(alloc, places, run) {
@@ -67,13 +69,14 @@ pub(crate) fn run_alone<P: Places, R: Read + Drop, W1: Write + Drop, W2: Write +
 }
 
 /// Says that a file is refused, and gives up the streams.
-pub(crate) fn end_refused<P: Places, R: Read + Drop, W1: Write + Drop, W2: Write + Drop>(
+pub(crate) fn end_refused<P: Places, R: Read + Drop, W1: Outlet + Drop, W2: Outlet + Drop>(
     places: &mut P,
     error: &io::Error,
     given: Streams<R, W1, W2>,
 ) -> u8
     ensures status { result ≡ file_status (error_kind error.now) }
-    ensures ends { EndsGiven (around P.Places P.Input.Read P.Output.Write P.Volume.Device R.Read W1.Write W2.Write)
+    ensures ends { EndsGiven (around P.Places P.Input.Read P.Output.Write P.Volume.Device R.Read W1.Write W2.Write
+        (flushing P.Output.flushed P.Output.refuses W1.flushed W1.refuses W2.flushed W2.refuses))
         given places.old places.new }
 {
     let mut given = given;
@@ -83,7 +86,7 @@ pub(crate) fn end_refused<P: Places, R: Read + Drop, W1: Write + Drop, W2: Write
 }
 
 /// Says that a file of a run is refused, also in its report, and gives up the streams.
-fn end_unread<P: Places, R: Read + Drop, W1: Write + Drop, W2: Write + Drop>(
+fn end_unread<P: Places, R: Read + Drop, W1: Outlet + Drop, W2: Outlet + Drop>(
     alloc: Global,
     places: &mut P,
     run: &Run<'_>,
@@ -94,7 +97,8 @@ fn end_unread<P: Places, R: Read + Drop, W1: Write + Drop, W2: Write + Drop>(
     requires { IsOfName P.is_output run.now.report report }
     ensures { (told : P) × (lines : Text) × AreLinesOfNone lines
         × IsTold P.Places P.Output.Write run.now.report report (Some (unread run.now (error_kind error.now))) lines (file_status (error_kind error.now)) places.old told result
-        × EndsGiven (around P.Places P.Input.Read P.Output.Write P.Volume.Device R.Read W1.Write W2.Write) given told places.new }
+        × EndsGiven (around P.Places P.Input.Read P.Output.Write P.Volume.Device R.Read W1.Write W2.Write
+        (flushing P.Output.flushed P.Output.refuses W1.flushed W1.refuses W2.flushed W2.refuses)) given told places.new }
 {
     let mut given = given;
     let ending = Ending {
@@ -115,7 +119,7 @@ fn end_unread<P: Places, R: Read + Drop, W1: Write + Drop, W2: Write + Drop>(
 }
 
 /// Runs a module on the files that were opened.
-fn run_opened<P: Places, R: Read + Drop, W1: Write + Drop, W2: Write + Drop>(
+fn run_opened<P: Places, R: Read + Drop, W1: Outlet + Drop, W2: Outlet + Drop>(
     alloc: Global,
     places: &mut P,
     run: &Run<'_>,
@@ -125,7 +129,8 @@ fn run_opened<P: Places, R: Read + Drop, W1: Write + Drop, W2: Write + Drop>(
 ) -> u8
     requires report { IsOfName P.is_output run.now.report report }
     requires profile { IsLedger P.is_output run.now.profile opened.profile }
-    ensures { RunsOnMedium (around P.Places P.Input.Read P.Output.Write P.Volume.Device R.Read W1.Write W2.Write)
+    ensures { RunsOnMedium (around P.Places P.Input.Read P.Output.Write P.Volume.Device R.Read W1.Write W2.Write
+        (flushing P.Output.flushed P.Output.refuses W1.flushed W1.refuses W2.flushed W2.refuses))
         opened.medium run.now opened given report places.old places.new result }
 {
     let Opened {
@@ -161,7 +166,7 @@ fn run_opened<P: Places, R: Read + Drop, W1: Write + Drop, W2: Write + Drop>(
 /// Runs a module on the file of a volume.
 // A function of its own, so that what a run needs for the one device isn't on the stack below the other.
 #[inline(never)]
-fn run_in_file<P: Places, R: Read + Drop, W1: Write + Drop, W2: Write + Drop>(
+fn run_in_file<P: Places, R: Read + Drop, W1: Outlet + Drop, W2: Outlet + Drop>(
     alloc: Global,
     places: &mut P,
     run: &Run<'_>,
@@ -171,7 +176,8 @@ fn run_in_file<P: Places, R: Read + Drop, W1: Write + Drop, W2: Write + Drop>(
 ) -> u8
     requires report { IsOfName P.is_output run.now.report report }
     requires profile { IsLedger P.is_output run.now.profile wired.profile }
-    ensures { RunsWith (around P.Places P.Input.Read P.Output.Write P.Volume.Device R.Read W1.Write W2.Write) P.Volume.Device
+    ensures { RunsWith (around P.Places P.Input.Read P.Output.Write P.Volume.Device R.Read W1.Write W2.Write
+        (flushing P.Output.flushed P.Output.refuses W1.flushed W1.refuses W2.flushed W2.refuses)) P.Volume.Device
         (λ left before said p q status summary. HandsNothing P.Places before said p q status summary)
         run.now wired.«module».items wired.random.items device wired.streams wired.spare (file_of wired.profile) report places.old places.new result }
 {
@@ -196,7 +202,7 @@ fn run_in_file<P: Places, R: Read + Drop, W1: Write + Drop, W2: Write + Drop>(
 
 /// Runs a module on a volume in memory, and hands it out where that is asked for.
 #[inline(never)]
-fn run_in_memory<P: Places, R: Read + Drop, W1: Write + Drop, W2: Write + Drop>(
+fn run_in_memory<P: Places, R: Read + Drop, W1: Outlet + Drop, W2: Outlet + Drop>(
     alloc: Global,
     places: &mut P,
     run: &Run<'_>,
@@ -206,7 +212,8 @@ fn run_in_memory<P: Places, R: Read + Drop, W1: Write + Drop, W2: Write + Drop>(
 ) -> u8
     requires report { IsOfName P.is_output run.now.report report }
     requires profile { IsLedger P.is_output run.now.profile wired.profile }
-    ensures { RunsWith (around P.Places P.Input.Read P.Output.Write P.Volume.Device R.Read W1.Write W2.Write) in_memory
+    ensures { RunsWith (around P.Places P.Input.Read P.Output.Write P.Volume.Device R.Read W1.Write W2.Write
+        (flushing P.Output.flushed P.Output.refuses W1.flushed W1.refuses W2.flushed W2.refuses)) in_memory
         (λ left before said p q status summary. Hands P.Places run.now.volume_out left before said p q status summary)
         run.now wired.«module».items wired.random.items device wired.streams wired.spare (file_of wired.profile) report places.old places.new result }
 {

@@ -3,6 +3,7 @@
 ghost use Rattle.std.specs.Prelude.{◌≡◌, None, IfSome, Some, length};
 ghost use Rattle.sandbox_core.specs.Devices.{devices};
 ghost use Rattle.sandbox_core.specs.Session.{limited_to, used_by};
+ghost use Rattle.sandbox_command.specs.Flushing.{BothAnswered, RunAnswered};
 ghost use Rattle.sandbox_command.specs.Profiling.{IsThere, IsUseWith, ReportsCharged, TellsUse, no_stacks, slice_of};
 ghost use Rattle.sandbox_command.specs.Reporting.{counting, output_of};
 ghost use Rattle.sandbox_command.specs.Running.{Launches};
@@ -11,6 +12,7 @@ ghost use Rattle.sandbox_command.specs.internal.Runnable.{IsReadyFor, module_in}
 ghost use Rattle.sandbox_command.specs.internal.Seeds.{prepared_by, with_seed, with_terminals};
 ghost use Rattle.sandbox_command.specs.internal.Sessions.{RunsSession};
 
+use crate::outlet::Outlet;
 use crate::profiling::{FuelUse, slice_of};
 use crate::program::{Executed, no_session, reported};
 use crate::runnable::Runnable;
@@ -182,13 +184,14 @@ where
     S: Resumable<D, Counted<R>, Counted<W1>, Counted<W2>>,
     D: Device + Drop,
     R: Read + Drop,
-    W1: Write + Drop,
-    W2: Write + Drop,
+    W1: Outlet + Drop,
+    W2: Outlet + Drop,
     requires begun { (used_by (S.state session) ≡ 0) × ((S.state session).host.generator ≡ None)
         × ((S.state session).host.interactive ≡ None) }
     requires new { IfSome stacks (λ s. s ≡ no_stacks) }
     ensures kept { S.gives_back (S.state session).machine.valid result.0 }
     ensures fuel_use { TellsUse stacks result.1.stopped }
+    ensures answered { BothAnswered W1.flushed W1.refuses W2.flushed W2.refuses result.1.flushed result.1.out result.1.err }
     ensures ran { RunsSession D.honest D.disk D.size D.failures D.goes_on R.remaining W1.contents W2.contents
         run.now imported (S.state session) result.1 }
 {
@@ -232,7 +235,7 @@ fn counted_parts<'s, 't, D: Device, R, W1, W2>(
 
 /// Runs a valid module, of which nothing is prepared, with these settings on an open volume. Gives the module and the volume's device
 /// back. Where there are stacks, they get the units of the run.
-fn launch_bare<'a, D: Device + Drop, R: Read + Drop, W1: Write + Drop, W2: Write + Drop>(
+fn launch_bare<'a, D: Device + Drop, R: Read + Drop, W1: Outlet + Drop, W2: Outlet + Drop>(
     alloc: Global,
     run: &Run<'_>,
     valid: Valid<'a>,
@@ -244,6 +247,7 @@ fn launch_bare<'a, D: Device + Drop, R: Read + Drop, W1: Write + Drop, W2: Write
     ensures fuel_use { TellsUse stacks result.1.stopped }
     ensures launches { Launches D.honest D.disk D.size D.failures D.goes_on R.remaining W1.contents W2.contents
         valid.entry run.now parts.entry result.1 }
+    ensures answered { RunAnswered W1.flushed W1.refuses W2.flushed W2.refuses result.1 }
 {
     let HostParts {
         settings,
@@ -266,7 +270,7 @@ fn launch_bare<'a, D: Device + Drop, R: Read + Drop, W1: Write + Drop, W2: Write
 }
 
 /// Runs a prepared module in the same way. Gives the volume's device back.
-fn launch_prepared<D: Device + Drop, R: Read + Drop, W1: Write + Drop, W2: Write + Drop>(
+fn launch_prepared<D: Device + Drop, R: Read + Drop, W1: Outlet + Drop, W2: Outlet + Drop>(
     alloc: Global,
     run: &Run<'_>,
     shared: &SharedModule<'_>,
@@ -278,6 +282,7 @@ fn launch_prepared<D: Device + Drop, R: Read + Drop, W1: Write + Drop, W2: Write
     ensures fuel_use { TellsUse stacks result.stopped }
     ensures launches { Launches D.honest D.disk D.size D.failures D.goes_on R.remaining W1.contents W2.contents
         shared.now.valid run.now parts.entry result }
+    ensures answered { RunAnswered W1.flushed W1.refuses W2.flushed W2.refuses result }
 {
     let HostParts {
         settings,
@@ -299,7 +304,7 @@ fn launch_prepared<D: Device + Drop, R: Read + Drop, W1: Write + Drop, W2: Write
 
 /// Runs a module with these settings on an open volume. Gives the module and the volume's device back. Where there are stacks, they
 /// get the units of the run.
-pub(crate) fn launch<'a, D: Device + Drop, R: Read + Drop, W1: Write + Drop, W2: Write + Drop>(
+pub(crate) fn launch<'a, D: Device + Drop, R: Read + Drop, W1: Outlet + Drop, W2: Outlet + Drop>(
     alloc: Global,
     run: &Run<'_>,
     runnable: Runnable<'a>,
@@ -312,6 +317,7 @@ pub(crate) fn launch<'a, D: Device + Drop, R: Read + Drop, W1: Write + Drop, W2:
     ensures fuel_use { TellsUse stacks result.1.stopped }
     ensures launches { Launches D.honest D.disk D.size D.failures D.goes_on R.remaining W1.contents W2.contents
         (module_in runnable.entry) run.now parts.entry result.1 }
+    ensures answered { RunAnswered W1.flushed W1.refuses W2.flushed W2.refuses result.1 }
 {
     match runnable {
         Runnable::Prepared(shared) => {

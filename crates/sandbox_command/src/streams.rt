@@ -3,6 +3,7 @@
 ghost use Rattle.std.specs.Prelude.{◌≡◌, None};
 ghost use Rattle.sandbox_command.specs.Sources.{guest_of, own_of, sink_of, source_of, spare_of};
 
+use crate::outlet::Outlet;
 use std::io;
 use std::io::{Read, Write};
 
@@ -61,6 +62,21 @@ impl<F: Write, W: Write> Write for Sink<F, W> {
         match self {
             Sink::Given(out) => out.flush(),
             Sink::Made(file) => file.flush(),
+        }
+    }
+}
+
+impl<F: Outlet, W: Outlet> Outlet for Sink<F, W> {
+    ghost use Rattle.sandbox_command.specs.Sources.{sink_answered};
+
+    ghost flushed = { sink_answered F.flushed W.flushed };
+
+    ghost refuses = { sink_answered F.refuses W.refuses };
+
+    fn try_flush(&mut self) -> bool {
+        match self {
+            Sink::Given(out) => out.try_flush(),
+            Sink::Made(file) => file.try_flush(),
         }
     }
 }

@@ -3,7 +3,7 @@
 ghost use Rattle.std.specs.Prelude.{◌≡◌, ◌⊎◌, ◌↔◌, ◌++◌, ◌∷◌, IfErr, IfOk, IsTrue, MatchOption, MatchResult, string_bytes};
 ghost use Rattle.std.specs.IoError.{error_kind};
 ghost use Rattle.sandbox_core.specs.declared.fault.SessionFault.TheVariants as opening;
-ghost use Rattle.sandbox_command.specs.Around.{around};
+ghost use Rattle.sandbox_command.specs.Around.{around, flushing};
 ghost use Rattle.sandbox_command.specs.Places.{IsRefusedAmong};
 ghost use Rattle.sandbox_command.specs.Status.{session_status};
 ghost use Rattle.sandbox_command.specs.Testing.{AreRead, HasFailed, HasNoTest, HasRun, IsNoTest, IsTest, IsTestedOrUnread, IsWord, LacksFiles, Lists, RunsLines, RunsList, RunsTests, line_of, list_accesses};
@@ -15,6 +15,7 @@ ghost use Rattle.sandbox_command.specs.Streams.{AppendsSome};
 use crate::closing::{refuse, unread};
 use crate::explaining::{tell_of_fault, tell_words};
 use crate::opening::{memory_of, read_files};
+use crate::outlet::Outlet;
 use crate::output::tell_fault;
 use crate::places::Places;
 use crate::program::{load_status, refuse_file, run_valid, session_status};
@@ -144,7 +145,7 @@ fn tested<'m, P: Places>(
     requires supplied { AreSupplies run.now supplies.now }
     requires ready { IsReadyFor run.now.limits.pages runnable }
     ensures module { result.0 ≡ runnable.entry }
-    ensures tested { IsTestedOrUnread P.Places P.Input.Read P.Output.Write run.now files.entry.«module».now (module_in runnable.entry) files.entry.random.now test.entry
+    ensures tested { IsTestedOrUnread P.Places P.Input.Read P.Output.Write P.Output.flushed P.Output.refuses run.now files.entry.«module».now (module_in runnable.entry) files.entry.random.now test.entry
         places.old places.new result.1 result.2.items }
 {
     match prepare(alloc, places, run, test) {
@@ -203,8 +204,8 @@ fn run_test<'m, P: Places>(
     requires ready { IsReadyFor run.now.limits.pages runnable }
     ensures module { result.0 ≡ runnable.entry }
     ensures ends { OneEndsAs
-        (HasRun P.Places P.Input.Read P.Output.Write run.now files.entry.«module».now (module_in runnable.entry) files.entry.random.now)
-        (HasFailed P.Places P.Input.Read P.Output.Write run.now files.entry.«module».now (module_in runnable.entry) files.entry.random.now)
+        (HasRun P.Places P.Input.Read P.Output.Write P.Output.flushed P.Output.refuses run.now files.entry.«module».now (module_in runnable.entry) files.entry.random.now)
+        (HasFailed P.Places P.Input.Read P.Output.Write P.Output.flushed P.Output.refuses run.now files.entry.«module».now (module_in runnable.entry) files.entry.random.now)
         result.1 test.entry places.old places.new }
 {
     let Ok(report) = places.make(test.report) else {
@@ -232,8 +233,8 @@ fn run_all<'m, P: Places>(
     requires supplied { AreSupplies run.now supplies.now }
     requires ready { IsReadyFor run.now.limits.pages runnable }
     ensures { AllEndAs
-        (HasRun P.Places P.Input.Read P.Output.Write run.now files.entry.«module».now (module_in runnable.entry) files.entry.random.now)
-        (HasFailed P.Places P.Input.Read P.Output.Write run.now files.entry.«module».now (module_in runnable.entry) files.entry.random.now)
+        (HasRun P.Places P.Input.Read P.Output.Write P.Output.flushed P.Output.refuses run.now files.entry.«module».now (module_in runnable.entry) files.entry.random.now)
+        (HasFailed P.Places P.Input.Read P.Output.Write P.Output.flushed P.Output.refuses run.now files.entry.«module».now (module_in runnable.entry) files.entry.random.now)
         result tests.now places.old places.new }
 {
     let mut runnable = runnable;
@@ -312,7 +313,7 @@ fn run_tests<P: Places, W: Write>(
     tests: &[Test<'_>],
     err: &mut W,
 ) -> u8
-    ensures runs { RunsTests P.Places P.Input.Read P.Output.Write run.now «module».now random.now tests.now places.old places.new result }
+    ensures runs { RunsTests P.Places P.Input.Read P.Output.Write P.Output.flushed P.Output.refuses run.now «module».now random.now tests.now places.old places.new result }
     ensures line { AppendsSome (W.contents err.old) (W.contents err.new) }
 {
     let supplies = match supplied(alloc, run) {
@@ -364,7 +365,7 @@ fn run_lines<P: Places, W: Write>(
     list: &str,
     err: &mut W,
 ) -> u8
-    ensures runs { RunsLines P.Places P.Input.Read P.Output.Write run.now list.now places.old places.new result }
+    ensures runs { RunsLines P.Places P.Input.Read P.Output.Write P.Output.flushed P.Output.refuses run.now list.now places.old places.new result }
     ensures line { AppendsSome (W.contents err.old) (W.contents err.new) }
 {
     let (text, module, random) = match list_and_files(alloc, places, run, list) {
@@ -389,14 +390,15 @@ fn run_lines<P: Places, W: Write>(
 /// which it uses `err` alone, and gives the status.
 // A function of its own, since what it needs would else be on the stack below a run alone, too.
 #[inline(never)]
-pub fn run_list<P: Places, R: Read + Drop, W1: Write + Drop, W2: Write + Drop>(
+pub fn run_list<P: Places, R: Read + Drop, W1: Outlet + Drop, W2: Outlet + Drop>(
     alloc: Global,
     places: &mut P,
     run: &Run<'_>,
     list: &str,
     given: Streams<R, W1, W2>,
 ) -> u8
-    ensures { RunsList (around P.Places P.Input.Read P.Output.Write P.Volume.Device R.Read W1.Write W2.Write)
+    ensures { RunsList (around P.Places P.Input.Read P.Output.Write P.Volume.Device R.Read W1.Write W2.Write
+        (flushing P.Output.flushed P.Output.refuses W1.flushed W1.refuses W2.flushed W2.refuses))
         run.now list.now given places.old places.new result }
 {
     let mut given = given;

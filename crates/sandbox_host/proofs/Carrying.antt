@@ -1,5 +1,5 @@
 -- The sectors that a finished session leaves are opened again.
-use Rattle.std.proofs.Common.{◌≡◌, ◌≤◌, ℕ, List, [], ◌∷◌, length, take, Result, Ok, Err, ⊎_elim, refl, ap, sym, subst, ◌∙◌, arith}
+use Rattle.std.proofs.Common.{◌≡◌, ◌≤◌, ℕ, Bool, List, [], ◌∷◌, length, take, Result, Ok, Err, ⊎_elim, refl, ap, sym, subst, ◌∙◌, arith}
 use Rattle.vol_sector.specs.Disk.{Image}
 use Rattle.vol_sector.specs.Record.{image_of}
 use Rattle.vol_sector.specs.declared.fault.Refused.{Refused}
@@ -24,7 +24,7 @@ use Rattle.sandbox_host.specs.declared.supplies.Supplies.{Supplies}
 use Rattle.sandbox_host.specs.declared.volumes.Origin.{Origin}
 use Rattle.sandbox_host.specs.declared.volumes.Origin.TheVariants.{Fresh, Sectors}
 use Rattle.sandbox_host.specs.Host.{State, HostVolume, Commits, known, size_of}
-use Rattle.sandbox_host.specs.Volumes.{IsVolume, RefusesSectors}
+use Rattle.sandbox_host.specs.Volumes.{IsVolume, RefusesSectors, is_huge, most_sectors}
 use Rattle.sandbox_host.specs.Sessions.{Begins, Finishes, returned_device, commit_number}
 use Rattle.sandbox_host.specs.Headline.{Resumed}
 use Rattle.sandbox_host.specs.Carried.{OpensAgain, FitsDevice, IsCarried, IsCarriedOn}
@@ -40,24 +40,24 @@ known_version One unknown = unknown.0 refl
 known_version Two unknown = unknown.1 refl
 known_version Four unknown = unknown.2 refl
 
-only_memory : (sectors : List (List ℕ)) (numbers : Superblock) (tree : Tree) → StandsOn (length sectors) (image_of sectors) numbers tree → length sectors ≤ 65536
-    → (f : VolumeFault) → RefusesSectors sectors f → f ≡ fault.Memory
-only_memory sectors numbers tree on few fault.NotAVolume none =
+only_memory : (huge : Bool) (sectors : List (List ℕ)) (numbers : Superblock) (tree : Tree) → StandsOn (length sectors) (image_of sectors) numbers tree → length sectors ≤ most_sectors huge
+    → (f : VolumeFault) → RefusesSectors huge sectors f → f ≡ fault.Memory
+only_memory huge sectors numbers tree on few fault.NotAVolume none =
     absurd (⊎_elim (λ short. omega (arith, short, on.room, on.stands.ranges.least)) (λ other. other (ap (take 8) on.stands.front)) none)
-only_memory sectors numbers tree on few fault.Version wrong =
+only_memory huge sectors numbers tree on few fault.Version wrong =
     absurd (known_version numbers.version (subst IsNoVersion (version_is (image_of sectors 0) numbers on.stands.front) wrong.version))
-only_memory sectors numbers tree on few (fault.Damaged damage) wrong = absurd (wrong.none numbers tree on)
-only_memory sectors numbers tree on few fault.Device wrong = absurd wrong
-only_memory sectors numbers tree on few fault.TooSmall wrong = absurd wrong
-only_memory sectors numbers tree on few fault.Upgraded wrong = absurd wrong
-only_memory sectors numbers tree on few fault.Geometry many = absurd (omega (arith, many, few))
-only_memory sectors numbers tree on few fault.Memory _ = refl
+only_memory huge sectors numbers tree on few (fault.Damaged damage) wrong = absurd (wrong.none numbers tree on)
+only_memory huge sectors numbers tree on few fault.Device wrong = absurd wrong
+only_memory huge sectors numbers tree on few fault.TooSmall wrong = absurd wrong
+only_memory huge sectors numbers tree on few fault.Upgraded wrong = absurd wrong
+only_memory huge sectors numbers tree on few fault.Geometry many = absurd (omega (arith, many, few))
+only_memory huge sectors numbers tree on few fault.Memory _ = refl
 
-opens_again : OneTree → (sectors : List (List ℕ)) (numbers : Superblock) (tree : Tree) → StandsAs (image_of sectors) numbers tree → numbers.sectors ≤ length sectors → length sectors ≤ 65536
-    → OpensAgain sectors numbers tree
-opens_again one sectors numbers tree stands room few = record {
+opens_again : OneTree → (huge : Bool) (sectors : List (List ℕ)) (numbers : Superblock) (tree : Tree) → StandsAs (image_of sectors) numbers tree → numbers.sectors ≤ length sectors → length sectors ≤ most_sectors huge
+    → OpensAgain huge sectors numbers tree
+opens_again one huge sectors numbers tree stands room few = record {
   same = λ v is. one (image_of sectors) v.numbers numbers v.tree tree is.stands.stands stands;
-  only_memory = only_memory sectors numbers tree (record { stands = stands; room = room }) few;
+  only_memory = only_memory huge sectors numbers tree (record { stands = stands; room = room }) few;
 }
 
 -- ---- what a commit that succeeded leaves
@@ -80,9 +80,9 @@ left_by : (s : State) (e : Ended) → Finishes s e 0 → Leaves s.host.volume e.
 left_by s e ends = leaves s.host.volume ends.volume e.device ends.commits ends.device ends.number_told
 
 pub carried : OneTree → IsCarried
-carried one s e fits ends =
+carried one huge s e fits ends =
     let left = left_by s e ends in
-    opens_again one e.device.sectors s.host.volume.numbers s.host.volume.tree left.stands (omega (arith, left.size, fits.room)) (omega (arith, left.size, fits.few))
+    opens_again one huge e.device.sectors s.host.volume.numbers s.host.volume.tree left.stands (omega (arith, left.size, fits.room)) (omega (arith, left.size, fits.few))
 
 -- ---- from the opening on
 
@@ -108,12 +108,12 @@ resumed_same s s' (r ∷ rs) is =
     let more = resumed_same r.1 s' rs is.1 in
     same_then s.host.volume r.1.host.volume s'.host.volume (record { numbers = is.0.1.resumes.numbers; size = is.0.1.resumes.size; goes = is.0.1.resumes.goes }) more
 
-fits_at_first : (origin : Origin) (v : HostVolume) → IsVolume origin v → FitsDevice v
+fits_at_first : (origin : Origin) (v : HostVolume) → IsVolume origin v → FitsDevice (is_huge origin) v
 fits_at_first Fresh v is = record { room = omega (arith, is.size, ap (λ (n : Superblock). n.sectors) is.numbers); few = omega (arith, is.size) }
-fits_at_first (Sectors sectors recorded) v is = record { room = omega (arith, is.is_in.size, is.is_in.stands.room); few = omega (arith, is.is_in.size, is.is_in.few) }
+fits_at_first (Sectors sectors recorded huge) v is = record { room = omega (arith, is.is_in.size, is.is_in.stands.room); few = omega (arith, is.is_in.size, is.is_in.few) }
 
-fits_then : (old new : HostVolume) → Same old new → FitsDevice old → FitsDevice new
-fits_then old new same fits = record {
+fits_then : (huge : Bool) (old new : HostVolume) → Same old new → FitsDevice huge old → FitsDevice huge new
+fits_then huge old new same fits = record {
   room = omega (arith, same.size, ap (λ (n : Superblock). n.sectors) same.numbers, fits.room);
   few = omega (arith, same.size, fits.few);
 }
@@ -132,5 +132,5 @@ carried_on one m supplies origin s s' rs e begins resumed ends =
     let last : HostVolume = s'.host.volume in
     let resumes = resumed_same s s' rs resumed in
     let same : Same first last = same_then first s.host.volume last (begun_same m supplies origin s begins) resumes in
-    let again = carried one s' e (fits_then first last same (fits_at_first origin first begins.is_volume)) ends in
-    ((left_by s' e ends).size ∙ same.size, subst (λ (n : Superblock). OpensAgain e.device.sectors n last.tree) same.numbers again)
+    let again = carried one (is_huge origin) s' e (fits_then (is_huge origin) first last same (fits_at_first origin first begins.is_volume)) ends in
+    ((left_by s' e ends).size ∙ same.size, subst (λ (n : Superblock). OpensAgain (is_huge origin) e.device.sectors n last.tree) same.numbers again)

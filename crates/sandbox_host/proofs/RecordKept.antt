@@ -31,10 +31,10 @@ goes_from_itself end d = record {
 went : (a b : HostVolume) → GoesOn known.device.goes_on a b → device.GoesOn a.numbers.sectors a.device b.device
 went a b goes = goes a.numbers.sectors (omega arith) a.device (goes_from_itself a.numbers.sectors a.device)
 
-module _ (m : Module) (supplies : Supplies) (sectors : Bor (List (List ℕ))) (recorded : Bool) (s old : State) (rs : List (Told × State))
-    (begins : Begins m supplies (Sectors sectors recorded) s) (resumed : Resumed s rs old) where
+module _ (m : Module) (supplies : Supplies) (sectors : Bor (List (List ℕ))) (recorded huge : Bool) (s old : State) (rs : List (Told × State))
+    (begins : Begins m supplies (Sectors sectors recorded huge) s) (resumed : Resumed s rs old) where
   so_far : Same begins.volume old.host.volume
-  so_far = same_then begins.volume s.host.volume old.host.volume (begun_same m supplies (Sectors sectors recorded) s begins) (resumed_same s old rs resumed)
+  so_far = same_then begins.volume s.host.volume old.host.volume (begun_same m supplies (Sectors sectors recorded huge) s begins) (resumed_same s old rs resumed)
 
   kept_then : (new : HostVolume) → Same old.host.volume new → KeepsRecord sectors.now recorded old.host.volume.device new.device
   kept_then new same =
@@ -48,11 +48,11 @@ module _ (m : Module) (supplies : Supplies) (sectors : Bor (List (List ℕ))) (r
       }
 
 pub kept_so_far : IsRecordKeptSoFar
-kept_so_far m supplies sectors recorded s old new rs more begins resumed later =
-    kept_then m supplies sectors recorded s old rs begins resumed new.host.volume (resumed_same old new more later)
+kept_so_far m supplies sectors recorded huge s old new rs more begins resumed later =
+    kept_then m supplies sectors recorded huge s old rs begins resumed new.host.volume (resumed_same old new more later)
 
 pub kept : IsRecordKept
-kept m supplies sectors recorded s s' rs e number begins resumed ends =
+kept m supplies sectors recorded huge s s' rs e number begins resumed ends =
     let commits = ends.commits in
-    let last = kept_then m supplies sectors recorded s s' rs begins resumed commits.new (record { numbers = commits.kept.numbers; size = commits.kept.size; goes = commits.goes }) in
+    let last = kept_then m supplies sectors recorded huge s s' rs begins resumed commits.new (record { numbers = commits.kept.numbers; size = commits.kept.size; goes = commits.goes }) in
     subst (λ (d : RecordedDevice). KeepsRecord sectors.now recorded s'.host.volume.device d) (sym (ends.device ∙ committed s'.host.volume ends.volume commits)) last

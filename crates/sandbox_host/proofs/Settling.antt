@@ -93,9 +93,9 @@ committed v (Ok w) commits = ap (λ (x : HostVolume). x.device) commits.handed_b
 committed v (Err r) commits = commits.handed_back.0
 
 -- from an opening over sectors on
-all_left : OneTree → (m : Module) (supplies : Supplies) (sectors : Bor (List (List ℕ))) (recorded : Bool) (s s' : State) (rs : List (Told × State))
-    → (begins : Begins m supplies (Sectors sectors recorded) s) → Resumed s rs s' → (d : Image) → Left s'.host.volume.device d → StandsForOne begins.volume.numbers s.host.volume.tree rs d
-all_left one m supplies sectors recorded s s' rs begins resumed d now =
+all_left : OneTree → (m : Module) (supplies : Supplies) (sectors : Bor (List (List ℕ))) (recorded huge : Bool) (s s' : State) (rs : List (Told × State))
+    → (begins : Begins m supplies (Sectors sectors recorded huge) s) → Resumed s rs s' → (d : Image) → Left s'.host.volume.device d → StandsForOne begins.volume.numbers s.host.volume.tree rs d
+all_left one m supplies sectors recorded huge s s' rs begins resumed d now =
     ⊎_elim (λ none. absurd none) (λ is. is) (resumes_left one begins.volume.numbers (λ i. ⊥) (λ i j U none a b. none) s s' rs resumed begins.shares.reads.kept.numbers at_first d now)
   where
     at_first : (i : Image) → Left s.host.volume.device i → ⊥ ⊎ StandsAs i begins.volume.numbers s.host.volume.tree
@@ -105,9 +105,9 @@ numbers_then : (m : Module) (supplies : Supplies) (origin : Origin) (s s' : Stat
 numbers_then m supplies origin s s' rs begins resumed = (resumed_same s s' rs resumed).numbers ∙ begins.shares.reads.kept.numbers
 
 pub settled_so_far : OneTree → ((d : RecordedDevice) → IsFollowed d) → IsSettledSoFar
-settled_so_far one followed m supplies sectors recorded s s' rs k c begins resumed le left =
+settled_so_far one followed m supplies sectors recorded huge s s' rs k c begins resumed le left =
     subst (λ (t : Tree). StandsForOne begins.volume.numbers t rs c) (begins.shares.reads.tree tt)
-    (all_left one m supplies sectors recorded s s' rs begins resumed c ((followed s'.host.volume.device).stops k c le left))
+    (all_left one m supplies sectors recorded huge s s' rs begins resumed c ((followed s'.host.volume.device).stops k c le left))
 
 -- a call that is told by such a number is one that syncs
 is_sync_by : (c : HostCall) → IsTrue (call_number c == 20 || call_number c == 21) → IsTrue (is_sync c)
@@ -129,18 +129,18 @@ told_synced Spent h used c is stands left = absurd (omega (arith, is.called))
 told_synced (Ended outcome) h used c is stands left = absurd (no_end outcome used is.called)
 
 pub sync_settled : IsSyncSettled
-sync_settled m supplies sectors recorded s old new rs told units c begins resumed paused tells left =
-    subst (λ (v : Superblock). StandsAs c v new.host.volume.tree) (paused.resumes.numbers ∙ numbers_then m supplies (Sectors sectors recorded) s old rs begins resumed)
+sync_settled m supplies sectors recorded huge s old new rs told units c begins resumed paused tells left =
+    subst (λ (v : Superblock). StandsAs c v new.host.volume.tree) (paused.resumes.numbers ∙ numbers_then m supplies (Sectors sectors recorded huge) s old rs begins resumed)
     (told_synced paused.pause new.host (used_by new) c (subst TellsSync paused.tells tells) (paused.resumes.synced tt) left)
 
 pub settled : OneTree → ((d : RecordedDevice) → IsFollowed d) → IsSettled
-settled one followed m supplies sectors recorded s s' rs e number k c begins resumed ends le left =
+settled one followed m supplies sectors recorded huge s s' rs e number k c begins resumed ends le left =
     let v = begins.volume.numbers in
     let same : s.host.volume.tree ≡ begins.volume.tree = begins.shares.reads.tree tt in
     let T : Tree = s.host.volume.tree in
     let last : RecordedDevice = s'.host.volume.device in
-    let all : (d : Image) → Left last d → StandsForOne v T rs d = all_left one m supplies sectors recorded s s' rs begins resumed in
-    let numbers : s'.host.volume.numbers ≡ v = numbers_then m supplies (Sectors sectors recorded) s s' rs begins resumed in
+    let all : (d : Image) → Left last d → StandsForOne v T rs d = all_left one m supplies sectors recorded huge s s' rs begins resumed in
+    let numbers : s'.host.volume.numbers ≡ v = numbers_then m supplies (Sectors sectors recorded huge) s s' rs begins resumed in
     let commits = ends.commits in
     let turn = subst (λ (n : Superblock). Leaves (disk_of last) (disk_of commits.new.device) (ReflectsOr (disk_of last) n s'.host.volume.tree)) numbers (commits.crash tt) in
     let moment : Left commits.new.device c = subst (λ (d : RecordedDevice). Left d c) (ends.device ∙ committed s'.host.volume ends.volume commits) ((followed e.device).stops k c le left) in

@@ -28,27 +28,27 @@ StandsForOne v tree (r ∷ rs) c = StandsAs c v tree ⊎ StandsForOne v r.1.host
 -- From an opening over sectors, over any resumes, to the end: on a disk that has the sectors that the device began with the
 -- first k writes and syncs are done. What a crash leaves of it stands for the tree at the opening, or after a resume.
 abbrev pub IsSettled : Type 0
-IsSettled = (m : Module) (supplies : Supplies) (sectors : Bor (List (List ℕ))) (recorded : Bool) (s s' : State) (rs : List (Told × State)) (e : Ended) (number k : ℕ) (c : Image)
-    → (begins : Begins m supplies (Sectors sectors recorded) s) → Resumed s rs s' → Finishes s' e number
+IsSettled = (m : Module) (supplies : Supplies) (sectors : Bor (List (List ℕ))) (recorded huge : Bool) (s s' : State) (rs : List (Told × State)) (e : Ended) (number k : ℕ) (c : Image)
+    → (begins : Begins m supplies (Sectors sectors recorded huge) s) → Resumed s rs s' → Finishes s' e number
     → k ≤ length (done_on e.device) → LeftBy (initial_image e.device) (take k (done_on e.device)) c
     → StandsForOne begins.volume.numbers begins.volume.tree rs c
 
 -- The same of a session that still runs, after any resumes: the first k that it has done by then.
 abbrev pub IsSettledSoFar : Type 0
-IsSettledSoFar = (m : Module) (supplies : Supplies) (sectors : Bor (List (List ℕ))) (recorded : Bool) (s s' : State) (rs : List (Told × State)) (k : ℕ) (c : Image)
-    → (begins : Begins m supplies (Sectors sectors recorded) s) → Resumed s rs s'
+IsSettledSoFar = (m : Module) (supplies : Supplies) (sectors : Bor (List (List ℕ))) (recorded huge : Bool) (s s' : State) (rs : List (Told × State)) (k : ℕ) (c : Image)
+    → (begins : Begins m supplies (Sectors sectors recorded huge) s) → Resumed s rs s'
     → k ≤ length (done_on s'.host.volume.device) → LeftBy (initial_image s'.host.volume.device) (take k (done_on s'.host.volume.device)) c
     → StandsForOne begins.volume.numbers begins.volume.tree rs c
 
 -- What a host is told of a session's record only grows: after more resumes, and at the end, it begins with what was told before.
 abbrev pub IsRecordKeptSoFar : Type 0
-IsRecordKeptSoFar = (m : Module) (supplies : Supplies) (sectors : Bor (List (List ℕ))) (recorded : Bool) (s old new : State) (rs more : List (Told × State))
-    → Begins m supplies (Sectors sectors recorded) s → Resumed s rs old → Resumed old more new
+IsRecordKeptSoFar = (m : Module) (supplies : Supplies) (sectors : Bor (List (List ℕ))) (recorded huge : Bool) (s old new : State) (rs more : List (Told × State))
+    → Begins m supplies (Sectors sectors recorded huge) s → Resumed s rs old → Resumed old more new
     → KeepsRecord sectors.now recorded old.host.volume.device new.host.volume.device
 
 abbrev pub IsRecordKept : Type 0
-IsRecordKept = (m : Module) (supplies : Supplies) (sectors : Bor (List (List ℕ))) (recorded : Bool) (s s' : State) (rs : List (Told × State)) (e : Ended) (number : ℕ)
-    → Begins m supplies (Sectors sectors recorded) s → Resumed s rs s' → Finishes s' e number
+IsRecordKept = (m : Module) (supplies : Supplies) (sectors : Bor (List (List ℕ))) (recorded huge : Bool) (s s' : State) (rs : List (Told × State)) (e : Ended) (number : ℕ)
+    → Begins m supplies (Sectors sectors recorded huge) s → Resumed s rs s' → Finishes s' e number
     → KeepsRecord sectors.now recorded s'.host.volume.device e.device
 
 -- a call that syncs was answered with success
@@ -59,7 +59,7 @@ pub record TellsSync (told : Told) : Type 0 where
 
 -- After a resume that tells of a sync, all that the session has done by then: a crash leaves the tree after that resume.
 abbrev pub IsSyncSettled : Type 0
-IsSyncSettled = (m : Module) (supplies : Supplies) (sectors : Bor (List (List ℕ))) (recorded : Bool) (s old new : State) (rs : List (Told × State)) (told : Told) (units : ℕ) (c : Image)
-    → (begins : Begins m supplies (Sectors sectors recorded) s) → Resumed s rs old → Paused units old new told → TellsSync told
+IsSyncSettled = (m : Module) (supplies : Supplies) (sectors : Bor (List (List ℕ))) (recorded huge : Bool) (s old new : State) (rs : List (Told × State)) (told : Told) (units : ℕ) (c : Image)
+    → (begins : Begins m supplies (Sectors sectors recorded huge) s) → Resumed s rs old → Paused units old new told → TellsSync told
     → LeftBy (initial_image new.host.volume.device) (done_on new.host.volume.device) c
     → StandsAs c begins.volume.numbers new.host.volume.tree

@@ -38,4 +38,4 @@ pub use sharing::{SharedHostSession, Sharing};
 pub use supplies::{Limits, Supplies};
 pub use texts::text;
 pub use volumes::{Origin, VolumeSource};
-pub use whole::{check, format, run};
+pub use whole::{check, format, format_huge, run};

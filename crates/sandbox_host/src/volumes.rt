@@ -1,7 +1,7 @@
 //! The volume of a guest.
 
-ghost use Rattle.std.specs.Prelude.{◌≡◌, IfOk, IfErr};
-ghost use Rattle.sandbox_host.specs.Volumes.{IsVolume, RefusesVolume};
+ghost use Rattle.std.specs.Prelude.{◌≡◌, ◌≤◌, IfOk, IfErr};
+ghost use Rattle.sandbox_host.specs.Volumes.{IsVolume, RefusesVolume, most_sectors};
 
 use sandbox_core::Volume;
 use sandbox_device::RecordedDevice;
@@ -14,14 +14,19 @@ const FRESH_SECTORS: u32 = 202;
 /// And its slots for entries.
 const FRESH_SLOTS: u32 = 16;
 
-/// The sectors that a device in memory has at most.
-pub(crate) const MOST_SECTORS: usize = 65_536;
+/// The sectors that a host may hand in, for a volume that is huge or not.
+pub(crate) fn most_sectors(is_huge: bool) -> usize
+    ensures most { result ≡ most_sectors is_huge }
+    ensures within { result ≤ 16777216 }
+{
+    if is_huge { 16_777_216 } else { 65_536 }
+}
 
 /// The volume of a guest, as a host in C names it.
 #[repr(C)]
 #[derive(Clone, Copy)]
 pub struct VolumeSource<'a> {
-    /// 0 a fresh volume, 1 that of the sectors, 2 the same, of which a record is kept.
+    /// 0 a fresh volume, 1 that of the sectors, 2 the same, of which a record is kept; 5 and 6 as 1 and 2, of more sectors.
     pub kind: u32,
     pub sectors: &'a [[u8; 512]],
 }
@@ -31,8 +36,8 @@ pub struct VolumeSource<'a> {
 pub enum Origin<'a> {
     /// An empty one is made in memory.
     Fresh,
-    /// It is that of these sectors, which are copied; what is done to it may be recorded.
-    Sectors(&'a [[u8; 512]], bool),
+    /// It is that of these sectors, which are copied; what is done to it may be recorded, and it may be huge.
+    Sectors(&'a [[u8; 512]], bool, bool),
 }
 
 impl<'a> VolumeSource<'a> {
@@ -44,8 +49,10 @@ impl<'a> VolumeSource<'a> {
     {
         match self.kind {
             0 => Some(Origin::Fresh),
-            1 => Some(Origin::Sectors(self.sectors, false)),
-            2 => Some(Origin::Sectors(self.sectors, true)),
+            1 => Some(Origin::Sectors(self.sectors, false, false)),
+            2 => Some(Origin::Sectors(self.sectors, true, false)),
+            5 => Some(Origin::Sectors(self.sectors, false, true)),
+            6 => Some(Origin::Sectors(self.sectors, true, true)),
             _ => None,
         }
     }
@@ -68,11 +75,13 @@ fn open_sectors(
     alloc: Global,
     sectors: &[[u8; 512]],
     is_recorded: bool,
+    is_huge: bool,
 ) -> Result<Volume<RecordedDevice>, VolumeFault>
-    ensures opens { IfOk result (IsVolume (Origin.Sectors sectors.entry is_recorded)) }
-    ensures refused { IfErr result (RefusesVolume (Origin.Sectors sectors.entry is_recorded)) }
+    ensures opens { IfOk result (IsVolume (Origin.Sectors sectors.entry is_recorded is_huge)) }
+    ensures refused { IfErr result (RefusesVolume (Origin.Sectors sectors.entry is_recorded is_huge)) }
 {
-    if sectors.len() > MOST_SECTORS {
+    let most = most_sectors(is_huge);
+    if sectors.len() > most {
         return Err(VolumeFault::Geometry);
     }
     let device = RecordedDevice::of(alloc, sectors, is_recorded)?;
@@ -92,6 +101,8 @@ pub(crate) fn open_volume(
 {
     match origin {
         Origin::Fresh => open_fresh(alloc),
-        Origin::Sectors(sectors, is_recorded) => open_sectors(alloc, sectors, is_recorded),
+        Origin::Sectors(sectors, is_recorded, is_huge) => {
+            open_sectors(alloc, sectors, is_recorded, is_huge)
+        }
     }
 }

@@ -3,7 +3,7 @@
 ghost use Rattle.std.specs.Prelude.{◌≡◌, ◌≢◌, ◌⊎◌, length};
 ghost use Rattle.vol_sector.specs.Record.{image_of};
 ghost use Rattle.vol_tree.specs.Superblock.{HasRanges};
-ghost use Rattle.vol_tree.specs.Fresh.{fresh};
+ghost use Rattle.vol_tree.specs.Fresh.{fresh, fresh_as};
 ghost use Rattle.vol_tree.specs.Stands.{StandsAs, empty_tree};
 ghost use Rattle.wasm_module.specs.declared.module.Module.{Module as ModuleValue};
 ghost use Rattle.sandbox_host.specs.Sessions.{IsLoaded};
@@ -14,10 +14,11 @@ use crate::numbers::{GEOMETRY, OK, OUT_OF_MEMORY, Told, Why, told_end, volume_nu
 use crate::opening::{begin_from, load};
 use crate::showing::{show, show_sectors};
 use crate::supplies::Supplies;
-use crate::volumes::{MOST_SECTORS, Origin};
+use crate::volumes::{Origin, most_sectors};
 use sandbox_core::{Report, Volume};
 use sandbox_device::RecordedDevice;
 use std::alloc::Global;
+use vol_inode::Version;
 use vol_sector::Refused;
 
 /// Decodes and validates a module.
@@ -66,20 +67,41 @@ pub fn run(
     OK
 }
 
-/// Makes sectors an empty volume, in place.
+/// Makes sectors an empty volume, in place: of version 1, with at most 65,536 sectors.
 pub fn format(alloc: Global, sectors: &mut [[u8; 512]], slots: u32) -> u32
     ensures formatted { result ≡ 0 → StandsAs (image_of sectors.new) (fresh (length sectors.old) slots) (empty_tree slots) }
     ensures refused { result ≢ 0 → IsUnformatted (fresh (length sectors.old) slots) result × (sectors.new ≡ sectors.old) }
     ensures kept { length sectors.new ≡ length sectors.old }
 {
-    if sectors.len() > MOST_SECTORS {
+    if sectors.len() > most_sectors(false) {
+        return GEOMETRY;
+    }
+    format_as(alloc, sectors, Version::One, slots)
+}
+
+/// Makes sectors an empty volume of version 4, in place: with at most 16,777,216 sectors.
+pub fn format_huge(alloc: Global, sectors: &mut [[u8; 512]], slots: u32) -> u32
+    ensures formatted { result ≡ 0 → StandsAs (image_of sectors.new) (fresh_as Version.Four (length sectors.old) slots) (empty_tree slots) }
+    ensures refused { result ≢ 0 → IsUnformatted (fresh_as Version.Four (length sectors.old) slots) result × (sectors.new ≡ sectors.old) }
+    ensures kept { length sectors.new ≡ length sectors.old }
+{
+    format_as(alloc, sectors, Version::Four, slots)
+}
+
+/// Makes sectors an empty volume of this version, in place.
+fn format_as(alloc: Global, sectors: &mut [[u8; 512]], version: Version, slots: u32) -> u32
+    ensures formatted { result ≡ 0 → StandsAs (image_of sectors.new) (fresh_as version (length sectors.old) slots) (empty_tree slots) }
+    ensures refused { result ≢ 0 → IsUnformatted (fresh_as version (length sectors.old) slots) result × (sectors.new ≡ sectors.old) }
+    ensures kept { length sectors.new ≡ length sectors.old }
+{
+    if sectors.len() > most_sectors(true) {
         return GEOMETRY;
     }
     let count = sectors.len() as u32;
     let Ok(device) = RecordedDevice::of(alloc, sectors, false) else {
         return OUT_OF_MEMORY;
     };
-    match Volume::format(device, count, slots) {
+    match Volume::format_as(device, version, count, slots) {
         Ok(device) => {
             show_sectors(&device, sectors);
             OK

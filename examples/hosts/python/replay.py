@@ -39,7 +39,8 @@ def line_of(units, told):
 class Recorded:
     """A session over a module's bytes, whose actions are written to a file as they are done."""
 
-    def __init__(self, file, module, args=(), env=(), preopens=(("/", "/"),), moment=0, random=b"", pages=0, values=0, output=0, input=b"", volume=None):
+    def __init__(self, file, module, args=(), env=(), preopens=(("/", "/"),), moment=0, random=b"", pages=0, values=0, output=0, input=b"", volume=None,
+                 recorded=False, huge=False):
         self._file = file
         self._line(HEAD.decode())
         self._line(f"version {sandbox.version()}")
@@ -54,10 +55,10 @@ class Recorded:
         self._bytes("random", random)
         self._line(f"limits {pages} {values} {output}")
         self._bytes("input", input)
-        self._bytes(f"volume {0 if volume is None else 1}", volume or b"")
+        self._bytes(f"volume {0 if volume is None else 1 + bool(recorded) + 4 * bool(huge)}", volume or b"")
         try:
             given = dict(args=args, env=env, preopens=preopens, moment=moment, random=random, pages=pages, values=values, output=output, input=input)
-            self.session = sandbox.Module(module).session(**given, volume=volume)
+            self.session = sandbox.Module(module).session(**given, volume=volume, recorded=recorded, huge=huge)
         except sandbox.Refused as refused:
             self._line(f"opened {refused.number}")
             raise
@@ -131,6 +132,7 @@ def opening_of(following):
             given.update(zip(("pages", "values", "output"), numbers))
         elif word == b"volume":
             volume = text if numbers[0] else None
+            given.update(recorded=numbers[0] & 3 == 2, huge=bool(numbers[0] & 4))
         elif word == b"opened":
             return module, {**given, "volume": volume}, numbers[0]
         elif word != b"version":

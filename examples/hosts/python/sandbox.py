@@ -154,11 +154,13 @@ def function_name(module, function):
     return room.raw[:length].decode(errors="backslashreplace")
 
 
-def empty_volume(sectors=1000, slots=16):
-    """The bytes of an empty volume, of 137 to 65,536 sectors and 1 to 8,192 slots for files and directories."""
+def empty_volume(sectors=1000, slots=16, huge=False):
+    """The bytes of an empty volume, of 137 to 65,536 sectors and 1 to 8,192 slots for files and directories; of a huge one, of
+    version 4, to 16,777,216 sectors and 1,048,576 slots."""
     sectors, slots = _number("sectors", sectors, MOST_SIZE), _number("slots", slots, MOST_32)
-    room = c.create_string_buffer(512 * min(max(sectors, 1), 65536))
-    _check(_lib.sandbox_format(room, c.c_size_t(sectors), c.c_uint32(slots)) if sectors <= 65536 else 36)
+    most, make = (16777216, _lib.sandbox_format_huge) if huge else (65536, _lib.sandbox_format)
+    room = c.create_string_buffer(512 * min(max(sectors, 1), most))
+    _check(make(room, c.c_size_t(sectors), c.c_uint32(slots)) if sectors <= most else 36)
     return room.raw
 
 
@@ -224,7 +226,7 @@ class Session:
     _raw = None  # where it wasn't made
 
     def __init__(self, module, args=(), env=(), preopens=(("/", "/"),), moment=0, random=b"", pages=0, input=b"", volume=None, recorded=False,
-                 values=0, output=0):
+                 values=0, output=0, huge=False):
         def texts(given):
             if isinstance(given, (str, bytes, bytearray)):
                 raise TypeError("a list of texts is wanted, and not one text")
@@ -237,7 +239,7 @@ class Session:
         array = (_Bytes * max(1, len(args)))(*map(_Bytes.of, args)), (_Bytes * max(1, len(env)))(*map(_Bytes.of, env))
         opened = (_Preopen * max(1, len(names)))(*[_Preopen(_Bytes.of(name), _Bytes.of(path)) for name, path in zip(names, paths)])
         given = _Supplies(array[0], len(args), array[1], len(env), opened, len(names), moment, _Bytes.of(random), limits, _Bytes.of(input))
-        over = _Volume(1 + bool(recorded), volume, len(volume) // 512) if volume is not None else _Volume(0, b"", 0)
+        over = _Volume(1 + bool(recorded) + 4 * bool(huge), volume, len(volume) // 512) if volume is not None else _Volume(0, b"", 0)
         self._kept, self._module, self._raw = (args, env, names, paths, array, opened, random, input, module), module, c.c_void_p()
         self._settled = 0  # operations that are on the descriptor
         self._used = 0  # units so far

@@ -6,7 +6,7 @@ use machine_tests::HELLO;
 use sandbox_core::Preopen;
 use sandbox_host::{
     Handle, Limits, MISUSE, OK, Supplies, Told, VolumeOperation, VolumeSource, Why, check, close,
-    finish, format, full, open, operation_at, output, resume, text, volume_out,
+    finish, format, format_huge, full, open, operation_at, output, resume, text, volume_out,
 };
 use std::alloc::Global;
 use std::process::Abort;
@@ -207,6 +207,57 @@ fn goes_through_a_session(rt: HostRuntime) {
         sectors: &sectors,
     };
     assert!(rt; is_opened(alloc, &volume));
+}
+
+/// Kinds of a volume's source, and what opening it answers where it has 202 sectors, and where it has 65,537.
+static KINDS: [(u32, u32, u32); 8] = [
+    // an empty one, whatever the sectors are
+    (0, OK, OK),
+    (1, OK, 36),
+    (2, OK, 36),
+    (3, MISUSE, MISUSE),
+    (4, MISUSE, MISUSE),
+    // those that may have many
+    (5, OK, OK),
+    (6, OK, OK),
+    (7, MISUSE, MISUSE),
+];
+
+/// What opening a session over a volume answers.
+fn answer_over(alloc: Global, kind: u32, sectors: &[[u8; 512]]) -> u32 {
+    let (session, answer) = opened(alloc, &HI, &VolumeSource { kind, sectors });
+    drop(session);
+    answer
+}
+
+/// The first kind that isn't answered as it says.
+fn wrong_kind(alloc: Global, few: &[[u8; 512]], many: &[[u8; 512]]) -> Option<usize> {
+    for (i, (kind, over_few, over_many)) in KINDS.iter().enumerate() {
+        let is_right = answer_over(alloc, *kind, few) == *over_few
+            && answer_over(alloc, *kind, many) == *over_many;
+        if !is_right {
+            return Some(i);
+        }
+    }
+    None
+}
+
+/// Makes sectors volumes of version 4, and opens them as each kind.
+fn assert_kinds(rt: &impl Abort, alloc: Global, few: &mut [[u8; 512]], many: &mut [[u8; 512]]) {
+    assert!(rt; format(alloc, many, 16) == 36);
+    assert!(rt; format_huge(alloc, few, 16) == OK && format_huge(alloc, many, 16) == OK);
+    assert_none(rt, wrong_kind(alloc, few, many));
+}
+
+#[test]
+fn takes_many_sectors_where_that_is_asked_for(rt: HostRuntime) {
+    let alloc = rt.alloc();
+    let mut few = [[0; 512]; 202];
+    let made = vec![in alloc; [0; 512]; 65_537];
+    assert!(rt; made.is_ok());
+    if let Ok(mut many) = made {
+        assert_kinds(&rt, alloc, &mut few, &mut many);
+    }
 }
 
 /// A guest, the pages, values and bytes that it may have, the kind of its end, what it has written to descriptor 1 then, and

@@ -146,6 +146,11 @@ impl<'a> Module<'a> {
         self.open_over(supplies, sys::Volume { kind: 2, sectors: sectors.as_ptr(), sectors_count: sectors.len() })
     }
 
+    /// A session over more than 65,536 sectors, as a volume of version 4 may have them; recorded as that of [`Module::open_recorded`], or not.
+    pub fn open_huge<'s>(self, supplies: &Supplies<'s>, sectors: &[[u8; 512]], is_recorded: bool) -> Result<Session<'a, 's>, (Refused, Module<'a>)> {
+        self.open_over(supplies, sys::Volume { kind: if is_recorded { 6 } else { 5 }, sectors: sectors.as_ptr(), sectors_count: sectors.len() })
+    }
+
     fn open_over<'s>(mut self, supplies: &Supplies<'s>, volume: sys::Volume) -> Result<Session<'a, 's>, (Refused, Module<'a>)> {
         let kept = Kept::of(supplies);
         let mut raw = null_mut();
@@ -338,6 +343,14 @@ impl Drop for Session<'_, '_> {
         // SAFETY: NULL, once it is closed, is answered as misuse.
         unsafe { sys::sandbox_close(&mut self.raw) };
     }
+}
+
+/// An empty volume of version 4, which may have more sectors and slots.
+pub fn format_huge(sectors: usize, slots: u32) -> Result<Sectors, Refused> {
+    let mut made = vec![[0; 512]; sectors];
+    // SAFETY: there are so many sectors.
+    answered(unsafe { sys::sandbox_format_huge(made.as_mut_ptr(), sectors, slots) })?;
+    Ok(made)
 }
 
 /// An empty volume of so many sectors and slots.

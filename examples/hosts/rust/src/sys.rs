@@ -103,4 +103,5 @@ extern "C" {
     pub fn sandbox_close(session: *mut *mut OpaqueSession) -> u32;
     pub fn sandbox_close_loaded(session: *mut *mut OpaqueSession, module: *mut *mut OpaqueModule) -> u32;
     pub fn sandbox_format(sectors: *mut [u8; 512], count: usize, slots: u32) -> u32;
+    pub fn sandbox_format_huge(sectors: *mut [u8; 512], count: usize, slots: u32) -> u32;
 }

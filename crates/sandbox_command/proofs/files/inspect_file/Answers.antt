@@ -13,6 +13,7 @@ returns-in-Ok-clause-tells g c =
         record {
           left = left;
           inspects = subst (λ (b : List ℕ). Inspects b (g.W1.Write.contents c.args.given.out) (g.W1.Write.contents left.out) left.flushed left.status) c.as_slice.ensures.value c.inspect-left.ensures.tells;
+          answered = c.inspect-left.ensures.answered;
           input_is = c.inspect-left.ensures.input;
           lines = c.inspect-left.ensures.err;
           ended = c.end.ensures;

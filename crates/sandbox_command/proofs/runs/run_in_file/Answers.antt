@@ -1,7 +1,7 @@
 use Rattle.std.proofs.Common.{Option, refl, subst, sym}
 use Rattle.sandbox_command.specs.declared.stopping.Stopped.{Stopped}
 use Rattle.sandbox_command.specs.Alone.{HandsNothing, IsProfiled, file_of}
-use Rattle.sandbox_command.specs.Around.{around}
+use Rattle.sandbox_command.specs.Around.{around, flushing}
 use Rattle.sandbox_words.specs.Request.{Text}
 use Rattle.sandbox_command.specs.Stopping.{TellsLines}
 use Rattle.sandbox_command.proofs.Charged.{its_file, new_stacks, told_with}
@@ -27,10 +27,10 @@ returns g c =
     let run = c.args.run.now in
     let profiled = c.profiled-ending.new.places in
     let ending = c.profiled-ending.result in
-    runs_with (around g.P.Places g.P.Input.Read g.P.Output.Write g.P.Volume.Device g.R.Read g.W1.Write g.W2.Write) g.P.Volume.Device
+    runs_with (around g.P.Places g.P.Input.Read g.P.Output.Write g.P.Volume.Device g.R.Read g.W1.Write g.W2.Write (flushing g.P.Output.Outlet.flushed g.P.Output.Outlet.refuses g.W1.Outlet.flushed g.W1.Outlet.refuses g.W2.Outlet.flushed g.W2.Outlet.refuses)) g.P.Volume.Device
     (λ left before said p q status summary. HandsNothing g.P.Places before said p q status summary)
     run c.args.device c.args.wired.streams c.args.wired.spare (file_of c.args.wired.profile) c.args.report
-    _ _ _ _ c.as_slice-module.ensures.value c.as_slice-random.ensures.value ended c.run-ended.ensures.runs
+    _ _ _ _ c.as_slice-module.ensures.value c.as_slice-random.ensures.value ended c.run-ended.ensures.runs c.run-ended.ensures.answered
     finished.left.0 finished.left.1 c.finished-stopped.result.2 finished.left.2 c.told-status.new.err
     (lines_then _ _ _ c.profiled-ending.ensures.lines c.told-status.ensures.lines)
     c.as_slice-lines.result.now (subst (λ (text : Text). TellsLines bytes run.frames ended.stopped text) (sym c.as_slice-lines.ensures.value) c.run-ended.ensures.lines)

@@ -1,13 +1,13 @@
 use Rattle.std.proofs.Common.{sym, subst}
 use Rattle.sandbox_command.specs.declared.opening.Medium.{Medium}
 use Rattle.sandbox_command.specs.Alone.{Hands, HandsNothing, RunsOnMedium, RunsWith, file_of}
-use Rattle.sandbox_command.specs.Around.{around, in_memory}
+use Rattle.sandbox_command.specs.Around.{around, flushing, in_memory}
 use Rattle.sandbox_command.proofs.Finishing.{rewired}
 use Rattle.sandbox_command.proofs.runs.run_opened.Goals as goal
 
 pub returns-in-File : goal.returns-in-File
 returns-in-File g c =
-    let on = around g.P.Places g.P.Input.Read g.P.Output.Write g.P.Volume.Device g.R.Read g.W1.Write g.W2.Write in
+    let on = around g.P.Places g.P.Input.Read g.P.Output.Write g.P.Volume.Device g.R.Read g.W1.Write g.W2.Write (flushing g.P.Output.Outlet.flushed g.P.Output.Outlet.refuses g.W1.Outlet.flushed g.W1.Outlet.refuses g.W2.Outlet.flushed g.W2.Outlet.refuses) in
     let run = c.args.run.now in
     let opened = c.args.opened in
     subst (λ (m : Medium _). RunsOnMedium on m run opened c.args.given c.args.report c.args.places.now c.run_in_file.new.places c.run_in_file.result) (sym c.in-File.is)
@@ -19,7 +19,7 @@ returns-in-File g c =
 
 pub returns-in-Memory : goal.returns-in-Memory
 returns-in-Memory g c =
-    let on = around g.P.Places g.P.Input.Read g.P.Output.Write g.P.Volume.Device g.R.Read g.W1.Write g.W2.Write in
+    let on = around g.P.Places g.P.Input.Read g.P.Output.Write g.P.Volume.Device g.R.Read g.W1.Write g.W2.Write (flushing g.P.Output.Outlet.flushed g.P.Output.Outlet.refuses g.W1.Outlet.flushed g.W1.Outlet.refuses g.W2.Outlet.flushed g.W2.Outlet.refuses) in
     let run = c.args.run.now in
     let opened = c.args.opened in
     subst (λ (m : Medium _). RunsOnMedium on m run opened c.args.given c.args.report c.args.places.now c.run_in_memory.new.places c.run_in_memory.result) (sym c.in-Memory.is)

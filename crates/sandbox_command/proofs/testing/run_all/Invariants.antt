@@ -9,7 +9,7 @@ abbrev pub invariant-loop-test : goal.invariant-loop-test
 invariant-loop-test g l = record {
   same : l.runnable ≡ l.initial.runnable;
   ends : AllEndAs
-      (HasRun g.P.Places g.P.Input.Read g.P.Output.Write l.run l.files.«module».now (module_in l.initial.runnable) l.files.random.now)
-      (HasFailed g.P.Places g.P.Input.Read g.P.Output.Write l.run l.files.«module».now (module_in l.initial.runnable) l.files.random.now)
+      (HasRun g.P.Places g.P.Input.Read g.P.Output.Write g.P.Output.Outlet.flushed g.P.Output.Outlet.refuses l.run l.files.«module».now (module_in l.initial.runnable) l.files.random.now)
+      (HasFailed g.P.Places g.P.Input.Read g.P.Output.Write g.P.Output.Outlet.flushed g.P.Output.Outlet.refuses l.run l.files.«module».now (module_in l.initial.runnable) l.files.random.now)
       l.have_run (take l.test-index l.tests) l.initial.places l.places;
 }

@@ -30,8 +30,8 @@ returns-then-run_all-clause-runs g c =
       inl (
         refl,
         went_all
-            (HasRun g.P.Places g.P.Input.Read g.P.Output.Write c.args.run.now c.args.«module».now prepared c.args.random.now)
-            (HasFailed g.P.Places g.P.Input.Read g.P.Output.Write c.args.run.now c.args.«module».now prepared c.args.random.now)
+            (HasRun g.P.Places g.P.Input.Read g.P.Output.Write g.P.Output.Outlet.flushed g.P.Output.Outlet.refuses c.args.run.now c.args.«module».now prepared c.args.random.now)
+            (HasFailed g.P.Places g.P.Input.Read g.P.Output.Write g.P.Output.Outlet.flushed g.P.Output.Outlet.refuses c.args.run.now c.args.«module».now prepared c.args.random.now)
             c.run_all.result c.args.tests.now _ _ c.if-run_all.true c.run_all.ensures,
       ),
     ))
@@ -48,8 +48,8 @@ returns-in-Ok-load-clause-runs g c =
       inr (
         c.refuse_tests.ensures.status,
         failed_some
-            (HasRun g.P.Places g.P.Input.Read g.P.Output.Write c.args.run.now c.args.«module».now prepared c.args.random.now)
-            (HasFailed g.P.Places g.P.Input.Read g.P.Output.Write c.args.run.now c.args.«module».now prepared c.args.random.now)
+            (HasRun g.P.Places g.P.Input.Read g.P.Output.Write g.P.Output.Outlet.flushed g.P.Output.Outlet.refuses c.args.run.now c.args.«module».now prepared c.args.random.now)
+            (HasFailed g.P.Places g.P.Input.Read g.P.Output.Write g.P.Output.Outlet.flushed g.P.Output.Outlet.refuses c.args.run.now c.args.«module».now prepared c.args.random.now)
             c.run_all.result c.args.tests.now _ _ c.if-run_all.false c.run_all.ensures,
       ),
     ))

@@ -22,6 +22,7 @@ returns-in-Ok g c =
         of_image = files.of_image;
         left = c.run_valid-runnable.result.1;
         runs = c.run_valid-runnable.ensures.runs;
+        answered = c.run_valid-runnable.ensures.answered;
         summary_is = refl;
         are_lines = subst (λ m. AreLinesBy c.args.files.«module».now m c.args.run.now.frames c.run_valid-runnable.result.1.stopped c.lines_of-frames.result.items) (c.«module».ensures ∙ ap module_in c.run_valid-runnable.ensures.«module») c.lines_of-frames.ensures;
         ended = c.end.ensures;

@@ -4,7 +4,8 @@ use Rattle.vol_tree.specs.Stands.{StandsAs}
 use Rattle.sandbox_device.proofs.Recorded.{unused_leaves}
 use Rattle.vol_sector.specs.Record.{image_of}
 use Rattle.vol_tree.specs.Opening.{StandsOn}
-use Rattle.sandbox_host.specs.Volumes.{IsIn}
+use Rattle.sandbox_host.specs.Volumes.{IsIn, RefusesSectors}
+use Rattle.sandbox_host.proofs.Working.{refused_as}
 use Rattle.sandbox_host.proofs.RecordKept.{goes_from_itself}
 use Rattle.sandbox_host.proofs.volumes.open_sectors.Goals as goal
 
@@ -18,8 +19,8 @@ returns-in-Ok-clause-opens c =
     let stood : StandsOn (length d.sectors) (image_of d.sectors) v.numbers v.tree = c.in-Ok.ensures.stands tt in
     let crash = c.in-Ok.ensures.crash_ok v.numbers v.tree tt stood in
     let went = c.in-Ok.ensures.goes_on_ok v.numbers.sectors (omega arith) d (goes_from_itself v.numbers.sectors d) in
-    let is_in : IsIn c.args.sectors.now v = record {
-      few = omega (arith, c.if-sectors-gt-MOST_SECTORS.false);
+    let is_in : IsIn c.args.is_huge c.args.sectors.now v = record {
+      few = omega (arith, c.if-sectors-most.false, c.most_sectors-most.ensures.most);
       stands = subst (λ (xs : List (List ℕ)). StandsOn (length xs) (image_of xs) v.numbers v.tree) same stood;
       size = c.in-Ok.ensures.kept_ok.1 ∙ ap length same;
       working = record { works = c.in-Ok.ensures.working; lasts = c.in-Ok.ensures.durable tt };
@@ -31,3 +32,11 @@ returns-in-Ok-clause-opens c =
       began = went.began ∙ unused.0;
       is_recorded = went.is_recorded ∙ c.in_ok-device.ensures.recorded.0;
     }
+
+-- what the volume is refused for
+pub returns-clause-refused : goal.returns-clause-refused
+returns-clause-refused c =
+    let e = c.in-Err.ensures in
+    let f = c.in-Err.field-0.fault in
+    subst (λ (xs : List (List ℕ)). RefusesSectors c.args.is_huge xs f) c.in_ok-device.ensures.sectors
+    (refused_as c.args.is_huge c.in_ok-device.device.sectors f (e.not_a_volume tt) (e.version tt) (e.damaged tt) e.kept_err.2 e.faults_named)
