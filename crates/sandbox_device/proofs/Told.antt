@@ -24,6 +24,6 @@ then_if_ok (Ok x) holds next = next x holds
 then_if_ok (Err e) holds next = tt
 
 -- what holds of a success, and of every failure
-pub told_or : {A E : Type 0} {P : A → Type 0} {Q : E → Type 0} (r : Result A E) → IfOk r P → ((e : E) → Q e) → MatchResult r P Q
-told_or (Ok x) holds failed = holds
-told_or (Err e) holds failed = failed e
+pub told_or : {A E : Type 0} (P : A → Type 0) (Q : E → Type 0) (r : Result A E) → IfOk r P → ((e : E) → Q e) → MatchResult r P Q
+told_or P Q (Ok x) holds failed = holds
+told_or P Q (Err e) holds failed = failed e
