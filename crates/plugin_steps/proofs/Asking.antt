@@ -8,12 +8,12 @@ use Rattle.plugin_steps.specs.Asking.{Asks, AnswersWhereAsked}
 use Rattle.plugin_steps.specs.Asking as asking
 
 module _ (H : Type 0) (Calls : CallsOf H) where
-  asks_steps : (i : Instance) (x n : ℕ) (h : H) (s : Store) (f : List Val) (c c' : Code) → Asks i x s c c' → Step H Calls i n h (at s f c) silent h (at (tick s) f c')
-  asks_steps i x n h s f _ _ asking.by_call = plain_step call_step
-  asks_steps i x n h s f _ _ (asking.by_table element callee same) = plain_step (call_indirect_step element callee same)
-  asks_steps i x n h s f _ _ (asking.in_label {c = c} {c' = c'} a) = steps.in_label (asks_steps i x n h s f c c' a)
-  asks_steps i x n h s f _ _ (asking.in_frame {g = g} {c = c} {c' = c'} a) = steps.in_frame (asks_steps i x (suc n) h s g c c' a)
+  asks_steps : (i : Instance) (x : ℕ) (h : H) (s : Store) (n : ℕ) (f : List Val) (c c' : Code) → Asks i x s c c' → Step H Calls i n h (at s f c) silent h (at (tick s) f c')
+  asks_steps i x h s n f _ _ asking.by_call = plain_step call_step
+  asks_steps i x h s n f _ _ (asking.by_table element callee same) = plain_step (call_indirect_step element callee same)
+  asks_steps i x h s n f _ _ (asking.in_label {c = c} {c' = c'} a) = steps.in_label (asks_steps i x h s n f c c' a)
+  asks_steps i x h s n f _ _ (asking.in_frame {g = g} {c = c} {c' = c'} a) = steps.in_frame (asks_steps i x h s (suc n) g c c' a)
 
   pub answers_where_asked : AnswersWhereAsked H Calls
   answers_where_asked i x h s f c c' m e d a longer left served =
-      talks.resumes (goes silent [] (asks_steps i x 0 h s f c c' a) stays) (talks.answers m e longer left served talks.stops)
+      talks.resumes (goes silent [] (asks_steps i x h s 0 f c c' a) stays) (talks.answers m e longer left served talks.stops)
