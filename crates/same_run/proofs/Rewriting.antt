@@ -13,6 +13,7 @@ use Rattle.wasm_valid.specs.Typing.{arity}
 use Rattle.wasm_num.specs.declared.trap.Trap.{Trap}
 use Rattle.wasm_num.specs.declared.trap.Trap.TheVariants as traps
 use Rattle.wasm_num.specs.Numbers.{signed, wrapped, bool_number}
+use Rattle.wasm_module.specs.Types.{integer}
 use Rattle.wasm_steps.specs.Operators.{width, compare_test, unary_number, binary_number}
 use Rattle.wasm_steps.specs.Configuration.{Val, val, Callee, signature_of, Instance, Store, trapped, Code, code, label, stopped, Configuration, at}
 use Rattle.wasm_steps.specs.Steps.{LoadOp, StoreOp, load_of, store_of, loaded, bytes_at, written, to_bytes}
@@ -155,9 +156,9 @@ performed i s f vs rest op.MemoryFill = Some (filled (nat_le (top (below (below 
 performed i s f vs rest (op.I32Const n) = Some (at s f (code (val I32 n ∷ vs) rest))
 performed i s f vs rest (op.I64Const n) = Some (at s f (code (val I64 n ∷ vs) rest))
 performed i s f vs rest (op.Eqz t) = Some (at s f (code (val I32 (bool_number (nat_eq (top vs) 0)) ∷ below vs) rest))
-performed i s f vs rest (op.Compare t o) = Some (at s f (code (val I32 (bool_number (compare_test (width t) o (top (below vs)) (top vs))) ∷ below (below vs)) rest))
-performed i s f vs rest (op.Unary t o) = Some (at s f (code (val t (unary_number (width t) o (top vs)) ∷ below vs) rest))
-performed i s f vs rest (op.Binary t o) = Some (computed s f t (below (below vs)) rest (binary_number (width t) o (top (below vs)) (top vs)))
+performed i s f vs rest (op.Compare t o) = Some (at s f (code (val I32 (bool_number (compare_test (width (integer t)) o (top (below vs)) (top vs))) ∷ below (below vs)) rest))
+performed i s f vs rest (op.Unary t o) = Some (at s f (code (val (integer t) (unary_number (width (integer t)) o (top vs)) ∷ below vs) rest))
+performed i s f vs rest (op.Binary t o) = Some (computed s f (integer t) (below (below vs)) rest (binary_number (width (integer t)) o (top (below vs)) (top vs)))
 performed i s f vs rest op.I32WrapI64 = Some (at s f (code (val I32 (top vs % 2 ^ 32) ∷ below vs) rest))
 performed i s f vs rest op.I64ExtendI32S = Some (at s f (code (val I64 (wrapped 64 (signed 32 (top vs))) ∷ below vs) rest))
 performed i s f vs rest op.I64ExtendI32U = Some (at s f (code (val I64 (top vs) ∷ below vs) rest))

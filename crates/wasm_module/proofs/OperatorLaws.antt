@@ -1,8 +1,8 @@
 -- The laws of operators, which have nothing after their opcode.
 use Rattle.std.proofs.Common.{◌≡◌, ℕ, ◌+◌, ◌-◌, ◌≤◌, Bool, true, false, cond, eqb, leb, List, [], ◌∷◌, Option, None, Some, refl, ap, subst, arith}
 use Rattle.std.proofs.lemmas.Bool.{eqb-true, leb-true}
-use Rattle.wasm_module.specs.declared.instruction.ValueType.{ValueType}
-use Rattle.wasm_module.specs.declared.instruction.ValueType.TheVariants.{I32, I64}
+use Rattle.wasm_module.specs.declared.instruction.IntegerType.{IntegerType}
+use Rattle.wasm_module.specs.declared.instruction.IntegerType.TheVariants.{I32, I64}
 use Rattle.wasm_module.specs.declared.accesses.LoadOperator.{LoadOperator}
 use Rattle.wasm_module.specs.declared.accesses.LoadOperator.TheVariants as load
 use Rattle.wasm_module.specs.declared.accesses.StoreOperator.{StoreOperator}
@@ -111,11 +111,11 @@ store_has_opcode b o =
     ended)))))))
 
 -- the operator on one integer that this byte spells
-abbrev IsUnary : ℕ → ValueType × UnaryOperator → Type 0
+abbrev IsUnary : ℕ → IntegerType × UnaryOperator → Type 0
 IsUnary b p = SpellsInstruction (b ∷ []) (op.Unary p.0 p.1)
 
 -- an operator on one integer has its opcode
-unary_takes : (b : ℕ) (p : ValueType × UnaryOperator) → unary_of b ≡ Some p → IsUnary b p
+unary_takes : (b : ℕ) (p : IntegerType × UnaryOperator) → unary_of b ≡ Some p → IsUnary b p
 unfolding unary_of
 unary_takes b p =
     picked (IsUnary b) b 0x67 (I32, unary.Clz) p _ (λ is. ([], refl, ap (λ (c : ℕ). c ∷ []) is)) (
@@ -138,14 +138,14 @@ abbrev SpelledBy : ℕ → Instruction → Type 0
 SpelledBy b i = SpellsInstruction (b ∷ []) i
 
 -- the comparisons of one type
-compared_takes : (b base : ℕ) (t : ValueType) (i : Instruction) → ((o : Comparison) → b ≡ base + comparison_number o → SpelledBy b (op.Compare t o)) → base ≤ b → compared t (b - base) ≡ Some i → SpelledBy b i
+compared_takes : (b base : ℕ) (t : IntegerType) (i : Instruction) → ((o : Comparison) → b ≡ base + comparison_number o → SpelledBy b (op.Compare t o)) → base ≤ b → compared t (b - base) ≡ Some i → SpelledBy b i
 compared_takes b base t i spells le e =
     let s = bind_some (comparison_of (b - base)) (λ o. Some (op.Compare t o)) i e in
     let n : b - base ≡ comparison_number s.0 = comparison_takes (b - base) s.0 s.1 in
     subst (SpelledBy b) (some_is (op.Compare t s.0) i s.2) (spells s.0 (omega arith))
 
 -- the operators on two integers of one type
-operated_takes : (b base : ℕ) (t : ValueType) (i : Instruction) → ((o : BinaryOperator) → b ≡ base + binary_operator_number o → SpelledBy b (op.Binary t o)) → base ≤ b → operated t (b - base) ≡ Some i → SpelledBy b i
+operated_takes : (b base : ℕ) (t : IntegerType) (i : Instruction) → ((o : BinaryOperator) → b ≡ base + binary_operator_number o → SpelledBy b (op.Binary t o)) → base ≤ b → operated t (b - base) ≡ Some i → SpelledBy b i
 operated_takes b base t i spells le e =
     let s = bind_some (binary_operator_of (b - base)) (λ o. Some (op.Binary t o)) i e in
     let n : b - base ≡ binary_operator_number s.0 = binary_takes (b - base) s.0 s.1 in

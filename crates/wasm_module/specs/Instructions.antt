@@ -2,8 +2,8 @@
 -- typing and steps are stated over nested instructions; `Nests` ties the two.
 use Rattle.std.specs.Prelude.{◌≡◌, ℕ, ◌+◌, List, [], ◌∷◌, ◌++◌}
 use Rattle.wasm_module.specs.declared.number.Sign.TheVariants.{Signed}
-use Rattle.wasm_module.specs.declared.instruction.ValueType.{ValueType}
-use Rattle.wasm_module.specs.declared.instruction.ValueType.TheVariants.{I32, I64}
+use Rattle.wasm_module.specs.declared.instruction.IntegerType.{IntegerType}
+use Rattle.wasm_module.specs.declared.instruction.IntegerType.TheVariants.{I32, I64}
 use Rattle.wasm_module.specs.declared.instruction.BlockType.{BlockType}
 use Rattle.wasm_module.specs.declared.instruction.MemArg.{MemArg}
 use Rattle.wasm_module.specs.declared.accesses.LoadOperator.{LoadOperator}
@@ -109,7 +109,7 @@ binary_operator_number ShrU = 12
 binary_operator_number Rotl = 13
 binary_operator_number Rotr = 14
 
-abbrev pub unary_opcode : ValueType → UnaryOperator → ℕ
+abbrev pub unary_opcode : IntegerType → UnaryOperator → ℕ
 unary_opcode I32 Clz = 0x67
 unary_opcode I32 Ctz = 0x68
 unary_opcode I32 Popcnt = 0x69

@@ -8,8 +8,8 @@ use crate::accesses::{LoadOperator, StoreOperator};
 use crate::cursor::{Cursor, Decode};
 use crate::fault::LoadFault;
 use crate::instruction::{
-    BinaryOperator, BlockType, BranchTable, Comparison, Instruction, MemArg, UnaryOperator,
-    ValueType,
+    BinaryOperator, BlockType, BranchTable, Comparison, Instruction, IntegerType, MemArg,
+    UnaryOperator,
 };
 use crate::items::Items;
 use std::alloc::Global;
@@ -74,33 +74,33 @@ fn unary(byte: u8) -> Option<Instruction>
     ensures { result ≡ unary_instruction byte }
 {
     match byte {
-        0x67 => Some(Instruction::Unary(ValueType::I32, UnaryOperator::Clz)),
-        0x68 => Some(Instruction::Unary(ValueType::I32, UnaryOperator::Ctz)),
-        0x69 => Some(Instruction::Unary(ValueType::I32, UnaryOperator::Popcnt)),
-        0x79 => Some(Instruction::Unary(ValueType::I64, UnaryOperator::Clz)),
-        0x7A => Some(Instruction::Unary(ValueType::I64, UnaryOperator::Ctz)),
-        0x7B => Some(Instruction::Unary(ValueType::I64, UnaryOperator::Popcnt)),
-        0xC0 => Some(Instruction::Unary(ValueType::I32, UnaryOperator::Extend8S)),
-        0xC1 => Some(Instruction::Unary(ValueType::I32, UnaryOperator::Extend16S)),
-        0xC2 => Some(Instruction::Unary(ValueType::I64, UnaryOperator::Extend8S)),
-        0xC3 => Some(Instruction::Unary(ValueType::I64, UnaryOperator::Extend16S)),
-        0xC4 => Some(Instruction::Unary(ValueType::I64, UnaryOperator::Extend32S)),
+        0x67 => Some(Instruction::Unary(IntegerType::I32, UnaryOperator::Clz)),
+        0x68 => Some(Instruction::Unary(IntegerType::I32, UnaryOperator::Ctz)),
+        0x69 => Some(Instruction::Unary(IntegerType::I32, UnaryOperator::Popcnt)),
+        0x79 => Some(Instruction::Unary(IntegerType::I64, UnaryOperator::Clz)),
+        0x7A => Some(Instruction::Unary(IntegerType::I64, UnaryOperator::Ctz)),
+        0x7B => Some(Instruction::Unary(IntegerType::I64, UnaryOperator::Popcnt)),
+        0xC0 => Some(Instruction::Unary(IntegerType::I32, UnaryOperator::Extend8S)),
+        0xC1 => Some(Instruction::Unary(IntegerType::I32, UnaryOperator::Extend16S)),
+        0xC2 => Some(Instruction::Unary(IntegerType::I64, UnaryOperator::Extend8S)),
+        0xC3 => Some(Instruction::Unary(IntegerType::I64, UnaryOperator::Extend16S)),
+        0xC4 => Some(Instruction::Unary(IntegerType::I64, UnaryOperator::Extend32S)),
         _ => None,
     }
 }
 
 /// The comparison of this number, of integers of this type.
-fn compared(value_type: ValueType, number: u8) -> Option<Instruction>
-    ensures { result ≡ compared value_type number }
+fn compared(integer_type: IntegerType, number: u8) -> Option<Instruction>
+    ensures { result ≡ compared integer_type number }
 {
-    Some(Instruction::Compare(value_type, comparison(number)?))
+    Some(Instruction::Compare(integer_type, comparison(number)?))
 }
 
 /// The operator of this number, on two integers of this type.
-fn operated(value_type: ValueType, number: u8) -> Option<Instruction>
-    ensures { result ≡ operated value_type number }
+fn operated(integer_type: IntegerType, number: u8) -> Option<Instruction>
+    ensures { result ≡ operated integer_type number }
 {
-    Some(Instruction::Binary(value_type, binary_operator(number)?))
+    Some(Instruction::Binary(integer_type, binary_operator(number)?))
 }
 
 /// The instruction of this opcode on numbers, which has nothing after it.
@@ -110,15 +110,15 @@ fn numeric(byte: u8) -> Option<Instruction>
     ensures { result ≡ numeric_of byte }
 {
     match byte {
-        0x45 => Some(Instruction::Eqz(ValueType::I32)),
-        0x50 => Some(Instruction::Eqz(ValueType::I64)),
+        0x45 => Some(Instruction::Eqz(IntegerType::I32)),
+        0x50 => Some(Instruction::Eqz(IntegerType::I64)),
         0xA7 => Some(Instruction::I32WrapI64),
         0xAC => Some(Instruction::I64ExtendI32S),
         0xAD => Some(Instruction::I64ExtendI32U),
-        0x46..=0x4F => compared(ValueType::I32, byte - 0x46),
-        0x51..=0x5A => compared(ValueType::I64, byte - 0x51),
-        0x6A..=0x78 => operated(ValueType::I32, byte - 0x6A),
-        0x7C..=0x8A => operated(ValueType::I64, byte - 0x7C),
+        0x46..=0x4F => compared(IntegerType::I32, byte - 0x46),
+        0x51..=0x5A => compared(IntegerType::I64, byte - 0x51),
+        0x6A..=0x78 => operated(IntegerType::I32, byte - 0x6A),
+        0x7C..=0x8A => operated(IntegerType::I64, byte - 0x7C),
         _ => unary(byte),
     }
 }

@@ -13,6 +13,28 @@ pub enum ValueType {
     I64,
 }
 
+/// The type of an integer (section 2.3.1), on which the numeric operators are.
+#[derive(Clone, Copy)]
+pub enum IntegerType {
+    I32,
+    I64,
+}
+
+impl IntegerType {
+    ghost use Rattle.std.specs.Prelude.{◌≡◌};
+    ghost use Rattle.wasm_module.specs.Types.{integer};
+
+    /// The type of the values that are such integers.
+    pub fn value_type(self) -> ValueType
+        ensures { result ≡ integer self }
+    {
+        match self {
+            IntegerType::I32 => ValueType::I32,
+            IntegerType::I64 => ValueType::I64,
+        }
+    }
+}
+
 /// What a block leaves (section 2.3.2): nothing, or one value.
 #[derive(Clone, Copy)]
 pub enum BlockType {
@@ -154,10 +176,10 @@ pub enum Instruction {
     I32Const(u32),
     /// The constant, modulo 2 ^ 64.
     I64Const(u64),
-    Eqz(ValueType),
-    Compare(ValueType, Comparison),
-    Unary(ValueType, UnaryOperator),
-    Binary(ValueType, BinaryOperator),
+    Eqz(IntegerType),
+    Compare(IntegerType, Comparison),
+    Unary(IntegerType, UnaryOperator),
+    Binary(IntegerType, BinaryOperator),
     I32WrapI64,
     I64ExtendI32S,
     I64ExtendI32U,

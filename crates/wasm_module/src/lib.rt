@@ -18,8 +18,8 @@ pub use accesses::{Access, LoadOperator, StoreOperator};
 pub use decoding::{decode, one_module};
 pub use fault::LoadFault;
 pub use instruction::{
-    BinaryOperator, BlockType, BranchTable, Comparison, Instruction, MemArg, UnaryOperator,
-    ValueType,
+    BinaryOperator, BlockType, BranchTable, Comparison, Instruction, IntegerType, MemArg,
+    UnaryOperator, ValueType,
 };
 pub use items::{Bytes, Items, Name};
 pub use module::{

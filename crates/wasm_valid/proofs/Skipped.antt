@@ -6,6 +6,7 @@ use Rattle.wasm_module.specs.declared.number.Sign.{Sign}
 use Rattle.wasm_module.specs.declared.number.Sign.TheVariants.{Signed, Unsigned}
 use Rattle.wasm_module.specs.declared.instruction.ValueType.{ValueType}
 use Rattle.wasm_module.specs.declared.instruction.ValueType.TheVariants.{I32, I64}
+use Rattle.wasm_module.specs.declared.instruction.IntegerType.TheVariants as int
 use Rattle.wasm_module.specs.declared.instruction.UnaryOperator.TheVariants.{Extend32S}
 use Rattle.wasm_module.specs.declared.instruction.BlockType.{BlockType}
 use Rattle.wasm_module.specs.declared.instruction.BlockType.TheVariants.{Empty, Value}
@@ -107,7 +108,7 @@ immediates_skipped op.MemoryCopy text rest h =
 immediates_skipped op.MemoryFill text rest h = number_and_zero text rest 11 h
 immediates_skipped (op.I32Const n) text rest h = number_skipped Signed 32 n text rest h
 immediates_skipped (op.I64Const n) text rest h = number_skipped Signed 64 n text rest h
-immediates_skipped (op.Unary I32 Extend32S) text rest h = absurd h
+immediates_skipped (op.Unary int.I32 Extend32S) text rest h = absurd h
 immediates_skipped i text rest h = ap (λ z. z ++ rest) h
 
 instruction_skipped : (i : Instruction) (text rest : List ℕ) → SpellsInstruction text i → after_instruction i (text ++ rest) ≡ rest

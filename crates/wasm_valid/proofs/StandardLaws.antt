@@ -3,6 +3,7 @@ use Rattle.std.proofs.Common.{◌≡◌, List, [], ◌∷◌, ◌++◌, refl, sy
 use Rattle.wasm_module.specs.declared.instruction.ValueType.{ValueType}
 use Rattle.wasm_module.specs.declared.instruction.ValueType.TheVariants.{I32, I64}
 use Rattle.wasm_module.specs.declared.instruction.BlockType.{BlockType}
+use Rattle.wasm_module.specs.Types.{integer}
 use Rattle.wasm_module.specs.Accesses.{load_access, store_access}
 use Rattle.wasm_module.specs.declared.instruction.Instruction.{Instruction}
 use Rattle.wasm_module.specs.declared.instruction.Instruction.TheVariants as op
@@ -48,10 +49,10 @@ op_wide c ls op.MemoryCopy a b w h = (h.0, moves_wide (I32 ∷ I32 ∷ I32 ∷ [
 op_wide c ls op.MemoryFill a b w h = (h.0, moves_wide (I32 ∷ I32 ∷ I32 ∷ []) [] a b w h.1)
 op_wide c ls (op.I32Const n) a b w h = moves_wide [] (I32 ∷ []) a b w h
 op_wide c ls (op.I64Const n) a b w h = moves_wide [] (I64 ∷ []) a b w h
-op_wide c ls (op.Eqz t) a b w h = moves_wide (t ∷ []) (I32 ∷ []) a b w h
-op_wide c ls (op.Compare t o) a b w h = moves_wide (t ∷ t ∷ []) (I32 ∷ []) a b w h
-op_wide c ls (op.Unary t o) a b w h = (h.0, moves_wide (t ∷ []) (t ∷ []) a b w h.1)
-op_wide c ls (op.Binary t o) a b w h = moves_wide (t ∷ t ∷ []) (t ∷ []) a b w h
+op_wide c ls (op.Eqz t) a b w h = moves_wide (integer t ∷ []) (I32 ∷ []) a b w h
+op_wide c ls (op.Compare t o) a b w h = moves_wide (integer t ∷ integer t ∷ []) (I32 ∷ []) a b w h
+op_wide c ls (op.Unary t o) a b w h = (h.0, moves_wide (integer t ∷ []) (integer t ∷ []) a b w h.1)
+op_wide c ls (op.Binary t o) a b w h = moves_wide (integer t ∷ integer t ∷ []) (integer t ∷ []) a b w h
 op_wide c ls op.I32WrapI64 a b w h = moves_wide (I64 ∷ []) (I32 ∷ []) a b w h
 op_wide c ls op.I64ExtendI32S a b w h = moves_wide (I32 ∷ []) (I64 ∷ []) a b w h
 op_wide c ls op.I64ExtendI32U a b w h = moves_wide (I32 ∷ []) (I64 ∷ []) a b w h

@@ -3,10 +3,13 @@ use Rattle.std.specs.Prelude.{◌≡◌, ℕ, ◌^◌, ◌≤◌, List, [], ◌�
 use Rattle.std.specs.List.{AllByRecursion}
 use Rattle.wasm_module.specs.declared.instruction.ValueType.{ValueType}
 use Rattle.wasm_module.specs.declared.instruction.ValueType.TheVariants.{I32, I64}
+use Rattle.wasm_module.specs.declared.instruction.IntegerType.{IntegerType}
+use Rattle.wasm_module.specs.declared.instruction.IntegerType.TheVariants as int
 use Rattle.wasm_module.specs.declared.instruction.BlockType.{BlockType}
 use Rattle.wasm_module.specs.declared.instruction.BlockType.TheVariants.{Empty, Value}
 use Rattle.wasm_module.specs.declared.instruction.MemArg.{MemArg}
 use Rattle.wasm_module.specs.declared.accesses.Access.{Access}
+use Rattle.wasm_module.specs.Types.{integer}
 use Rattle.wasm_module.specs.Accesses.{load_access, store_access}
 use Rattle.wasm_module.specs.declared.instruction.UnaryOperator.{UnaryOperator}
 use Rattle.wasm_module.specs.declared.instruction.UnaryOperator.TheVariants.{Extend32S}
@@ -56,8 +59,8 @@ abbrev pub Stores : Context → Access → MemArg → List ValueType → List Va
 Stores c n m a b = (c.has_memory ≡ true) × (2 ^ m.align ≤ 2 ^ n.width) × Moves (n.value_type ∷ I32 ∷ []) [] a b
 
 -- extend32_s is only of i64
-abbrev pub IsOperator : ValueType → UnaryOperator → Type 0
-IsOperator I32 Extend32S = ⊥
+abbrev pub IsOperator : IntegerType → UnaryOperator → Type 0
+IsOperator int.I32 Extend32S = ⊥
 IsOperator t o = Unit {0}
 
 -- an instruction of type [a] -> [b] (sections 3.3.1 to 3.3.5)
@@ -93,10 +96,10 @@ OpTyped c ls op.MemoryCopy a b = (c.has_memory ≡ true) × Moves (I32 ∷ I32 �
 OpTyped c ls op.MemoryFill a b = (c.has_memory ≡ true) × Moves (I32 ∷ I32 ∷ I32 ∷ []) [] a b
 OpTyped c ls (op.I32Const n) a b = Moves [] (I32 ∷ []) a b
 OpTyped c ls (op.I64Const n) a b = Moves [] (I64 ∷ []) a b
-OpTyped c ls (op.Eqz t) a b = Moves (t ∷ []) (I32 ∷ []) a b
-OpTyped c ls (op.Compare t o) a b = Moves (t ∷ t ∷ []) (I32 ∷ []) a b
-OpTyped c ls (op.Unary t o) a b = IsOperator t o × Moves (t ∷ []) (t ∷ []) a b
-OpTyped c ls (op.Binary t o) a b = Moves (t ∷ t ∷ []) (t ∷ []) a b
+OpTyped c ls (op.Eqz t) a b = Moves (integer t ∷ []) (I32 ∷ []) a b
+OpTyped c ls (op.Compare t o) a b = Moves (integer t ∷ integer t ∷ []) (I32 ∷ []) a b
+OpTyped c ls (op.Unary t o) a b = IsOperator t o × Moves (integer t ∷ []) (integer t ∷ []) a b
+OpTyped c ls (op.Binary t o) a b = Moves (integer t ∷ integer t ∷ []) (integer t ∷ []) a b
 OpTyped c ls op.I32WrapI64 a b = Moves (I64 ∷ []) (I32 ∷ []) a b
 OpTyped c ls op.I64ExtendI32S a b = Moves (I32 ∷ []) (I64 ∷ []) a b
 OpTyped c ls op.I64ExtendI32U a b = Moves (I32 ∷ []) (I64 ∷ []) a b

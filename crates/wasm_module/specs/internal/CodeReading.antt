@@ -2,8 +2,8 @@
 -- the blocks that are open, and stops at the `end` that closes the last of them.
 use Rattle.std.specs.Prelude.{ℕ, zero, suc, ◌-◌, List, [], ◌∷◌, ◌++◌, length, Option, Some, None, Bool, ◌&&◌, nat_lt, nat_le, ◌==◌, if◌then◌else◌}
 use Rattle.wasm_module.specs.declared.number.Sign.TheVariants.{Signed}
-use Rattle.wasm_module.specs.declared.instruction.ValueType.{ValueType}
-use Rattle.wasm_module.specs.declared.instruction.ValueType.TheVariants.{I32, I64}
+use Rattle.wasm_module.specs.declared.instruction.IntegerType.{IntegerType}
+use Rattle.wasm_module.specs.declared.instruction.IntegerType.TheVariants.{I32, I64}
 use Rattle.wasm_module.specs.declared.instruction.BlockType.{BlockType}
 use Rattle.wasm_module.specs.declared.instruction.MemArg.{MemArg}
 use Rattle.wasm_module.specs.declared.accesses.LoadOperator.{LoadOperator}
@@ -70,7 +70,7 @@ binary_operator_of n =
     if n == 14 then Some binary.Rotr else (
     None)))))))))))))))
 
-unfoldable pub unary_of : ℕ → Option (ValueType × UnaryOperator)
+unfoldable pub unary_of : ℕ → Option (IntegerType × UnaryOperator)
 unary_of b =
     if b == 0x67 then Some (I32, unary.Clz) else (
     if b == 0x68 then Some (I32, unary.Ctz) else (
@@ -85,10 +85,10 @@ unary_of b =
     if b == 0xC4 then Some (I64, unary.Extend32S) else (
     None)))))))))))
 
-abbrev pub compared : ValueType → ℕ → Option Instruction
+abbrev pub compared : IntegerType → ℕ → Option Instruction
 compared t n = comparison_of n >>= λ o. Some (op.Compare t o)
 
-abbrev pub operated : ValueType → ℕ → Option Instruction
+abbrev pub operated : IntegerType → ℕ → Option Instruction
 operated t n = binary_operator_of n >>= λ o. Some (op.Binary t o)
 
 abbrev pub unary_instruction : ℕ → Option Instruction

@@ -7,6 +7,8 @@ use Rattle.std.specs.List.{list_all}
 use Rattle.std.specs.Option.{option_map, option_and_then}
 use Rattle.wasm_module.specs.declared.instruction.ValueType.{ValueType}
 use Rattle.wasm_module.specs.declared.instruction.ValueType.TheVariants.{I32, I64}
+use Rattle.wasm_module.specs.declared.instruction.IntegerType.{IntegerType}
+use Rattle.wasm_module.specs.declared.instruction.IntegerType.TheVariants as int
 use Rattle.wasm_module.specs.declared.instruction.BlockType.{BlockType}
 use Rattle.wasm_module.specs.declared.instruction.BlockType.TheVariants.{Empty, Value}
 use Rattle.wasm_module.specs.declared.instruction.MemArg.{MemArg}
@@ -15,6 +17,7 @@ use Rattle.wasm_module.specs.declared.instruction.UnaryOperator.TheVariants.{Ext
 use Rattle.wasm_module.specs.declared.instruction.Instruction.{Instruction}
 use Rattle.wasm_module.specs.declared.instruction.Instruction.TheVariants as op
 use Rattle.wasm_module.specs.declared.module.FuncType.{FuncType}
+use Rattle.wasm_module.specs.Types.{integer}
 use Rattle.wasm_module.specs.Accesses.{load_access, store_access}
 use Rattle.wasm_valid.specs.declared.effects.Takes.{Takes}
 use Rattle.wasm_valid.specs.declared.effects.Takes.TheVariants.{Nothing, One, Two, Three}
@@ -54,8 +57,8 @@ access_of op.MemoryFill = Some (access 0 0 (Three I32 I32 I32) Empty)
 access_of i = None
 
 -- extend32_s is only of i64
-abbrev pub is_operator : ValueType → UnaryOperator → Bool
-is_operator I32 Extend32S = false
+abbrev pub is_operator : IntegerType → UnaryOperator → Bool
+is_operator int.I32 Extend32S = false
 is_operator t o = true
 
 -- instructions on numbers, and nop
@@ -63,10 +66,10 @@ abbrev pub numeric_effect : Instruction → Option Effect
 numeric_effect op.Nop = Some (effect Nothing Empty)
 numeric_effect (op.I32Const n) = Some (effect Nothing (Value I32))
 numeric_effect (op.I64Const n) = Some (effect Nothing (Value I64))
-numeric_effect (op.Eqz t) = Some (effect (One t) (Value I32))
-numeric_effect (op.Compare t o) = Some (effect (Two t t) (Value I32))
-numeric_effect (op.Unary t o) = if_true (is_operator t o) (effect (One t) (Value t))
-numeric_effect (op.Binary t o) = Some (effect (Two t t) (Value t))
+numeric_effect (op.Eqz t) = Some (effect (One (integer t)) (Value I32))
+numeric_effect (op.Compare t o) = Some (effect (Two (integer t) (integer t)) (Value I32))
+numeric_effect (op.Unary t o) = if_true (is_operator t o) (effect (One (integer t)) (Value (integer t)))
+numeric_effect (op.Binary t o) = Some (effect (Two (integer t) (integer t)) (Value (integer t)))
 numeric_effect op.I32WrapI64 = Some (effect (One I64) (Value I32))
 numeric_effect op.I64ExtendI32S = Some (effect (One I32) (Value I64))
 numeric_effect op.I64ExtendI32U = Some (effect (One I32) (Value I64))
