@@ -2,9 +2,13 @@
 
 ghost use Rattle.std.specs.Prelude.{◌≡◌};
 ghost use Rattle.wasm_module.specs.Types.{integer};
-ghost use Rattle.wasm_valid.specs.internal.Effects.{effect, access, load, store, access_of, is_operator, numeric_effect};
+ghost use Rattle.wasm_valid.specs.Typing.{as_wide, float_gives};
+ghost use Rattle.wasm_valid.specs.internal.Effects.{effect, access, load, store, access_of, is_operator, float_operands, numeric_effect};
 
-use wasm_module::{Access, BlockType, Instruction, IntegerType, MemArg, UnaryOperator, ValueType};
+use wasm_module::{
+    Access, BlockType, FloatOperator, FloatType, Instruction, IntegerType, MemArg, UnaryOperator,
+    ValueType,
+};
 
 /// Types that are taken, the one on top first.
 #[derive(Clone, Copy)]
@@ -114,6 +118,54 @@ fn two(integer_type: IntegerType) -> Takes
     Takes::Two(operand, operand)
 }
 
+/// The integers that have as many bits as these floats.
+fn as_wide(float_type: FloatType) -> IntegerType
+    ensures { result ≡ as_wide float_type }
+{
+    match float_type {
+        FloatType::F32 => IntegerType::I32,
+        FloatType::F64 => IntegerType::I64,
+    }
+}
+
+/// What an operator on floats takes.
+fn float_operands(operator: FloatOperator) -> Takes
+    ensures { result ≡ float_operands operator }
+{
+    match operator {
+        FloatOperator::Compare(float, _) | FloatOperator::Binary(float, _) => {
+            Takes::Two(float.value_type(), float.value_type())
+        }
+        FloatOperator::Unary(float, _)
+        | FloatOperator::Truncate(_, float, _)
+        | FloatOperator::Saturate(_, float, _)
+        | FloatOperator::ToBits(float) => Takes::One(float.value_type()),
+        FloatOperator::Convert(_, integer, _) => Takes::One(integer.value_type()),
+        FloatOperator::Demote => Takes::One(ValueType::F64),
+        FloatOperator::Promote => Takes::One(ValueType::F32),
+        FloatOperator::FromBits(float) => Takes::One(as_wide(float).value_type()),
+    }
+}
+
+/// What an operator on floats gives.
+fn float_result(operator: FloatOperator) -> ValueType
+    ensures { result ≡ float_gives operator }
+{
+    match operator {
+        FloatOperator::Compare(_, _) => ValueType::I32,
+        FloatOperator::Unary(float, _)
+        | FloatOperator::Binary(float, _)
+        | FloatOperator::Convert(float, _, _)
+        | FloatOperator::FromBits(float) => float.value_type(),
+        FloatOperator::Truncate(integer, _, _) | FloatOperator::Saturate(integer, _, _) => {
+            integer.value_type()
+        }
+        FloatOperator::Demote => ValueType::F32,
+        FloatOperator::Promote => ValueType::F64,
+        FloatOperator::ToBits(float) => as_wide(float).value_type(),
+    }
+}
+
 /// An instruction on numbers, or `nop` (section 3.3.1); None for any other.
 pub fn numeric(instruction: &Instruction) -> Option<Effect>
     ensures { result ≡ numeric_effect instruction.now }
@@ -134,6 +186,9 @@ pub fn numeric(instruction: &Instruction) -> Option<Effect>
         Instruction::I32WrapI64 => (Takes::One(ValueType::I64), ValueType::I32),
         Instruction::I64ExtendI32S => (Takes::One(ValueType::I32), ValueType::I64),
         Instruction::I64ExtendI32U => (Takes::One(ValueType::I32), ValueType::I64),
+        Instruction::F32Const(_) => (Takes::Nothing, ValueType::F32),
+        Instruction::F64Const(_) => (Takes::Nothing, ValueType::F64),
+        Instruction::Float(operator) => (float_operands(*operator), float_result(*operator)),
         _ => return None,
     };
     Some(Effect::new(takes, BlockType::Value(gives)))
