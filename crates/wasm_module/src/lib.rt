@@ -9,13 +9,13 @@ mod fault;
 mod floats;
 mod instruction;
 mod items;
-mod laws;
 mod limits;
 mod module;
 mod number;
 mod open_blocks;
 mod parts;
 mod profile;
+mod shared_laws;
 
 pub use accesses::{Access, LoadOperator, StoreOperator};
 pub use decoding::{decode, decode_with, one_module, one_module_with};
@@ -26,10 +26,10 @@ pub use instruction::{
     ValueType,
 };
 pub use items::{Bytes, Items, Name};
-pub use laws::{floats_take_more, integers_alone};
 pub use module::{
     Body, DataSegment, ElementSegment, Export, ExportKind, FuncType, GlobalEntry, GlobalType,
     Import, ImportKind, Limits, Locals, Module,
 };
 pub use number::Sign;
 pub use profile::Profile;
+pub use shared_laws::{floats_take_more, integers_alone};
