@@ -4,7 +4,7 @@ use Rattle.std.specs.Prelude.{nat_eq, nat_le, slice_set}
 use Rattle.std.proofs.lemmas.Option.{none-some}
 use Rattle.std.proofs.lemmas.Bool.{and_parts}
 use Rattle.wasm_module.specs.declared.instruction.ValueType.{ValueType}
-use Rattle.wasm_module.specs.declared.instruction.ValueType.TheVariants.{I32, I64}
+use Rattle.wasm_module.specs.declared.instruction.ValueType.TheVariants.{I32, I64, F32, F64}
 use Rattle.wasm_module.specs.declared.instruction.Instruction.{Instruction}
 use Rattle.wasm_module.specs.declared.instruction.Instruction.TheVariants as op
 use Rattle.wasm_module.specs.declared.module.FuncType.{FuncType}
@@ -24,8 +24,9 @@ use Rattle.same_run.proofs.Branching.{top, below}
 abbrev pub same_type : ValueType → ValueType → Bool
 same_type I32 I32 = true
 same_type I64 I64 = true
-same_type I32 I64 = false
-same_type I64 I32 = false
+same_type F32 F32 = true
+same_type F64 F64 = true
+same_type t u = false
 
 abbrev pub same_types : List ValueType → List ValueType → Bool
 same_types [] [] = true
@@ -36,8 +37,9 @@ same_types (t ∷ ts) (u ∷ us) = same_type t u && same_types ts us
 type_is : (t u : ValueType) → same_type t u ≡ true → t ≡ u
 type_is I32 I32 is = refl
 type_is I64 I64 is = refl
-type_is I32 I64 is = cc
-type_is I64 I32 is = cc
+type_is F32 F32 is = refl
+type_is F64 F64 is = refl
+type_is t u is = cc
 
 types_are : (ts us : List ValueType) → same_types ts us ≡ true → ts ≡ us
 types_are [] [] is = refl
@@ -49,6 +51,8 @@ types_are (t ∷ ts) (u ∷ us) is = let parts = and_parts (same_type t u) (same
 type_itself : (t : ValueType) → same_type t t ≡ true
 type_itself I32 = refl
 type_itself I64 = refl
+type_itself F32 = refl
+type_itself F64 = refl
 
 types_itself : (ts : List ValueType) → same_types ts ts ≡ true
 types_itself [] = refl
@@ -162,6 +166,9 @@ performed i s f vs rest (op.Binary t o) = Some (computed s f (integer t) (below 
 performed i s f vs rest op.I32WrapI64 = Some (at s f (code (val I32 (top vs % 2 ^ 32) ∷ below vs) rest))
 performed i s f vs rest op.I64ExtendI32S = Some (at s f (code (val I64 (wrapped 64 (signed 32 (top vs))) ∷ below vs) rest))
 performed i s f vs rest op.I64ExtendI32U = Some (at s f (code (val I64 (top vs) ∷ below vs) rest))
+performed i s f vs rest (op.F32Const n) = Some (at s f (code (val F32 n ∷ vs) rest))
+performed i s f vs rest (op.F64Const n) = Some (at s f (code (val F64 n ∷ vs) rest))
+performed i s f vs rest (op.Float o) = Some (computed s f (float_gives o) (drop (length (float_takes o)) vs) rest (float_number o (numbers vs)))
 performed i s f vs rest other = None
 
 -- what is first in a list of instructions, where it is no call at work

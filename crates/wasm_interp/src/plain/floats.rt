@@ -1,6 +1,6 @@
 //! The operators on floats that an instruction names, each over the bits of its operands.
 
-ghost use Rattle.std.specs.Prelude.{◌≡◌, ◌<◌, ◌^◌, from_bits};
+ghost use Rattle.std.specs.Prelude.{◌≡◌, ◌<◌, ◌^◌, IfOk, from_bits};
 ghost use Rattle.std.specs.Float.Ieee.{binary32, binary64};
 ghost use Rattle.wasm_float.specs.Floats.{test};
 ghost use Rattle.wasm_module.specs.Types.{float, integer};
@@ -150,11 +150,169 @@ fn binary_64(operator: FloatBinaryOperator, x: u64, y: u64) -> u64
 }
 
 /// Why a conversion to integers traps.
-fn trap_of(untruncated: Untruncated) -> Trap
-    ensures { result ≡ untruncated untruncated }
+fn trap_of(reason: Untruncated) -> Trap
+    ensures { result ≡ untruncated reason }
 {
-    match untruncated {
+    match reason {
         Untruncated::NotANumber => Trap::InvalidConversion,
         Untruncated::OutOfRange => Trap::IntegerOverflow,
+    }
+}
+
+/// The whole part of an f32 as an i32, which it has to be.
+fn whole_32_of_32(sign: Sign, x: u32) -> Result<u32, Trap>
+    ensures { result ≡ whole_part 32 sign (from_bits binary32 x) }
+{
+    match sign {
+        Sign::Unsigned => match i32_trunc_f32_u(x) {
+            Ok(whole) => Ok(whole),
+            Err(reason) => Err(trap_of(reason)),
+        },
+        Sign::Signed => match i32_trunc_f32_s(x) {
+            Ok(whole) => Ok(whole.cast_unsigned()),
+            Err(reason) => Err(trap_of(reason)),
+        },
+    }
+}
+
+/// The whole part of an f64 as an i32, which it has to be.
+fn whole_32_of_64(sign: Sign, x: u64) -> Result<u32, Trap>
+    ensures { result ≡ whole_part 32 sign (from_bits binary64 x) }
+{
+    match sign {
+        Sign::Unsigned => match i32_trunc_f64_u(x) {
+            Ok(whole) => Ok(whole),
+            Err(reason) => Err(trap_of(reason)),
+        },
+        Sign::Signed => match i32_trunc_f64_s(x) {
+            Ok(whole) => Ok(whole.cast_unsigned()),
+            Err(reason) => Err(trap_of(reason)),
+        },
+    }
+}
+
+/// The whole part of an f32 as an i64, which it has to be.
+fn whole_64_of_32(sign: Sign, x: u32) -> Result<u64, Trap>
+    ensures { result ≡ whole_part 64 sign (from_bits binary32 x) }
+{
+    match sign {
+        Sign::Unsigned => match i64_trunc_f32_u(x) {
+            Ok(whole) => Ok(whole),
+            Err(reason) => Err(trap_of(reason)),
+        },
+        Sign::Signed => match i64_trunc_f32_s(x) {
+            Ok(whole) => Ok(whole.cast_unsigned()),
+            Err(reason) => Err(trap_of(reason)),
+        },
+    }
+}
+
+/// The whole part of an f64 as an i64, which it has to be.
+fn whole_64_of_64(sign: Sign, x: u64) -> Result<u64, Trap>
+    ensures { result ≡ whole_part 64 sign (from_bits binary64 x) }
+{
+    match sign {
+        Sign::Unsigned => match i64_trunc_f64_u(x) {
+            Ok(whole) => Ok(whole),
+            Err(reason) => Err(trap_of(reason)),
+        },
+        Sign::Signed => match i64_trunc_f64_s(x) {
+            Ok(whole) => Ok(whole.cast_unsigned()),
+            Err(reason) => Err(trap_of(reason)),
+        },
+    }
+}
+
+/// The whole part of a float as an integer of this type.
+///
+/// # Errors
+///
+/// `InvalidConversion` for a NaN, `IntegerOverflow` where the type has no such integer.
+pub fn whole_part(to: IntegerType, of: FloatType, sign: Sign, x: u64) -> Result<u64, Trap>
+    requires { x < 2 ^ width (float of) }
+    ensures number { result ≡ whole_part (width (integer to)) sign (from_bits (format of) x) }
+    ensures fits { IfOk result (λ r. r < 2 ^ width (integer to)) }
+{
+    match (to, of) {
+        (IntegerType::I32, FloatType::F32) => Ok(u64::from(whole_32_of_32(sign, x as u32)?)),
+        (IntegerType::I32, FloatType::F64) => Ok(u64::from(whole_32_of_64(sign, x)?)),
+        (IntegerType::I64, FloatType::F32) => whole_64_of_32(sign, x as u32),
+        (IntegerType::I64, FloatType::F64) => whole_64_of_64(sign, x),
+    }
+}
+
+/// The whole part of a float as an i32, or the i32 that is nearest to it.
+fn saturated_32(of: FloatType, sign: Sign, x: u64) -> u32
+    requires { x < 2 ^ width (float of) }
+    ensures { result ≡ saturated 32 sign (from_bits (format of) x) }
+{
+    match (of, sign) {
+        (FloatType::F32, Sign::Unsigned) => i32_trunc_sat_f32_u(x as u32),
+        (FloatType::F32, Sign::Signed) => i32_trunc_sat_f32_s(x as u32).cast_unsigned(),
+        (FloatType::F64, Sign::Unsigned) => i32_trunc_sat_f64_u(x),
+        (FloatType::F64, Sign::Signed) => i32_trunc_sat_f64_s(x).cast_unsigned(),
+    }
+}
+
+/// The whole part of a float as an i64, or the i64 that is nearest to it.
+fn saturated_64(of: FloatType, sign: Sign, x: u64) -> u64
+    requires { x < 2 ^ width (float of) }
+    ensures { result ≡ saturated 64 sign (from_bits (format of) x) }
+{
+    match (of, sign) {
+        (FloatType::F32, Sign::Unsigned) => i64_trunc_sat_f32_u(x as u32),
+        (FloatType::F32, Sign::Signed) => i64_trunc_sat_f32_s(x as u32).cast_unsigned(),
+        (FloatType::F64, Sign::Unsigned) => i64_trunc_sat_f64_u(x),
+        (FloatType::F64, Sign::Signed) => i64_trunc_sat_f64_s(x).cast_unsigned(),
+    }
+}
+
+/// The whole part of a float as an integer of this type, or the integer that is nearest to it.
+pub fn saturate(to: IntegerType, of: FloatType, sign: Sign, x: u64) -> u64
+    requires { x < 2 ^ width (float of) }
+    ensures number { result ≡ saturated (width (integer to)) sign (from_bits (format of) x) }
+    ensures fits { result < 2 ^ width (integer to) }
+{
+    match to {
+        IntegerType::I32 => u64::from(saturated_32(of, sign, x)),
+        IntegerType::I64 => saturated_64(of, sign, x),
+    }
+}
+
+/// The f32 that is nearest to an integer.
+fn converted_32(of: IntegerType, sign: Sign, x: u64) -> u32
+    requires { x < 2 ^ width (integer of) }
+    ensures { result ≡ converted binary32 (width (integer of)) sign x }
+{
+    match (of, sign) {
+        (IntegerType::I32, Sign::Unsigned) => f32_convert_i32_u(x as u32),
+        (IntegerType::I32, Sign::Signed) => f32_convert_i32_s((x as u32).cast_signed()),
+        (IntegerType::I64, Sign::Unsigned) => f32_convert_i64_u(x),
+        (IntegerType::I64, Sign::Signed) => f32_convert_i64_s(x.cast_signed()),
+    }
+}
+
+/// The f64 that is nearest to an integer.
+fn converted_64(of: IntegerType, sign: Sign, x: u64) -> u64
+    requires { x < 2 ^ width (integer of) }
+    ensures { result ≡ converted binary64 (width (integer of)) sign x }
+{
+    match (of, sign) {
+        (IntegerType::I32, Sign::Unsigned) => f64_convert_i32_u(x as u32),
+        (IntegerType::I32, Sign::Signed) => f64_convert_i32_s((x as u32).cast_signed()),
+        (IntegerType::I64, Sign::Unsigned) => f64_convert_i64_u(x),
+        (IntegerType::I64, Sign::Signed) => f64_convert_i64_s(x.cast_signed()),
+    }
+}
+
+/// The float of this type that is nearest to an integer.
+pub fn convert(to: FloatType, of: IntegerType, sign: Sign, x: u64) -> u64
+    requires { x < 2 ^ width (integer of) }
+    ensures number { result ≡ converted (format to) (width (integer of)) sign x }
+    ensures fits { result < 2 ^ width (float to) }
+{
+    match to {
+        FloatType::F32 => u64::from(converted_32(of, sign, x)),
+        FloatType::F64 => converted_64(of, sign, x),
     }
 }
