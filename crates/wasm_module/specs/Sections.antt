@@ -43,7 +43,7 @@ abbrev pub SpellsImportKind : Profile → List ℕ → ImportKind → Type 0
 SpellsImportKind p text (imported.Function x) = Then (Byte 0x00) U32 text (tt, x)
 SpellsImportKind p text (imported.Table l) = Then (Byte 0x01) SpellsTable text (tt, l)
 SpellsImportKind p text (imported.Memory l) = Then (Byte 0x02) SpellsLimits text (tt, l)
-SpellsImportKind p text (imported.Global g) = Then (Byte 0x03) (SpellsGlobalType p) p text (tt, g)
+SpellsImportKind p text (imported.Global g) = Then (Byte 0x03) (SpellsGlobalType p) text (tt, g)
 
 abbrev pub SpellsImport : Profile → List ℕ → Import → Type 0
 SpellsImport p text i = Then SpellsName (Then SpellsName (SpellsImportKind p)) text (i.module_name, (i.name, i.kind))
