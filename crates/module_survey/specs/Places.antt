@@ -9,6 +9,7 @@ use Rattle.wasm_module.specs.declared.module.Module.{Module}
 use Rattle.wasm_module.specs.Module.{Spells}
 use Rattle.wasm_module.specs.Reading.{◌>>=◌, next_at, u32_at, sized_at, raw_of}
 use Rattle.wasm_valid.specs.Validity.{kinds_of, imported_function}
+use Rattle.wasm_module.specs.declared.profile.Profile.{Profile}
 use Rattle.wasm_valid.specs.Offsets.{StandsBehind}
 use Rattle.module_survey.specs.declared.sections.Wanted.{Wanted}
 use Rattle.module_survey.specs.declared.sections.Wanted.TheVariants.{Code, AfterImports, Names, FunctionNames, Exports}
@@ -78,7 +79,7 @@ pub record IsInstructionAt (bytes : List ℕ) (own : ℕ) (b : Body) (index offs
   pub behind : List ℕ
   pub entry : own_entry bytes own ≡ Some (b.bytes, behind)
   pub parts : bytes ≡ front ++ (b.bytes ++ behind)
-  pub offset_is : (before : List ℕ) → StandsBehind b index before → offset ≡ length front + length before
+  pub offset_is : (p : Profile) (before : List ℕ) → StandsBehind p b index before → offset ≡ length front + length before
 
 -- the bytes up to the end of the imports, which are a module by themselves where they are read
 abbrev pub up_to_imports : List ℕ → List ℕ

@@ -4,7 +4,8 @@ ghost use Rattle.std.specs.Prelude.{◌≡◌, List, ℕ, IfOk, IfSome, IfNone, 
 ghost use Rattle.std.specs.Option.{option_map};
 ghost use Rattle.wasm_module.specs.declared.module.Body.{Body as BodyValue};
 ghost use Rattle.wasm_module.specs.declared.module.Module.{Module as ModuleValue};
-ghost use Rattle.wasm_module.specs.Module.{Spells};
+ghost use Rattle.wasm_module.specs.Module.{Spells, SpellsWith};
+ghost use Rattle.wasm_module.specs.declared.profile.Profile.{Profile as ProfileValue};
 ghost use Rattle.wasm_valid.specs.Offsets.{StandsBehind};
 ghost use Rattle.module_survey.specs.Places.{function_name, holding_entry, IsFunctionAt, IsInstructionAt, name_among, nth_entry, own_entry, own_function_at, up_to_imports};
 ghost use Rattle.module_survey.specs.internal.Counting.{IsCountedAfter};
@@ -83,8 +84,8 @@ pub fn instruction_offset(bytes: &[u8], own: usize, body: &Body<'_>, index: usiz
 /// A law: in the bytes of a module the body of each of its own functions stands in the entry of that function, and each of
 /// its instructions behind the locals and the instructions before it.
 pub fn instructions_stand_in_the_bytes()
-    ensures { (bytes : List ℕ) (m : ModuleValue) (own : ℕ) (b : BodyValue) (index : ℕ) → Spells bytes m → slice_get m.bodies own ≡ Some b
-        → (behind : List ℕ) × (own_entry bytes own ≡ Some (b.bytes, behind)) × (before : List ℕ) × StandsBehind b index before }
+    ensures { (p : ProfileValue) (bytes : List ℕ) (m : ModuleValue) (own : ℕ) (b : BodyValue) (index : ℕ) → SpellsWith p bytes m → slice_get m.bodies own ≡ Some b
+        → (behind : List ℕ) × (own_entry bytes own ≡ Some (b.bytes, behind)) × (before : List ℕ) × StandsBehind p b index before }
 {}
 
 /// The bytes up to the end of the imports.
