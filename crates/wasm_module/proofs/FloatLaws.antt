@@ -108,28 +108,28 @@ of_two_takes b base f o codes le e =
 conversion_takes : (b : ℕ) (o : FloatOperator) → conversion_of b ≡ Some o → Coded b o
 unfolding conversion_of
 conversion_takes b o =
-    picked (Coded b) b 0xA8 _ o _ (λ is. is) (
-    picked (Coded b) b 0xA9 _ o _ (λ is. is) (
-    picked (Coded b) b 0xAA _ o _ (λ is. is) (
-    picked (Coded b) b 0xAB _ o _ (λ is. is) (
-    picked (Coded b) b 0xAE _ o _ (λ is. is) (
-    picked (Coded b) b 0xAF _ o _ (λ is. is) (
-    picked (Coded b) b 0xB0 _ o _ (λ is. is) (
-    picked (Coded b) b 0xB1 _ o _ (λ is. is) (
-    picked (Coded b) b 0xB2 _ o _ (λ is. is) (
-    picked (Coded b) b 0xB3 _ o _ (λ is. is) (
-    picked (Coded b) b 0xB4 _ o _ (λ is. is) (
-    picked (Coded b) b 0xB5 _ o _ (λ is. is) (
-    picked (Coded b) b 0xB6 _ o _ (λ is. is) (
-    picked (Coded b) b 0xB7 _ o _ (λ is. is) (
-    picked (Coded b) b 0xB8 _ o _ (λ is. is) (
-    picked (Coded b) b 0xB9 _ o _ (λ is. is) (
-    picked (Coded b) b 0xBA _ o _ (λ is. is) (
-    picked (Coded b) b 0xBB _ o _ (λ is. is) (
-    picked (Coded b) b 0xBC _ o _ (λ is. is) (
-    picked (Coded b) b 0xBD _ o _ (λ is. is) (
-    picked (Coded b) b 0xBE _ o _ (λ is. is) (
-    picked (Coded b) b 0xBF _ o _ (λ is. is) (
+    picked (Coded b) b 0xA8 (float_op.Truncate I32 float_type.F32 Signed) o _ (λ is. is) (
+    picked (Coded b) b 0xA9 (float_op.Truncate I32 float_type.F32 Unsigned) o _ (λ is. is) (
+    picked (Coded b) b 0xAA (float_op.Truncate I32 float_type.F64 Signed) o _ (λ is. is) (
+    picked (Coded b) b 0xAB (float_op.Truncate I32 float_type.F64 Unsigned) o _ (λ is. is) (
+    picked (Coded b) b 0xAE (float_op.Truncate I64 float_type.F32 Signed) o _ (λ is. is) (
+    picked (Coded b) b 0xAF (float_op.Truncate I64 float_type.F32 Unsigned) o _ (λ is. is) (
+    picked (Coded b) b 0xB0 (float_op.Truncate I64 float_type.F64 Signed) o _ (λ is. is) (
+    picked (Coded b) b 0xB1 (float_op.Truncate I64 float_type.F64 Unsigned) o _ (λ is. is) (
+    picked (Coded b) b 0xB2 (float_op.Convert float_type.F32 I32 Signed) o _ (λ is. is) (
+    picked (Coded b) b 0xB3 (float_op.Convert float_type.F32 I32 Unsigned) o _ (λ is. is) (
+    picked (Coded b) b 0xB4 (float_op.Convert float_type.F32 I64 Signed) o _ (λ is. is) (
+    picked (Coded b) b 0xB5 (float_op.Convert float_type.F32 I64 Unsigned) o _ (λ is. is) (
+    picked (Coded b) b 0xB6 float_op.Demote o _ (λ is. is) (
+    picked (Coded b) b 0xB7 (float_op.Convert float_type.F64 I32 Signed) o _ (λ is. is) (
+    picked (Coded b) b 0xB8 (float_op.Convert float_type.F64 I32 Unsigned) o _ (λ is. is) (
+    picked (Coded b) b 0xB9 (float_op.Convert float_type.F64 I64 Signed) o _ (λ is. is) (
+    picked (Coded b) b 0xBA (float_op.Convert float_type.F64 I64 Unsigned) o _ (λ is. is) (
+    picked (Coded b) b 0xBB float_op.Promote o _ (λ is. is) (
+    picked (Coded b) b 0xBC (float_op.ToBits float_type.F32) o _ (λ is. is) (
+    picked (Coded b) b 0xBD (float_op.ToBits float_type.F64) o _ (λ is. is) (
+    picked (Coded b) b 0xBE (float_op.FromBits float_type.F32) o _ (λ is. is) (
+    picked (Coded b) b 0xBF (float_op.FromBits float_type.F64) o _ (λ is. is) (
     ended))))))))))))))))))))))
 
 -- an operator that is read has its opcode
@@ -153,14 +153,14 @@ Numbered n o = ⊥
 pub saturation_takes : (n : ℕ) (o : FloatOperator) → saturation_of n ≡ Some o → Numbered n o
 unfolding saturation_of
 saturation_takes n o =
-    picked (Numbered n) n 0 _ o _ (λ is. is) (
-    picked (Numbered n) n 1 _ o _ (λ is. is) (
-    picked (Numbered n) n 2 _ o _ (λ is. is) (
-    picked (Numbered n) n 3 _ o _ (λ is. is) (
-    picked (Numbered n) n 4 _ o _ (λ is. is) (
-    picked (Numbered n) n 5 _ o _ (λ is. is) (
-    picked (Numbered n) n 6 _ o _ (λ is. is) (
-    picked (Numbered n) n 7 _ o _ (λ is. is) (
+    picked (Numbered n) n 0 (float_op.Saturate I32 float_type.F32 Signed) o _ (λ is. is) (
+    picked (Numbered n) n 1 (float_op.Saturate I32 float_type.F32 Unsigned) o _ (λ is. is) (
+    picked (Numbered n) n 2 (float_op.Saturate I32 float_type.F64 Signed) o _ (λ is. is) (
+    picked (Numbered n) n 3 (float_op.Saturate I32 float_type.F64 Unsigned) o _ (λ is. is) (
+    picked (Numbered n) n 4 (float_op.Saturate I64 float_type.F32 Signed) o _ (λ is. is) (
+    picked (Numbered n) n 5 (float_op.Saturate I64 float_type.F32 Unsigned) o _ (λ is. is) (
+    picked (Numbered n) n 6 (float_op.Saturate I64 float_type.F64 Signed) o _ (λ is. is) (
+    picked (Numbered n) n 7 (float_op.Saturate I64 float_type.F64 Unsigned) o _ (λ is. is) (
     ended))))))))
 
 -- ---- they are read again

@@ -71,7 +71,7 @@ four_take bytes n rest e =
     let p = some_is (a.0 + 256 * (b.0 + 256 * (c.0 + 256 * d.0)), d.1) (n, rest) d.3 in
     let number : a.0 + 256 * (b.0 + 256 * (c.0 + 256 * d.0)) ≡ n = ap (λ (q : ℕ × List ℕ). q.0) p in
     let left : d.1 ≡ rest = ap (λ (q : ℕ × List ℕ). q.1) p in
-    record { text = a.0 ∷ b.0 ∷ c.0 ∷ d.0 ∷ []; spells = (refl, omega (arith, number)); parts = rw (a.2, b.2, c.2, d.2, left) refl }
+    record { text = a.0 ∷ b.0 ∷ c.0 ∷ d.0 ∷ []; spells = (omega arith, omega (arith, number)); parts = a.2 ∙ ap (λ (r : List ℕ). a.0 ∷ r) (b.2 ∙ ap (λ (r : List ℕ). b.0 ∷ r) (c.2 ∙ ap (λ (r : List ℕ). c.0 ∷ r) (d.2 ∙ ap (λ (r : List ℕ). d.0 ∷ r) left))) }
 
 -- four bytes are read
 four_again : (text : List ℕ) (n : ℕ) (rest : List ℕ) → FloatBits 4 text n → four_bytes_at (text ++ rest) ≡ Some (n, rest)
@@ -117,7 +117,7 @@ halved (a ∷ b ∷ c ∷ d ∷ more) n h = record {
   second = more;
   low = little_endian (a ∷ b ∷ c ∷ d ∷ []);
   high = little_endian more;
-  first_is = (refl, refl);
+  first_is = (omega arith, refl);
   second_is = (omega (arith, h.0), refl);
   text_is = refl;
   number = omega (arith, h.1);

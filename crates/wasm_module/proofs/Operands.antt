@@ -1,12 +1,12 @@
 -- Opcodes whose operand is read before they are told apart.
 use Rattle.std.proofs.Common.{Bool, true, false, ◌≡◌, ℕ, ◌<◌, ◌≤◌, cond, eqb, List, Option, Some, None, Result, Ok, Err, refl, sym, subst, ◌∙◌, arith}
-use Rattle.std.proofs.lemmas.Bool.{eqb-true, eqb-false}
+use Rattle.std.proofs.lemmas.Bool.{eqb-true, eqb-false, ne_eqb}
 use Rattle.wasm_module.specs.declared.profile.Profile.{Profile}
 use Rattle.wasm_module.specs.declared.fault.LoadFault.{LoadFault}
 use Rattle.wasm_module.specs.declared.instruction.BlockType.{BlockType}
 use Rattle.wasm_module.specs.declared.instruction.Instruction.{Instruction}
 use Rattle.wasm_module.specs.declared.instruction.Instruction.TheVariants as op
-use Rattle.wasm_module.specs.internal.CodeReading.{control_after, block_with, branch_with, variable_after, variable_with}
+use Rattle.wasm_module.specs.internal.CodeReading.{saturated, bulk_after, control_after, block_with, branch_with, variable_after, variable_with}
 use Rattle.wasm_module.specs.internal.TypesReading.{block_type_at}
 use Rattle.wasm_module.specs.Reading.{◌>>=◌, Gives, Reader, map_at, u32_at}
 
@@ -89,3 +89,9 @@ module _ (profile : Profile) where
   -- where the label of a branch can't be read, nothing can
   pub branches_none : (b : ℕ) (bytes : List ℕ) → 0x0C ≤ b → b ≤ 0x0D → u32_at bytes ≡ None → control_after profile b bytes ≡ None
   branches_none b bytes low high none_is = branches b bytes low high ∙ rw none_is refl
+
+  -- the saturating conversions stand behind the other numbers
+  pub saturations_given : (n : ℕ) (bytes : List ℕ) (r : Result Instruction LoadFault) → (n ≡ 10 → ⊥) → (n ≡ 11 → ⊥) → Gives (λ i. i) r (saturated profile n) → Gives (λ i. (i, bytes)) r (bulk_after profile n bytes)
+  unfolding bulk_after
+  saturations_given n bytes (Ok i) not_copy not_fill is = rw (ne_eqb n 10 not_copy, ne_eqb n 11 not_fill, is) refl
+  saturations_given n bytes (Err e) not_copy not_fill is = λ other. rw (ne_eqb n 10 not_copy, ne_eqb n 11 not_fill, is other) refl

@@ -75,35 +75,35 @@ module _ (profile : Profile) where
   pub load_has_opcode : (b : ℕ) (o : LoadOperator) → load_of profile b ≡ Some o → TakesLoad b o
   unfolding load_of
   load_has_opcode b o =
-      picked (TakesLoad b) b 0x28 _ o _ (λ is. (is, tt)) (
-      picked (TakesLoad b) b 0x29 _ o _ (λ is. (is, tt)) (
-      picked_with (TakesLoad b) profile b 0x2A _ o _ (λ is taken. (is, taken)) (
-      picked_with (TakesLoad b) profile b 0x2B _ o _ (λ is taken. (is, taken)) (
-      picked (TakesLoad b) b 0x2C _ o _ (λ is. (is, tt)) (
-      picked (TakesLoad b) b 0x2D _ o _ (λ is. (is, tt)) (
-      picked (TakesLoad b) b 0x2E _ o _ (λ is. (is, tt)) (
-      picked (TakesLoad b) b 0x2F _ o _ (λ is. (is, tt)) (
-      picked (TakesLoad b) b 0x30 _ o _ (λ is. (is, tt)) (
-      picked (TakesLoad b) b 0x31 _ o _ (λ is. (is, tt)) (
-      picked (TakesLoad b) b 0x32 _ o _ (λ is. (is, tt)) (
-      picked (TakesLoad b) b 0x33 _ o _ (λ is. (is, tt)) (
-      picked (TakesLoad b) b 0x34 _ o _ (λ is. (is, tt)) (
-      picked (TakesLoad b) b 0x35 _ o _ (λ is. (is, tt)) (
+      picked (TakesLoad b) b 0x28 load.I32Load o _ (λ is. (is, tt)) (
+      picked (TakesLoad b) b 0x29 load.I64Load o _ (λ is. (is, tt)) (
+      picked_with (TakesLoad b) profile b 0x2A load.F32Load o _ (λ is taken. (is, taken)) (
+      picked_with (TakesLoad b) profile b 0x2B load.F64Load o _ (λ is taken. (is, taken)) (
+      picked (TakesLoad b) b 0x2C load.I32Load8S o _ (λ is. (is, tt)) (
+      picked (TakesLoad b) b 0x2D load.I32Load8U o _ (λ is. (is, tt)) (
+      picked (TakesLoad b) b 0x2E load.I32Load16S o _ (λ is. (is, tt)) (
+      picked (TakesLoad b) b 0x2F load.I32Load16U o _ (λ is. (is, tt)) (
+      picked (TakesLoad b) b 0x30 load.I64Load8S o _ (λ is. (is, tt)) (
+      picked (TakesLoad b) b 0x31 load.I64Load8U o _ (λ is. (is, tt)) (
+      picked (TakesLoad b) b 0x32 load.I64Load16S o _ (λ is. (is, tt)) (
+      picked (TakesLoad b) b 0x33 load.I64Load16U o _ (λ is. (is, tt)) (
+      picked (TakesLoad b) b 0x34 load.I64Load32S o _ (λ is. (is, tt)) (
+      picked (TakesLoad b) b 0x35 load.I64Load32U o _ (λ is. (is, tt)) (
       ended))))))))))))))
 
   -- a store that an opcode is of has that opcode
   pub store_has_opcode : (b : ℕ) (o : StoreOperator) → store_of profile b ≡ Some o → TakesStore b o
   unfolding store_of
   store_has_opcode b o =
-      picked (TakesStore b) b 0x36 _ o _ (λ is. (is, tt)) (
-      picked (TakesStore b) b 0x37 _ o _ (λ is. (is, tt)) (
-      picked_with (TakesStore b) profile b 0x38 _ o _ (λ is taken. (is, taken)) (
-      picked_with (TakesStore b) profile b 0x39 _ o _ (λ is taken. (is, taken)) (
-      picked (TakesStore b) b 0x3A _ o _ (λ is. (is, tt)) (
-      picked (TakesStore b) b 0x3B _ o _ (λ is. (is, tt)) (
-      picked (TakesStore b) b 0x3C _ o _ (λ is. (is, tt)) (
-      picked (TakesStore b) b 0x3D _ o _ (λ is. (is, tt)) (
-      picked (TakesStore b) b 0x3E _ o _ (λ is. (is, tt)) (
+      picked (TakesStore b) b 0x36 store.I32Store o _ (λ is. (is, tt)) (
+      picked (TakesStore b) b 0x37 store.I64Store o _ (λ is. (is, tt)) (
+      picked_with (TakesStore b) profile b 0x38 store.F32Store o _ (λ is taken. (is, taken)) (
+      picked_with (TakesStore b) profile b 0x39 store.F64Store o _ (λ is taken. (is, taken)) (
+      picked (TakesStore b) b 0x3A store.I32Store8 o _ (λ is. (is, tt)) (
+      picked (TakesStore b) b 0x3B store.I32Store16 o _ (λ is. (is, tt)) (
+      picked (TakesStore b) b 0x3C store.I64Store8 o _ (λ is. (is, tt)) (
+      picked (TakesStore b) b 0x3D store.I64Store16 o _ (λ is. (is, tt)) (
+      picked (TakesStore b) b 0x3E store.I64Store32 o _ (λ is. (is, tt)) (
       ended)))))))))
 
   -- the operator on one integer that this byte spells

@@ -1,7 +1,7 @@
 //! What the instructions of floats are read from (section 5.4).
 
 ghost use Rattle.std.specs.Prelude.{◌≡◌};
-ghost use Rattle.wasm_module.specs.internal.CodeReading.{conversion_of, eight_bytes_at, float_after, float_binary_of, float_compared, float_comparison_of, float_of_one, float_of_two, float_operator_of, float_unary_of, four_bytes_at, is_float, saturation_of};
+ghost use Rattle.wasm_module.specs.internal.CodeReading.{conversion_of, eight_bytes_at, float_after, float_binary_of, float_compared, float_comparison_of, float_of_one, float_of_two, float_operator_of, float_unary_of, four_bytes_at, is_between, is_float, saturation_of};
 ghost use Rattle.wasm_module.specs.Reading.{Gives};
 
 use crate::cursor::Cursor;
@@ -151,15 +151,22 @@ fn float_operator(byte: u8) -> Option<FloatOperator>
     }
 }
 
+/// Whether an opcode is one of these.
+fn is_between(low: u8, high: u8, byte: u8) -> bool
+    ensures { result ≡ is_between low high byte }
+{
+    low <= byte && byte <= high
+}
+
 /// Whether this is an opcode of floats, but for those of loads and stores.
 pub fn is_float(byte: u8) -> bool
     ensures { result ≡ is_float byte }
 {
-    (0x43..=0x44).contains(&byte)
-        || (0x5B..=0x66).contains(&byte)
-        || (0x8B..=0xA6).contains(&byte)
-        || (0xA8..=0xAB).contains(&byte)
-        || (0xAE..=0xBF).contains(&byte)
+    is_between(0x43, 0x44, byte)
+        || is_between(0x5B, 0x66, byte)
+        || is_between(0x8B, 0xA6, byte)
+        || is_between(0xA8, 0xAB, byte)
+        || is_between(0xAE, 0xBF, byte)
 }
 
 /// Four bytes, the lowest first.
