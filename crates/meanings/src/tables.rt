@@ -76,6 +76,7 @@ macro_rules! traps {
                 5 "uninitialized element"
                 6 "indirect call type mismatch"
                 7 "call stack exhausted"
+                8 "invalid conversion to integer"
             }
             $($more)*
         }

@@ -1,5 +1,5 @@
 -- The rules of plain instructions once more, as a function: what the next one makes of values, locals and the store.
-use Rattle.std.proofs.Common.{◌≡◌, ◌≢◌, ℕ, ◌+◌, ◌-◌, ◌*◌, ◌/◌, ◌%◌, ◌^◌, Bool, true, false, ◌&&◌, cond, List, [], ◌∷◌, ◌++◌, length, replicate, Option, Some, None, Result, Ok, Err, slice_get, refl, ◌∙◌, ap}
+use Rattle.std.proofs.Common.{◌≡◌, ◌≢◌, ℕ, ◌+◌, ◌-◌, ◌*◌, ◌/◌, ◌%◌, ◌^◌, Bool, true, false, ◌&&◌, cond, List, [], ◌∷◌, ◌++◌, length, take, drop, replicate, Option, Some, None, Result, Ok, Err, slice_get, refl, ◌∙◌, ap}
 use Rattle.std.specs.Prelude.{nat_eq, nat_le, slice_set}
 use Rattle.std.proofs.lemmas.Option.{none-some}
 use Rattle.std.proofs.lemmas.Bool.{and_parts}
@@ -9,13 +9,14 @@ use Rattle.wasm_module.specs.declared.instruction.Instruction.{Instruction}
 use Rattle.wasm_module.specs.declared.instruction.Instruction.TheVariants as op
 use Rattle.wasm_module.specs.declared.module.FuncType.{FuncType}
 use Rattle.wasm_module.specs.Instructions.{Instructions, done, plain, block, loop, if_then, if_else, invoke}
-use Rattle.wasm_valid.specs.Typing.{arity}
+use Rattle.wasm_valid.specs.Typing.{arity, float_takes, float_gives}
 use Rattle.wasm_num.specs.declared.trap.Trap.{Trap}
 use Rattle.wasm_num.specs.declared.trap.Trap.TheVariants as traps
 use Rattle.wasm_num.specs.Numbers.{signed, wrapped, bool_number}
 use Rattle.wasm_module.specs.Types.{integer}
 use Rattle.wasm_steps.specs.Operators.{width, compare_test, unary_number, binary_number}
-use Rattle.wasm_steps.specs.Configuration.{Val, val, Callee, signature_of, Instance, Store, trapped, Code, code, label, stopped, Configuration, at}
+use Rattle.wasm_steps.specs.FloatOperators.{float_number}
+use Rattle.wasm_steps.specs.Configuration.{Val, val, numbers, Callee, signature_of, Instance, Store, trapped, Code, code, label, stopped, Configuration, at}
 use Rattle.wasm_steps.specs.Steps.{LoadOp, StoreOp, load_of, store_of, loaded, bytes_at, written, to_bytes}
 use Rattle.same_run.proofs.Branching.{top, below}
 
@@ -168,7 +169,7 @@ performed i s f vs rest op.I64ExtendI32S = Some (at s f (code (val I64 (wrapped 
 performed i s f vs rest op.I64ExtendI32U = Some (at s f (code (val I64 (top vs) ∷ below vs) rest))
 performed i s f vs rest (op.F32Const n) = Some (at s f (code (val F32 n ∷ vs) rest))
 performed i s f vs rest (op.F64Const n) = Some (at s f (code (val F64 n ∷ vs) rest))
-performed i s f vs rest (op.Float o) = Some (computed s f (float_gives o) (drop (length (float_takes o)) vs) rest (float_number o (numbers vs)))
+performed i s f vs rest (op.Float o) = Some (computed s f (float_gives o) (drop (length (float_takes o)) vs) rest (float_number o (numbers (take (length (float_takes o)) vs))))
 performed i s f vs rest other = None
 
 -- what is first in a list of instructions, where it is no call at work

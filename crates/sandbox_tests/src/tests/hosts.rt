@@ -407,7 +407,7 @@ fn answers_misuse(rt: HostRuntime) {
 }
 
 /// The texts of the traps, by their numbers, and none past the last.
-static TRAPS: [&[u8]; 9] = [
+static TRAPS: [&[u8]; 10] = [
     b"unreachable",
     b"integer divide by zero",
     b"integer overflow",
@@ -416,6 +416,7 @@ static TRAPS: [&[u8]; 9] = [
     b"uninitialized element",
     b"indirect call type mismatch",
     b"call stack exhausted",
+    b"invalid conversion to integer",
     b"",
 ];
 
