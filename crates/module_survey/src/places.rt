@@ -4,7 +4,7 @@ ghost use Rattle.std.specs.Prelude.{◌≡◌, List, ℕ, IfOk, IfSome, IfNone, 
 ghost use Rattle.std.specs.Option.{option_map};
 ghost use Rattle.wasm_module.specs.declared.module.Body.{Body as BodyValue};
 ghost use Rattle.wasm_module.specs.declared.module.Module.{Module as ModuleValue};
-ghost use Rattle.wasm_module.specs.Module.{Spells, SpellsWith};
+ghost use Rattle.wasm_module.specs.Module.{SpellsWith};
 ghost use Rattle.wasm_module.specs.declared.profile.Profile.{Profile as ProfileValue};
 ghost use Rattle.wasm_valid.specs.Offsets.{StandsBehind};
 ghost use Rattle.module_survey.specs.Places.{function_name, holding_entry, IsFunctionAt, IsInstructionAt, name_among, nth_entry, own_entry, own_function_at, up_to_imports};
@@ -14,7 +14,7 @@ use crate::sections::{Wanted, find, module_section, number, sized};
 use std::alloc::Global;
 use std::io;
 use std::io::{Error, ErrorKind};
-use wasm_module::{Body, LoadFault, decode};
+use wasm_module::{Body, LoadFault, Profile, decode_with};
 use wasm_valid::{imported_functions, instruction_place};
 
 /// The entry of the code section that holds a byte, with so many bytes from it to the entries' end.
@@ -100,10 +100,15 @@ fn up_to_imports(bytes: &[u8]) -> &[u8]
 
 /// The index of a module's own function, where the bytes, which end with the imports, are read as a module: the imported
 /// functions are counted first.
-fn counted_after_imports(alloc: Global, bytes: &[u8], own: u32) -> io::Result<Option<u64>>
-    ensures { IfOk result (IsCountedAfter bytes.now own) }
+fn counted_after_imports(
+    alloc: Global,
+    bytes: &[u8],
+    profile: Profile,
+    own: u32,
+) -> io::Result<Option<u64>>
+    ensures { IfOk result (IsCountedAfter profile bytes.now own) }
 {
-    match decode(alloc, bytes) {
+    match decode_with(alloc, bytes, profile) {
         Ok(module) => {
             let imported = imported_functions(alloc, module.imports.as_slice());
             drop(module); // by the call, since each end of the scope spells it out
@@ -118,11 +123,16 @@ fn counted_after_imports(alloc: Global, bytes: &[u8], own: u32) -> io::Result<Op
 
 /// The function that holds the byte at this offset, the imported ones counted first; none where there is none, or its
 /// imports can't be read.
-pub(crate) fn function_at(alloc: Global, bytes: &[u8], offset: u32) -> io::Result<Option<u64>>
-    ensures { IfOk result (IsFunctionAt bytes.now offset) }
+pub(crate) fn function_at(
+    alloc: Global,
+    bytes: &[u8],
+    profile: Profile,
+    offset: u32,
+) -> io::Result<Option<u64>>
+    ensures { IfOk result (IsFunctionAt profile bytes.now offset) }
 {
     match own_function_at(bytes, offset) {
-        Some(own) => counted_after_imports(alloc, up_to_imports(bytes), own),
+        Some(own) => counted_after_imports(alloc, up_to_imports(bytes), profile, own),
         None => Ok(None),
     }
 }

@@ -1,6 +1,7 @@
 use Rattle.std.proofs.Common.{ℕ, inl, inr, refl, sym, ◌∙◌, ap, subst, Some}
 use Rattle.run_report.specs.declared.fault.Fault.{Fault}
 use Rattle.sandbox_command.specs.Execution.{IsUntouched}
+use Rattle.sandbox_command.specs.Modules.{profile_for}
 use Rattle.sandbox_command.specs.Stopping.{AreLinesBy, TellsLines}
 use Rattle.sandbox_command.specs.internal.Runnable.{module_in}
 use Rattle.sandbox_command.proofs.Charged.{none_tells}
@@ -54,12 +55,12 @@ returns-clause-runs g c =
 -- it tells where it stopped
 pub returns-in-Ok-load-clause-lines : goal.returns-in-Ok-load-clause-lines
 returns-in-Ok-load-clause-lines g c =
-    lines_told c.args.«module».now c.in-Ok-load.valid c.args.run.now.frames c.run_valid-ran.result.1.stopped c.lines_of-lines.result.items c.in-Ok-load.ensures.found.0
+    lines_told (profile_for c.args.run.now.floats) c.args.«module».now c.in-Ok-load.valid c.args.run.now.frames c.run_valid-ran.result.1.stopped c.lines_of-lines.result.items c.in-Ok-load.ensures.found.0
     (subst (λ m. AreLinesBy c.args.«module».now m c.args.run.now.frames c.run_valid-ran.result.1.stopped c.lines_of-lines.result.items) (c.«module».ensures ∙ ap module_in c.run_valid-ran.ensures.«module») c.lines_of-lines.ensures)
 
 -- nothing is told where it didn't begin
 pub returns-clause-lines : goal.returns-clause-lines
-returns-clause-lines g c = subst (λ s. TellsLines c.args.«module».now c.args.run.now.frames s c.no_lines.result.items) (sym c.not_begun-left.ensures.stopped) c.no_lines.ensures
+returns-clause-lines g c = subst (λ s. TellsLines (profile_for c.args.run.now.floats) c.args.«module».now c.args.run.now.frames s c.no_lines.result.items) (sym c.not_begun-left.ensures.stopped) c.no_lines.ensures
 
 pub returns-clause-fuel_use : goal.returns-clause-fuel_use
 returns-clause-fuel_use g c = none_tells c.args.stacks _ c.not_begun-left.ensures.stopped

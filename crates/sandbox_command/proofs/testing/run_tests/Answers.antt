@@ -1,8 +1,9 @@
 use Rattle.std.proofs.Common.{Some, inl, inr, refl, sym, subst}
-use Rattle.wasm_module.specs.Module.{Spells}
+use Rattle.wasm_module.specs.Module.{SpellsWith}
 use Rattle.wasm_valid.specs.Validity.{IsValid}
 use Rattle.run_report.specs.declared.fault.Fault.TheVariants as reason
 use Rattle.run_report.specs.declared.summary.Kept.TheVariants as kept
+use Rattle.sandbox_command.specs.Modules.{profile_for}
 use Rattle.sandbox_command.specs.Reporting.{not_run, session_reason}
 use Rattle.sandbox_command.specs.internal.Runnable.{module_in}
 use Rattle.sandbox_command.specs.Testing.{HasFailed, HasRun}
@@ -22,7 +23,7 @@ returns-in-Err-clause-runs g c =
 pub returns-then-run_all-clause-runs : goal.returns-then-run_all-clause-runs
 returns-then-run_all-clause-runs g c =
     let prepared = module_in c.new-runnable.result in
-    let found = subst (λ m. Spells c.args.«module».now m × IsValid m) (sym c.new-runnable.ensures.«module») c.in-Ok-load.ensures.found in
+    let found = subst (λ m. SpellsWith (profile_for c.args.run.now.floats) c.args.«module».now m × IsValid m) (sym c.new-runnable.ensures.«module») c.in-Ok-load.ensures.found in
     inr (inr (
       prepared,
       found.0,
@@ -40,7 +41,7 @@ returns-then-run_all-clause-runs g c =
 pub returns-in-Ok-load-clause-runs : goal.returns-in-Ok-load-clause-runs
 returns-in-Ok-load-clause-runs g c =
     let prepared = module_in c.new-runnable.result in
-    let found = subst (λ m. Spells c.args.«module».now m × IsValid m) (sym c.new-runnable.ensures.«module») c.in-Ok-load.ensures.found in
+    let found = subst (λ m. SpellsWith (profile_for c.args.run.now.floats) c.args.«module».now m × IsValid m) (sym c.new-runnable.ensures.«module») c.in-Ok-load.ensures.found in
     inr (inr (
       prepared,
       found.0,
