@@ -224,7 +224,7 @@ module _ (i : Instance) where
   reduces f64_const_step given n = refl
   reduces (float_step {s = s} {f = f} {all = all} {vs = vs} {o = o} {r = r} {rest = rest} args is takes gives) given n =
       ap (λ z. Some (goes (ticked z))) (float_computed s f all vs args o rest (Ok r) is takes gives)
-  reduces (float_traps {s = s} {f = f} {all = all} {vs = vs} {o = o} {e = e} {rest = rest} args is takes gives) given n =
+  reduces (float_traps {s = s} {f = f} {all = all} {o = o} {e = e} {rest = rest} args vs is takes gives) given n =
       ap (λ z. Some (goes (ticked z))) (float_computed s f all vs args o rest (Err e) is takes gives)
 
 -- ---- where steps are made, no branch and no return comes next

@@ -276,24 +276,28 @@ module _ (profile : Profile) where
   saturation_spelled (float_op.Saturate t f s) n number is spells taken = (number, (taken, subst (U32 number) is spells), refl)
   saturation_spelled o n number is spells taken = absurd is
 
+  -- an instruction that nothing follows, and the bytes after it
+  abbrev beside : List ℕ → Instruction → Option (Instruction × List ℕ)
+  beside rest i = Some (i, rest)
+
   -- the saturating conversions
-  saturating_said : (n : ℕ) (number : List ℕ) (rest : List ℕ) (x : Instruction) (after : List ℕ) → U32 number n → (saturated profile n >>= λ i. Some (i, rest)) ≡ Some (x, after) → Said 0xFC (number ++ rest) x after
+  saturating_said : (n : ℕ) (number : List ℕ) (rest : List ℕ) (x : Instruction) (after : List ℕ) → U32 number n → (saturated profile n >>= beside rest) ≡ Some (x, after) → Said 0xFC (number ++ rest) x after
   saturating_said n number rest x after spells e =
-      let s = bind_some (saturated profile n) (λ i. Some (i, rest)) (x, after) e in
+      let s = bind_some (saturated profile n) (beside rest) (x, after) e in
       let t = bind_some (saturation_of n) (λ o. with_floats profile (op.Float o)) s.0 s.1 in
       let g = guard_some (takes_floats profile) (op.Float t.0) s.0 t.2 in
       let made : Said 0xFC (number ++ rest) (op.Float t.0) rest = record { text = 0xFC ∷ number; spells = saturation_spelled t.0 n number (saturation_takes n t.0 t.1) spells (are_taken profile g.0); parts = refl } in
-      subst (λ (q : Instruction × List ℕ). Said 0xFC (number ++ rest) q.0 q.1) (some_is (op.Float t.0, rest) (x, after) (ap (λ (i : Instruction). Some (i, rest)) g.1 ∙ s.2)) made
+      subst (λ (q : Instruction × List ℕ). Said 0xFC (number ++ rest) q.0 q.1) (some_is (op.Float t.0, rest) (x, after) (ap (beside rest) g.1 ∙ s.2)) made
 
   -- the instructions after FC, after their number
   bulk_said : (n : ℕ) (number : List ℕ) (rest : List ℕ) (x : Instruction) (after : List ℕ) → U32 number n → bulk_after profile n rest ≡ Some (x, after) → Said 0xFC (number ++ rest) x after
   unfolding bulk_after
   bulk_said n number rest x after spells e = by_copy (eqb n 10) refl e where
-    by_fill : (t : Bool) → eqb n 11 ≡ t → cond t (map_at (λ x. op.MemoryFill) (byte_at 0x00)) (λ rest. saturated profile n >>= λ i. Some (i, rest)) rest ≡ Some (x, after) → Said 0xFC (number ++ rest) x after
+    by_fill : (t : Bool) → eqb n 11 ≡ t → cond t (map_at (λ x. op.MemoryFill) (byte_at 0x00)) (λ (rest : List ℕ). saturated profile n >>= beside rest) rest ≡ Some (x, after) → Said 0xFC (number ++ rest) x after
     by_fill true is e = bulk_made (Unit {0}) (Byte 0x00) (byte_at 0x00) op.MemoryFill number rest x after reads_zero (λ text y h. (number ++ text, (number, text, subst (U32 number) (eqb-true _ _ is) spells, h, refl), refl)) e
     by_fill false is e = saturating_said n number rest x after spells e
 
-    by_copy : (t : Bool) → eqb n 10 ≡ t → cond t (map_at (λ x. op.MemoryCopy) (then_at (byte_at 0x00) (byte_at 0x00))) (cond (eqb n 11) (map_at (λ x. op.MemoryFill) (byte_at 0x00)) (λ rest. saturated profile n >>= λ i. Some (i, rest))) rest ≡ Some (x, after) → Said 0xFC (number ++ rest) x after
+    by_copy : (t : Bool) → eqb n 10 ≡ t → cond t (map_at (λ x. op.MemoryCopy) (then_at (byte_at 0x00) (byte_at 0x00))) (cond (eqb n 11) (map_at (λ x. op.MemoryFill) (byte_at 0x00)) (λ (rest : List ℕ). saturated profile n >>= beside rest)) rest ≡ Some (x, after) → Said 0xFC (number ++ rest) x after
     by_copy true is e = bulk_made (Unit {0} × Unit {0}) (Then (Byte 0x00) (Byte 0x00)) (then_at (byte_at 0x00) (byte_at 0x00)) op.MemoryCopy number rest x after reads_zeros (λ text y h. (number ++ text, (number, text, subst (U32 number) (eqb-true _ _ is) spells, h, refl), refl)) e
     by_copy false is e = by_fill (eqb n 11) refl e
 

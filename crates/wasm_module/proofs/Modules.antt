@@ -12,7 +12,7 @@ use Rattle.wasm_module.specs.declared.module.Module.{Module}
 use Rattle.wasm_module.specs.Grammar.{Then, U32, Vector, Sized}
 use Rattle.wasm_module.specs.Types.{SpellsFuncType, SpellsLimits, SpellsTable}
 use Rattle.wasm_module.specs.Sections.{Customs, Section, SpellsImport, SpellsGlobal, SpellsExport, SpellsElements, BodyContent, SpellsData}
-use Rattle.wasm_module.specs.Module.{Sections, SpellsSections, SpellsParts, Spells, CountsAgree, FitsProfile, module_of}
+use Rattle.wasm_module.specs.Module.{Sections, SpellsSections, SpellsParts, SpellsWith, CountsAgree, FitsProfile, module_of}
 use Rattle.wasm_module.specs.internal.ModuleReading.{preamble_at, Held, sections_of, sections_at, is_few, fits_profile, is_counted, counts_agree, module_and_count, module_from}
 use Rattle.wasm_module.specs.Reading.{◌>>=◌, Gives, Reader, byte_at, map_at, vector_at, whole, customs_at, section_at}
 use Rattle.wasm_module.proofs.Laws.{both_true, bind_some, guard_some, some_is, Front, Reads}

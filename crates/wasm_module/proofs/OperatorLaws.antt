@@ -18,7 +18,7 @@ use Rattle.wasm_module.specs.declared.instruction.Instruction.TheVariants as op
 use Rattle.wasm_module.specs.Profile.{TakesType}
 use Rattle.wasm_module.specs.Accesses.{load_access, store_access}
 use Rattle.wasm_module.specs.Instructions.{comparison_number, binary_operator_number, unary_opcode, load_opcode, store_opcode, SpellsImmediates, SpellsInstruction}
-use Rattle.wasm_module.specs.internal.CodeReading.{comparison_of, binary_operator_of, unary_of, compared, operated, numeric_of, numeric_after, mem_arg_at, load_of, load_after, store_of, store_after, instruction_after, instruction_at}
+use Rattle.wasm_module.specs.internal.CodeReading.{comparison_of, binary_operator_of, unary_of, compared, operated, numeric_of, numeric_after, mem_arg_at, load_of, load_after, store_of, store_after, operator_after, instruction_after, instruction_at}
 use Rattle.wasm_module.specs.Reading.{◌>>=◌, map_at}
 use Rattle.wasm_module.proofs.Laws.{bind_some, some_is, picked, picked_with, ended, ranged}
 
@@ -180,37 +180,37 @@ module _ (profile : Profile) where
 
   -- the comparisons of i32
   pub compare32 : (o : Comparison) → ReadsAgain (0x46 + comparison_number o) (op.Compare I32 o)
-  unfolding instruction_at instruction_after numeric_after numeric_of comparison_of
+  unfolding instruction_at instruction_after numeric_after numeric_of comparison_of operator_after
   compare32 comparison.Eq rest = refl
   compare32 o rest = refl
 
   -- the comparisons of i64
   pub compare64 : (o : Comparison) → ReadsAgain (0x51 + comparison_number o) (op.Compare I64 o)
-  unfolding instruction_at instruction_after numeric_after numeric_of comparison_of
+  unfolding instruction_at instruction_after numeric_after numeric_of comparison_of operator_after
   compare64 comparison.Eq rest = refl
   compare64 o rest = refl
 
   -- the operators on two integers of i32
   pub operate32 : (o : BinaryOperator) → ReadsAgain (0x6A + binary_operator_number o) (op.Binary I32 o)
-  unfolding instruction_at instruction_after numeric_after numeric_of binary_operator_of
+  unfolding instruction_at instruction_after numeric_after numeric_of binary_operator_of operator_after
   operate32 binary.Add rest = refl
   operate32 o rest = refl
 
   -- the operators on two integers of i64
   pub operate64 : (o : BinaryOperator) → ReadsAgain (0x7C + binary_operator_number o) (op.Binary I64 o)
-  unfolding instruction_at instruction_after numeric_after numeric_of binary_operator_of
+  unfolding instruction_at instruction_after numeric_after numeric_of binary_operator_of operator_after
   operate64 binary.Add rest = refl
   operate64 o rest = refl
 
   -- the operators on one i32
   pub unary32 : (o : UnaryOperator) (immediates : List ℕ) → SpellsImmediates profile immediates (op.Unary I32 o) → (immediates ≡ []) × ReadsAgain (unary_opcode I32 o) (op.Unary I32 o)
-  unfolding instruction_at instruction_after numeric_after numeric_of unary_of
+  unfolding instruction_at instruction_after numeric_after numeric_of unary_of operator_after
   unary32 unary.Extend32S immediates h = absurd h
   unary32 o immediates h = (h, λ rest. refl)
 
   -- the operators on one i64
   pub unary64 : (o : UnaryOperator) (immediates : List ℕ) → SpellsImmediates profile immediates (op.Unary I64 o) → (immediates ≡ []) × ReadsAgain (unary_opcode I64 o) (op.Unary I64 o)
-  unfolding instruction_at instruction_after numeric_after numeric_of unary_of
+  unfolding instruction_at instruction_after numeric_after numeric_of unary_of operator_after
   unary64 unary.Clz immediates h = (h, λ rest. refl)
   unary64 o immediates h = (h, λ rest. refl)
 

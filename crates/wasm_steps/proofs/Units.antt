@@ -60,7 +60,7 @@ rewrites extend_unsigned = (tt, refl)
 rewrites f32_const_step = (tt, refl)
 rewrites f64_const_step = (tt, refl)
 rewrites (float_step _ _ _ _) = (tt, refl)
-rewrites (float_traps _ _ _ _) = (tt, refl)
+rewrites (float_traps _ _ _ _ _) = (tt, refl)
 rewrites (branches jumps) = (jumps_plain jumps, refl)
 rewrites (returns returned) = (returns_plain returned, refl)
 
