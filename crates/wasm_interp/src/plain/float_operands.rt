@@ -3,13 +3,16 @@
 ghost use Rattle.std.specs.Prelude.{◌≡◌, ℕ, ◌<◌, ◌^◌, length, reverse, slice_index, vec_capacity, OnOk, IfOk, IfErr, Ok, Err};
 ghost use Rattle.wasm_valid.specs.Typing.{float_takes, float_gives};
 ghost use Rattle.wasm_steps.specs.Operators.{width};
-ghost use Rattle.wasm_steps.specs.FloatOperators.{float_number};
-ghost use Rattle.wasm_interp.specs.internal.Plain.Performing.{AreOnTop, Gives};
+ghost use Rattle.wasm_steps.specs.FloatOperators.{float_binary, float_number, float_test, format};
+ghost use Rattle.wasm_num.specs.Numbers.{bool_number};
+ghost use Rattle.wasm_float.specs.Floats.{test};
+ghost use Rattle.wasm_module.specs.Types.{float};
+ghost use Rattle.wasm_interp.specs.internal.Plain.Performing.{AreOnTop, Gives, HasTwo};
 
 use crate::plain::floats::{binary, compare, convert, saturate, unary, whole_part};
 use crate::plain::operands::{operand, replace};
 use wasm_float::{f32_demote_f64, f64_promote_f32};
-use wasm_module::FloatOperator;
+use wasm_module::{FloatBinaryOperator, FloatComparison, FloatOperator, FloatType};
 use wasm_num::Trap;
 
 /// How many operands an operator takes.
@@ -22,6 +25,32 @@ fn taken(operator: FloatOperator) -> usize
     }
 }
 
+/// Whether a comparison of the two numbers on top holds, as 1 or 0.
+fn compared(values: &[u64], of: FloatType, comparison: FloatComparison) -> u64
+    requires { HasTwo (float of) (reverse values.now) }
+    ensures number { result ≡ bool_number (test (format of) (float_test comparison) (slice_index (reverse values.now) 1) (slice_index (reverse values.now) 0)) }
+    ensures fits { result < 2 ^ 32 }
+{
+    let second = operand(values, 0);
+    let first = operand(values, 1);
+    if compare(of, comparison, first, second) {
+        1
+    } else {
+        0
+    }
+}
+
+/// What an operator makes of the two numbers on top.
+fn joined(values: &[u64], of: FloatType, operator: FloatBinaryOperator) -> u64
+    requires { HasTwo (float of) (reverse values.now) }
+    ensures number { result ≡ float_binary (format of) operator (slice_index (reverse values.now) 1) (slice_index (reverse values.now) 0) }
+    ensures fits { result < 2 ^ width (float of) }
+{
+    let second = operand(values, 0);
+    let first = operand(values, 1);
+    binary(of, operator, first, second)
+}
+
 /// What an operator makes of two numbers on top, or of the one.
 fn made(values: &[u64], operator: FloatOperator) -> Result<u64, Trap>
     requires { AreOnTop (float_takes operator) (reverse values.now) }
@@ -29,20 +58,17 @@ fn made(values: &[u64], operator: FloatOperator) -> Result<u64, Trap>
     ensures fits { IfOk result (λ r. r < 2 ^ width (float_gives operator)) }
 {
     let top = operand(values, 0);
-    let number = match operator {
-        FloatOperator::Compare(of, comparison) => {
-            u64::from(compare(of, comparison, operand(values, 1), top))
-        }
-        FloatOperator::Unary(of, operator) => unary(of, operator, top),
-        FloatOperator::Binary(of, operator) => binary(of, operator, operand(values, 1), top),
-        FloatOperator::Truncate(to, of, sign) => return whole_part(to, of, sign, top),
-        FloatOperator::Saturate(to, of, sign) => saturate(to, of, sign, top),
-        FloatOperator::Convert(to, of, sign) => convert(to, of, sign, top),
-        FloatOperator::Demote => u64::from(f32_demote_f64(top)),
-        FloatOperator::Promote => f64_promote_f32(top as u32),
-        FloatOperator::ToBits(_) | FloatOperator::FromBits(_) => top,
-    };
-    Ok(number)
+    match operator {
+        FloatOperator::Compare(of, comparison) => Ok(compared(values, of, comparison)),
+        FloatOperator::Unary(of, operator) => Ok(unary(of, operator, top)),
+        FloatOperator::Binary(of, operator) => Ok(joined(values, of, operator)),
+        FloatOperator::Truncate(to, of, sign) => whole_part(to, of, sign, top),
+        FloatOperator::Saturate(to, of, sign) => Ok(saturate(to, of, sign, top)),
+        FloatOperator::Convert(to, of, sign) => Ok(convert(to, of, sign, top)),
+        FloatOperator::Demote => Ok(u64::from(f32_demote_f64(top))),
+        FloatOperator::Promote => Ok(f64_promote_f32(top as u32)),
+        FloatOperator::ToBits(_) | FloatOperator::FromBits(_) => Ok(top),
+    }
 }
 
 /// What an operator makes of the numbers on top, in their place.

@@ -3,14 +3,12 @@ use Rattle.std.specs.Global.{Vec}
 use Rattle.std.specs.Prelude.{max, vec_len, vec_capacity}
 use Rattle.std.proofs.lemmas.List.{length-reverse}
 use Rattle.std.proofs.lemmas.Grind.{common_steps}
-use Rattle.wasm_module.specs.declared.instruction.ValueType.{ValueType}
-use Rattle.wasm_module.specs.declared.instruction.FloatOperator.{FloatOperator}
-use Rattle.wasm_module.specs.declared.instruction.FloatOperator.TheVariants as float_op
 use Rattle.wasm_module.specs.declared.instruction.Instruction.{Instruction}
 use Rattle.wasm_num.specs.declared.trap.Trap.{Trap}
 use Rattle.wasm_num.specs.declared.trap.Trap.TheVariants as traps
 use Rattle.wasm_valid.specs.Typing.{float_takes}
-use Rattle.wasm_interp.specs.internal.Plain.Performing.{AreOnTop, IsReady, Performs, Traps}
+use Rattle.wasm_interp.specs.internal.Plain.Performing.{IsReady, Performs, Traps}
+use Rattle.wasm_interp.proofs.PlainSteps.Floating.{are_there, some_taken}
 use Rattle.wasm_interp.proofs.plain.work.work.Goals as goal
 
 -- what is said of the instruction that it is
@@ -27,24 +25,6 @@ put_for vs ws x n some there is = omega (arith, some, there, ap length is, lengt
 dropped_top : (vs ws : List ℕ) → 0 < length vs → ws ≡ drop 1 vs → (v : ℕ) × (vs ≡ v ∷ ws)
 dropped_top [] ws some is = absurd (omega (arith, some))
 dropped_top (v ∷ vs) ws some is = (v, ap (λ (y : List ℕ). v ∷ y) (sym is))
-
--- an operator on floats takes one value at least, and they are there
-some_taken : (o : FloatOperator) → 0 < length (float_takes o)
-some_taken (float_op.Compare f o) = omega arith
-some_taken (float_op.Unary f o) = omega arith
-some_taken (float_op.Binary f o) = omega arith
-some_taken (float_op.Truncate t f s) = omega arith
-some_taken (float_op.Saturate t f s) = omega arith
-some_taken (float_op.Convert f t s) = omega arith
-some_taken float_op.Demote = omega arith
-some_taken float_op.Promote = omega arith
-some_taken (float_op.ToBits f) = omega arith
-some_taken (float_op.FromBits f) = omega arith
-
-are_there : (ts : List ValueType) (vs : List ℕ) → AreOnTop ts vs → length ts ≤ length vs
-are_there [] vs on = omega arith
-are_there (t ∷ ts) [] on = absurd on
-are_there (t ∷ ts) (v ∷ vs) on = omega (arith, are_there ts vs on.1)
 
 -- there is as much room as before, for no more values
 spare_still : (old new : Vec ℕ) → length (reverse new.items) ≤ length (reverse old.items) → vec_len old < vec_capacity old → vec_capacity new ≡ vec_capacity old → vec_len new < vec_capacity new
