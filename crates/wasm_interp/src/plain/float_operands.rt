@@ -10,7 +10,7 @@ ghost use Rattle.wasm_module.specs.Types.{float};
 ghost use Rattle.wasm_interp.specs.internal.Plain.Performing.{AreOnTop, Gives, HasTwo};
 
 use crate::plain::floats::{binary, compare, convert, saturate, unary, whole_part};
-use crate::plain::operands::{operand, replace};
+use crate::plain::operands::{flag, operand, replace};
 use wasm_float::{f32_demote_f64, f64_promote_f32};
 use wasm_module::{FloatBinaryOperator, FloatComparison, FloatOperator, FloatType};
 use wasm_num::Trap;
@@ -33,11 +33,7 @@ fn compared(values: &[u64], of: FloatType, comparison: FloatComparison) -> u64
 {
     let second = operand(values, 0);
     let first = operand(values, 1);
-    if compare(of, comparison, first, second) {
-        1
-    } else {
-        0
-    }
+    flag(compare(of, comparison, first, second))
 }
 
 /// What an operator makes of the two numbers on top.

@@ -107,7 +107,7 @@ pub fn push_zeros(values: &mut Vec<u64>, count: usize)
 }
 
 /// 1 where a test holds.
-fn flag(holds: bool) -> u64
+pub fn flag(holds: bool) -> u64
     ensures { result ≡ bool_number holds }
 {
     if holds { 1 } else { 0 }
