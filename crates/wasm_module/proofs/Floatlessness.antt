@@ -92,8 +92,9 @@ code_is (if_then t body rest) last end text e h =
     (instruction_is (op.If t) h.0 h.3, both_have IsFloatless (flatten op.End body) (flatten end rest) (code_is body 0x0B op.End h.1 tt h.4) (code_is rest last end h.2 e h.5))
 code_is (if_else t body other rest) last end text e h = (
   instruction_is (op.If t) h.0 h.4,
-  both_have IsFloatless (flatten op.Else body) (flatten op.End other ++ flatten end rest) (code_is body 0x05 op.Else h.1 tt h.5)
-      (both_have IsFloatless (flatten op.End other) (flatten end rest) (code_is other 0x0B op.End h.2 tt h.6) (code_is rest last end h.3 e h.7)),
+  both_have IsFloatless (flatten op.Else body ++ flatten op.End other) (flatten end rest)
+      (both_have IsFloatless (flatten op.Else body) (flatten op.End other) (code_is body 0x05 op.Else h.1 tt h.5) (code_is other 0x0B op.End h.2 tt h.6))
+      (code_is rest last end h.3 e h.7),
 )
 code_is (invoke x rest) last end text e h = absurd h
 

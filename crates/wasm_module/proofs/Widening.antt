@@ -34,9 +34,6 @@ Widens {X} A B = (text : List ℕ) (x : X) → A text x → B text x
 then_widens : {X Y : Type 0} {A A' : List ℕ → X → Type 0} {B B' : List ℕ → Y → Type 0} → Widens A A' → Widens B B' → Widens (Then A B) (Then A' B')
 then_widens a b text x h = (h.0, h.1, a h.0 x.0 h.2, b h.1 x.1 h.3, h.4)
 
-itself : {X : Type 0} {A : List ℕ → X → Type 0} → Widens A A
-itself text x h = h
-
 each_widens : {X : Type 0} {A A' : List ℕ → X → Type 0} → Widens A A' → (text : List ℕ) (xs : List X) → Each A text xs → Each A' text xs
 each_widens a text [] h = h
 each_widens a text (x ∷ xs) h = (h.0, h.1, a h.0 x h.2, each_widens a h.1 xs h.3, h.4)
