@@ -2,7 +2,7 @@ use Rattle.std.proofs.Common.{Result, Ok, Err, IfErr, sym, subst}
 use Rattle.std.proofs.lemmas.Result.{err_from_is_err_and}
 use Rattle.wasm_valid.specs.Validity.{IsValid}
 use Rattle.wasm_valid.specs.Refusal.{IsRefusal}
-use Rattle.sandbox_core.proofs.loading.load.Goals as goal
+use Rattle.sandbox_core.proofs.loading.load_with.Goals as goal
 
 if_err : {T E : Type 0} (P Q : E → Type 0) (r : Result T E) → ((e : E) → P e → Q e) → IfErr r P → IfErr r Q
 if_err P Q (Ok x) follows p = tt
@@ -22,4 +22,4 @@ returns-in_err-module-clause-no c =
 pub returns-clause-no : goal.returns-clause-no
 returns-clause-no c =
     if_err _ _ c.validate.result (λ e no other m spells valid.
-    no other (subst IsValid (c.one_module.ensures c.args.bytes.now m _ spells c.in_ok-module.ensures.found) valid)) c.validate.ensures.no
+    no other (subst IsValid (c.one_module_with.ensures c.args.profile c.args.bytes.now m _ spells c.in_ok-module.ensures.found) valid)) c.validate.ensures.no

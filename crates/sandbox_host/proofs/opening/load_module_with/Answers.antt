@@ -3,16 +3,17 @@ use Rattle.std.proofs.lemmas.Bool.{false≢true}
 use Rattle.std.specs.Option.{IsSomeAnd, is_none}
 use Rattle.sandbox_host.specs.declared.handle.Handle.{Handle}
 use Rattle.sandbox_host.specs.declared.held.Held.{Held}
-use Rattle.sandbox_host.specs.Sessions.{loaded, prepared, bytes_of, IsLoaded}
+use Rattle.sandbox_host.specs.Sessions.{loaded, prepared, bytes_of, IsLoadedWith}
+use Rattle.sandbox_host.specs.Supplies.{profile_of}
 use Rattle.sandbox_host.proofs.Closed.{none_of}
-use Rattle.sandbox_host.proofs.opening.load_module.Goals as goal
+use Rattle.sandbox_host.proofs.opening.load_module_with.Goals as goal
 
 pub returns-in-Ok : goal.returns-in-Ok
 returns-in-Ok c =
     let closed : is_none c.args.module.now.held ≡ true = sym c.is_closed.ensures.0 ∙ c.if-not-is_closed.false in
     record {
       misuse = λ is_open. absurd (false≢true (sym is_open ∙ closed));
-      loaded = λ _ e. (subst (λ (h : Option Held). IsSomeAnd (loaded h) (IsLoaded c.args.bytes.now)) (sym (c.keep.ensures.kept e)) c.in-Ok.ensures.loaded, ap prepared (c.keep.ensures.kept e), refl);
+      loaded = λ _ e. (subst (λ (h : Option Held). IsSomeAnd (loaded h) (IsLoadedWith (profile_of c.args.floats) c.args.bytes.now)) (sym (c.keep.ensures.kept e)) c.in-Ok.ensures.loaded, ap prepared (c.keep.ensures.kept e), refl);
       refused = λ _ e. let no = c.keep.ensures.refused e in (no.1, inr (no.0, refl));
       bytes = λ e. ap bytes_of (c.keep.ensures.kept e) ∙ c.new.ensures;
     }

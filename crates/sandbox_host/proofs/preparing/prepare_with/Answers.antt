@@ -1,7 +1,7 @@
 use Rattle.std.proofs.Common.{◌∙◌, ap, refl, inr}
 use Rattle.sandbox_host.specs.declared.handle.Handle.{Handle}
 use Rattle.sandbox_host.proofs.Closed.{none_of}
-use Rattle.sandbox_host.proofs.preparing.prepare.Goals as goal
+use Rattle.sandbox_host.proofs.preparing.prepare_with.Goals as goal
 
 -- memory for the handle was refused
 pub returns-in-Ok-make_ready-clause-refused : goal.returns-in-Ok-make_ready-clause-refused
