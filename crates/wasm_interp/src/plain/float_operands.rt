@@ -21,7 +21,14 @@ fn taken(operator: FloatOperator) -> usize
 {
     match operator {
         FloatOperator::Compare(_, _) | FloatOperator::Binary(_, _) => 2,
-        _ => 1,
+        FloatOperator::Unary(_, _)
+        | FloatOperator::Truncate(_, _, _)
+        | FloatOperator::Saturate(_, _, _)
+        | FloatOperator::Convert(_, _, _)
+        | FloatOperator::Demote
+        | FloatOperator::Promote
+        | FloatOperator::ToBits(_)
+        | FloatOperator::FromBits(_) => 1,
     }
 }
 
