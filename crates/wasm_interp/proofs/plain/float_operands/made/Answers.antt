@@ -1,5 +1,6 @@
 use Rattle.std.proofs.Common.{◌≡◌, ℕ, ◌<◌, ◌^◌, List, reverse, Result, Ok, IfOk, sym, ap, ◌∙◌, subst, arith}
-use Rattle.std.specs.Prelude.{slice_index, from_bits}
+use Rattle.std.specs.Prelude.{from_bits}
+use Rattle.std.proofs.lemmas.List.{length-reverse}
 use Rattle.wasm_module.specs.Types.{float, integer}
 use Rattle.wasm_module.specs.declared.instruction.FloatOperator.{FloatOperator}
 use Rattle.wasm_num.specs.declared.trap.Trap.{Trap}
@@ -30,7 +31,7 @@ topmost : (n m x : ℕ) → x ≡ m → m < n → x < n
 topmost n m x is fits = omega (arith, is, fits)
 
 pub operand-top-requires : goal.operand-top-requires
-operand-top-requires c = one_there c.args.operator (reverse c.args.values.now) c.requires
+operand-top-requires c = omega (arith, one_there c.args.operator (reverse c.args.values.now) c.requires, length-reverse c.args.values.now)
 
 pub compared-requires : goal.compared-requires
 compared-requires c = has_two (float c.in-Compare.of) (reverse c.args.values.now) (on_top_of (reverse c.args.values.now) c.in-Compare.is c.requires)
@@ -39,7 +40,9 @@ pub joined-requires : goal.joined-requires
 joined-requires c = has_two (float c.in-Binary.of) (reverse c.args.values.now) (on_top_of (reverse c.args.values.now) c.in-Binary.is c.requires)
 
 pub unary-requires : goal.unary-requires
-unary-requires c = topmost _ _ _ c.operand-top.ensures (has_one (float c.in-Unary.of) (reverse c.args.values.now) (on_top_of (reverse c.args.values.now) c.in-Unary.is c.requires)).1
+unary-requires c = record {
+  number = topmost _ _ _ c.operand-top.ensures (has_one (float c.in-Unary.of) (reverse c.args.values.now) (on_top_of (reverse c.args.values.now) c.in-Unary.is c.requires)).1;
+}
 
 pub whole_part-requires : goal.whole_part-requires
 whole_part-requires c = topmost _ _ _ c.operand-top.ensures (has_one (float c.in-Truncate.of) (reverse c.args.values.now) (on_top_of (reverse c.args.values.now) c.in-Truncate.is c.requires)).1
@@ -77,7 +80,7 @@ returns-in-Convert c =
     made (reverse c.args.values.now) _ w.is (ap Ok (c.convert.ensures.number ∙ ap (λ (x : ℕ). converted (format w.to) (width (integer w.of)) w.sign x) c.operand-top.ensures)) c.convert.ensures.fits
 
 pub returns-in-Demote : goal.returns-in-Demote
-returns-in-Demote c = made (reverse c.args.values.now) _ c.in-Demote.is (ap Ok (c.f32_demote_f64.ensures.value ∙ ap demoted c.operand-top.ensures)) (omega arith)
+returns-in-Demote c = made (reverse c.args.values.now) _ c.in-Demote.is (ap Ok (c.from.ensures ∙ (c.f32_demote_f64.ensures.value ∙ ap demoted c.operand-top.ensures))) (omega (arith, c.from.ensures))
 
 pub returns-in-Promote : goal.returns-in-Promote
 returns-in-Promote c = made (reverse c.args.values.now) _ c.in-Promote.is (ap Ok (c.f64_promote_f32.ensures.value ∙ ap promoted c.operand-top.ensures)) (omega arith)
