@@ -13,7 +13,7 @@ use crate::telling::{Told, tell_frames};
 use run_profile::Profile;
 use sandbox_core::{Frame, Outcome, Resumable, Tally, finish_run, run_slice};
 use std::alloc::Global;
-use std::io::{Read, Write};
+use stream_answers::{Inlet, Outlet};
 use vol_sector::Device;
 
 /// How many functions at work are told apart. A machine has no more.
@@ -24,9 +24,9 @@ fn read_functions<S, D, R, W1, W2>(session: &S, functions: &mut Vec<usize>) -> b
 where
     S: Resumable<D, R, W1, W2>,
     D: Device,
-    R: Read,
-    W1: Write,
-    W2: Write,
+    R: Inlet,
+    W1: Outlet,
+    W2: Outlet,
     ensures { OnTrue result (functions.new.items ≡ functions_of (S.state session.now)) }
 {
     functions.clear();
@@ -48,9 +48,9 @@ fn enter<S, D, R, W1, W2>(session: &S, profile: &mut Profile, functions: &mut Ve
 where
     S: Resumable<D, R, W1, W2>,
     D: Device,
-    R: Read,
-    W1: Write,
-    W2: Write,
+    R: Inlet,
+    W1: Outlet,
+    W2: Outlet,
     ensures grows { Grows profile.old profile.new }
     ensures node { IsNodeOf profile.new (functions_of (S.state session.now)) result }
     ensures there { result < length profile.new.units }
@@ -73,9 +73,9 @@ fn run_charged<S, D, R, W1, W2>(
 where
     S: Resumable<D, R, W1, W2>,
     D: Device,
-    R: Read,
-    W1: Write,
-    W2: Write,
+    R: Inlet,
+    W1: Outlet,
+    W2: Outlet,
     requires within { used_by (S.state session.old) ≤ until }
     requires few { sum profile.old.units + (until - used_by (S.state session.old)) < 2 ^ 64 }
     ensures slice { RunsSlice (devices D.Device R.Read W1.Write W2.Write)
@@ -101,9 +101,9 @@ fn run_in_slices<S, D, R, W1, W2>(
 where
     S: Resumable<D, R, W1, W2>,
     D: Device,
-    R: Read,
-    W1: Write,
-    W2: Write,
+    R: Inlet,
+    W1: Outlet,
+    W2: Outlet,
     requires within { used_by (S.state session.old) ≤ fuel }
     requires few { sum profile.old.units + (fuel - used_by (S.state session.old)) < 2 ^ 64 }
     ensures { RunsInSlices (devices D.Device R.Read W1.Write W2.Write)
@@ -142,9 +142,9 @@ pub fn run_profiled<S, D, R, W1, W2>(
 where
     S: Resumable<D, R, W1, W2>,
     D: Device + Drop,
-    R: Read + Drop,
-    W1: Write + Drop,
-    W2: Write + Drop,
+    R: Inlet + Drop,
+    W1: Outlet + Drop,
+    W2: Outlet + Drop,
     requires unused { used_by (S.state session) ≡ 0 }
     requires few { sum profile.old.units + fuel < 2 ^ 64 }
     ensures kept { S.gives_back (S.state session).machine.valid result.kept }

@@ -8,7 +8,7 @@ ghost use Rattle.observed_run.specs.Telling.{ReportsTold, TellsFrames};
 ghost use Rattle.sandbox_core.specs.Slices.{outcome_after};
 
 use sandbox_core::{Frame, Outcome, Report, Resumable, Tally, finish_run, run_slice};
-use std::io::{Read, Write};
+use stream_answers::{Inlet, Outlet};
 use vol_sector::Device;
 
 /// What is told of a run.
@@ -47,9 +47,9 @@ pub(crate) fn tell_frames<S, D, R, W1, W2>(session: &S, room: &mut [Frame]) -> u
 where
     S: Resumable<D, R, W1, W2>,
     D: Device,
-    R: Read,
-    W1: Write,
-    W2: Write,
+    R: Inlet,
+    W1: Outlet,
+    W2: Outlet,
     ensures { TellsFrames (frames_of (S.state session.now).machine) room.new result }
 {
     for index in 0..usize::MAX {
@@ -72,9 +72,9 @@ pub fn run_told<S, D, R, W1, W2>(
 where
     S: Resumable<D, R, W1, W2>,
     D: Device + Drop,
-    R: Read + Drop,
-    W1: Write + Drop,
-    W2: Write + Drop,
+    R: Inlet + Drop,
+    W1: Outlet + Drop,
+    W2: Outlet + Drop,
     requires { used_by (S.state session) ≡ 0 }
     ensures kept { S.gives_back (S.state session).machine.valid result.kept }
     ensures told { ReportsTold (devices D.Device R.Read W1.Write W2.Write)

@@ -1,6 +1,6 @@
 //! Stacks of functions as a tree.
 
-ghost use Rattle.std.specs.Prelude.{ℕ, ◌≡◌, ◌+◌, ◌-◌, ◌<◌, ◌^◌, ◌≤◌, [], ◌∷◌, ◌++◌, ◌⊎◌, Some, suc, true, false, IfOk, IfSome, length, slice_get, slice_index, sum, drop, length, replicate};
+ghost use Rattle.std.specs.Prelude.{ℕ, ◌≡◌, ◌+◌, ◌-◌, ◌<◌, ◌^◌, ◌≤◌, [], ◌∷◌, ◌++◌, ◌⊎◌, Some, suc, true, false, IfOk, IfSome, length, slice_get, slice_index, sum, drop, length, option_map, replicate};
 ghost use Rattle.run_profile.specs.Stacks.{AddsUnits, Grows, IsNodeOf, IsStack};
 
 use indexmap::IndexSet;
@@ -132,6 +132,14 @@ impl Profile {
             }
         }
         node
+    }
+
+    /// The function of the node of this index, the bottom not counted; none past the last.
+    pub fn function(&self, index: usize) -> Option<usize>
+        ensures { result ≡ option_map (λ call. call.function) (slice_get self.now.calls index) }
+    {
+        let call = self.calls.get_index(index)?;
+        Some(call.function)
     }
 
     /// How many nodes there are, the bottom among them.

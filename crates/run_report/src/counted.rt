@@ -7,6 +7,7 @@ ghost use Rattle.run_report.specs.Counting.{Counts, failed_after, failed_after_w
 
 use std::io;
 use std::io::{ErrorKind, Read, Write};
+use stream_answers::{Inlet, Outlet};
 
 /// A stream, and how many bytes it gave or took. The count stops at `u64::MAX`.
 #[derive(Drop)]
@@ -102,5 +103,46 @@ impl<W: Write> Write for Counted<W> {
         ensures rest { (self.new.count ≡ self.old.count) × (self.new.most ≡ self.old.most) × (self.new.full ≡ self.old.full) × (self.new.failed ≡ self.old.failed) }
     {
         self.stream.flush()
+    }
+}
+
+impl<R: Inlet> Inlet for Counted<R> {
+    ghost use Rattle.std.specs.Prelude.{true};
+
+    ghost gave = { λ before bytes after. R.gave before.stream bytes after.stream × (after.failed ≡ before.failed) };
+
+    ghost refused = { λ before after. R.refused before.stream after.stream × (after.failed ≡ true) };
+
+    fn try_read(&mut self, buf: &mut [u8]) -> io::Result<usize> {
+        let moved = self.stream.try_read(buf);
+        self.note(moved)
+    }
+}
+
+impl<W: Outlet> Outlet for Counted<W> {
+    ghost use Rattle.std.specs.Prelude.{◌⊎◌, true};
+
+    ghost took = { λ before bytes after. W.took before.stream bytes after.stream × (after.failed ≡ before.failed) };
+
+    // The stream refused, and is noted as failed; or it has all that it takes, and isn't asked.
+    ghost refused = { λ before after. (W.refused before.stream after.stream × (after.failed ≡ true))
+        ⊎ ((after.stream ≡ before.stream) × (after.full ≡ true) × (after.failed ≡ before.failed)) };
+
+    ghost flushed = { λ before after. W.flushed before.stream after.stream × (after.failed ≡ before.failed) };
+
+    ghost refuses = { λ before after. W.refuses before.stream after.stream × (after.failed ≡ before.failed) };
+
+    fn try_write(&mut self, buf: &[u8]) -> io::Result<usize> {
+        let room = self.most.saturating_sub(self.count);
+        if room == 0 && !buf.is_empty() {
+            self.full = true;
+            return Err(io::Error::from(ErrorKind::WriteZero));
+        }
+        let moved = self.stream.try_write(fitting(buf, room));
+        self.note(moved)
+    }
+
+    fn try_flush(&mut self) -> bool {
+        self.stream.try_flush()
     }
 }

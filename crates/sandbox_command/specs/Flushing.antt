@@ -1,8 +1,9 @@
 -- What outputs answer when they are flushed, after a run or a command has ended. That one was flushed, or that it refused that, is
--- shown by who asked it alone, over any `Outlet` (`crates/sandbox_command/src/outlet.rt`): so what `flushed` of an end says, by which
--- a status is 124 and a line fault 41, is what the outputs answered. `WasFlushed` and `HasRefused` stand for what an output of
--- the system did; only the proofs of its impls introduce them.
+-- shown by who asked it alone, over any `Outlet` (`stream_answers`): so what `flushed` of an end says, by which
+-- a status is 124 and a line fault 41, is what the outputs answered.
 use Rattle.std.specs.Prelude.{◌≡◌, ◌⊎◌, Bool, true, false, None}
+use Rattle.sandbox_device.specs.declared.opening.Output.{Output}
+use Rattle.sandbox_device.specs.Written.{Flushes, WasCut, WasFlushed}
 use Rattle.sandbox_command.specs.declared.program.Executed.{Executed}
 
 -- it came to this by such an answer
@@ -24,18 +25,6 @@ module _ {W1 W2 : Type 0} (out_flushed out_refuses : W1 → W1 → Type 0) (err_
   abbrev pub RunAnswered : {D R : Type 0} → Executed D R W1 W2 → Type 0
   RunAnswered left = ((left.stopped ≡ None) × (left.flushed ≡ true)) ⊎ BothAnswered left.flushed left.out left.err
 
--- ---- the system
-
-pub WasFlushed : {W : Type 0} → W → W → Type 0
-WasFlushed before after = Unit {0}
-
-pub was_flushed : {W : Type 0} (before after : W) → WasFlushed before after
-unfolding WasFlushed
-was_flushed before after = tt
-
-pub HasRefused : {W : Type 0} → W → W → Type 0
-HasRefused before after = Unit {0}
-
-pub has_refused : {W : Type 0} (before after : W) → HasRefused before after
-unfolding HasRefused
-has_refused before after = tt
+-- ---- the system: a file of an output was cut, if it wasn't before, and flushed
+abbrev pub FileFlushed : Output → Output → Type 0
+FileFlushed before after = Flushes WasCut WasFlushed before.on after.on

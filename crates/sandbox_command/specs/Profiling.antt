@@ -78,6 +78,11 @@ stack_name bytes imported own =
     let index = min (imported + own) (2 ^ 64 - 1) in
     flat_map stack_byte (take 255 (called_or_index index (called_text index (called bytes index))))
 
+-- how the functions of a module are called: by its bytes, and by how many it imports
+pub record Naming : Type 0 where
+  pub bytes : List ℕ
+  pub imported : ℕ
+
 -- the text of stacks whose functions have these names
 abbrev pub IsProfile : (ℕ → Text) → Stacks → Text → Type 0
 IsProfile name stacks text = (lines : Text) × IsFolded stacks.calls name 0 stacks.units lines × (text ≡ lines ++ cut_text stacks.is_cut)

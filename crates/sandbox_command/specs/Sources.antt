@@ -23,6 +23,13 @@ sink_answered of_file of_given (sink.Given before) (sink.Made after) = ⊥
 sink_answered of_file of_given (sink.Made before) (sink.Given after) = ⊥
 sink_answered of_file of_given (sink.Made before) (sink.Made after) = of_file before after
 
+-- one gave bytes, or refused that, as the stream or the file in it did
+abbrev pub source_answered : {F R : Type 0} → (F → F → Type 0) → (R → R → Type 0) → Source F R → Source F R → Type 0
+source_answered of_file of_given (source.Given before) (source.Given after) = of_given before after
+source_answered of_file of_given (source.Given before) (source.Opened after) = ⊥
+source_answered of_file of_given (source.Opened before) (source.Given after) = ⊥
+source_answered of_file of_given (source.Opened before) (source.Opened after) = of_file before after
+
 -- a guest reads the stream that the program was given, or a file where one is named
 abbrev pub source_of : {F R : Type 0} → Option F → R → Source F R
 source_of None input = source.Given input

@@ -9,7 +9,6 @@ ghost use Rattle.sandbox_command.specs.Status.{ended_status, failure_status};
 
 use crate::ending::ended;
 use crate::explaining::About;
-use crate::outlet::Outlet;
 use crate::program::{Executed, FAULT, left_with};
 use crate::streams::Streams;
 use arrayvec::ArrayVec;
@@ -17,6 +16,7 @@ use run_report::rule_text;
 use sandbox_words::Task;
 use std::io::Write;
 use std::{fmt, io};
+use stream_answers::Outlet;
 use vol_sector::{Damage, VolumeFault};
 use volume_tasks::{Failure, print_all};
 

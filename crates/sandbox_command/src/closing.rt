@@ -214,11 +214,7 @@ fn print_use<P: Places, W: Write>(
     ensures lines { AppendsSome (W.contents err.old) (W.contents err.new) }
 {
     let mut file = file;
-    let names = StackNames {
-        alloc,
-        bytes: module,
-        imported: fuel_use.imported,
-    };
+    let names = StackNames::of(alloc, module, fuel_use);
     let printed = places.print_profile(alloc, name, &mut file, &fuel_use.stacks, &names);
     places.end(file);
     match printed {

@@ -7,12 +7,12 @@ ghost use Rattle.sandbox_command.specs.Status.{ended_status, export_status, fail
 ghost use Rattle.sandbox_command.specs.Streams.{AppendsSome};
 
 use crate::explaining::{About, tell_bytes, tell_of_output, tell_words};
-use crate::outlet::Outlet;
 use crate::output::{tell, tell_of_member};
 use crate::program::{Executed, FAULT, left_with, out_of_memory, refuse_file};
 use crate::streams::Streams;
 use meanings::{errno_cure, errno_text};
 use std::io::Write;
+use stream_answers::Outlet;
 use tar_stream::TarFault;
 use vol_sector::VolumeFault;
 use volume_archive::{Refusal, Why};

@@ -5,7 +5,8 @@ ghost use Rattle.std.specs.IoError.{error_kind};
 ghost use Rattle.std.specs.Process.{exit_status};
 ghost use Rattle.sandbox_command.specs.Around.{EndsGiven, around, flushing};
 ghost use Rattle.sandbox_command.specs.Files.{HasExecuted, IsAnswered, IsPerformed, IsPerformedOnSystem, DoesInspect};
-ghost use Rattle.sandbox_command.specs.Flushing.{HasRefused, WasFlushed};
+ghost use Rattle.stream_answers.specs.System.{HasRefused};
+ghost use Rattle.sandbox_command.specs.Flushing.{FileFlushed};
 ghost use Rattle.sandbox_command.specs.Status.{file_status};
 
 use crate::clashing::clashes;
@@ -14,7 +15,6 @@ use crate::host_places::HostPlaces;
 use crate::inspecting::inspect;
 use crate::modules::profile_for;
 use crate::opening::MODULE_READ;
-use crate::outlet::Outlet;
 use crate::places::Places;
 use crate::program;
 use crate::refusals::tell_of_clash;
@@ -24,9 +24,10 @@ use crate::testing::run_list;
 use crate::work::VolumeWork;
 use sandbox_words::{Invocation, Terminals, invocation};
 use std::alloc::Global;
-use std::io::{IsTerminal, Read};
+use std::io::IsTerminal;
 use std::process::ExitCode;
 use std::{env, io};
+use stream_answers::{Inlet, Outlet};
 
 /// The words that the program was called with. One that isn't UTF-8 is refused.
 fn words_given(rt: &HostRuntime) -> io::Result<Vec<String>> {
@@ -45,13 +46,13 @@ fn terminals(rt: &HostRuntime) -> Terminals {
 /// Does what the words of the command line ask for, with these streams, and gives the exit status.
 /// The statuses from 126 on are those of shells and of the script that builds the program, so that
 /// none of them comes from here.
-pub fn exit_code<R: Read + Drop, W1: Outlet + Drop, W2: Outlet + Drop>(
+pub fn exit_code<R: Inlet + Drop, W1: Outlet + Drop, W2: Outlet + Drop>(
     rt: &HostRuntime,
     input: R,
     out: W1,
     mut err: W2,
 ) -> ExitCode
-    ensures tells { IsAnswered R.Read W1.Write W2.Write (flushing WasFlushed HasRefused W1.flushed W1.refuses W2.flushed W2.refuses)
+    ensures tells { IsAnswered R.Read W1.Write W2.Write (flushing FileFlushed HasRefused W1.flushed W1.refuses W2.flushed W2.refuses)
         (record { input = input; out = out; err = err }) (exit_status result) }
     ensures within { exit_status result ≤ 125 }
 {
@@ -69,7 +70,7 @@ pub fn exit_code<R: Read + Drop, W1: Outlet + Drop, W2: Outlet + Drop>(
 }
 
 /// Does what an invocation asks for on the files of the system, with these streams, and gives the exit status.
-pub fn perform<R: Read + Drop, W1: Outlet + Drop, W2: Outlet + Drop>(
+pub fn perform<R: Inlet + Drop, W1: Outlet + Drop, W2: Outlet + Drop>(
     rt: &HostRuntime,
     invocation: &Invocation<'_>,
     input: R,
@@ -77,7 +78,7 @@ pub fn perform<R: Read + Drop, W1: Outlet + Drop, W2: Outlet + Drop>(
     err: W2,
 ) -> u8
     ensures tells { IsPerformedOnSystem R.Read W1.Write W2.Write
-        (flushing WasFlushed HasRefused W1.flushed W1.refuses W2.flushed W2.refuses) invocation.now (record { input = input; out = out; err = err }) result }
+        (flushing FileFlushed HasRefused W1.flushed W1.refuses W2.flushed W2.refuses) invocation.now (record { input = input; out = out; err = err }) result }
     ensures within { result ≤ 124 }
 {
     let mut places = HostPlaces::of(rt, invocation);
@@ -93,7 +94,7 @@ pub fn perform<R: Read + Drop, W1: Outlet + Drop, W2: Outlet + Drop>(
 /// and its streams; what is done with the volume in a file, which is made or lengthened to be formatted; or what a module is.
 /// Where a file can't be read or written, the status is 124, or 122 where it is out of memory. Options of a run that don't go
 /// together are refused before a file is asked for. All that it was given and all that it opened is given up at the end.
-pub fn perform_in<P: Places, R: Read + Drop, W1: Outlet + Drop, W2: Outlet + Drop>(
+pub fn perform_in<P: Places, R: Inlet + Drop, W1: Outlet + Drop, W2: Outlet + Drop>(
     alloc: Global,
     places: &mut P,
     invocation: &Invocation<'_>,
@@ -164,7 +165,7 @@ pub fn perform_in<P: Places, R: Read + Drop, W1: Outlet + Drop, W2: Outlet + Dro
 }
 
 /// Says that options don't go together, and gives up the streams.
-fn end_clashing<P: Places, R: Read + Drop, W1: Outlet + Drop, W2: Outlet + Drop>(
+fn end_clashing<P: Places, R: Inlet + Drop, W1: Outlet + Drop, W2: Outlet + Drop>(
     places: &mut P,
     invocation: &Invocation<'_>,
     given: Streams<R, W1, W2>,
@@ -184,7 +185,7 @@ fn end_clashing<P: Places, R: Read + Drop, W1: Outlet + Drop, W2: Outlet + Drop>
 /// Does something with the volume on the device of its file, with the streams that were given.
 // A function of its own, since its pieces of files would else be on the stack below a run, too.
 #[inline(never)]
-fn execute_on<P: Places, R: Read + Drop, W1: Outlet + Drop, W2: Outlet + Drop>(
+fn execute_on<P: Places, R: Inlet + Drop, W1: Outlet + Drop, W2: Outlet + Drop>(
     alloc: Global,
     places: &mut P,
     file: &str,
@@ -215,7 +216,7 @@ fn execute_on<P: Places, R: Read + Drop, W1: Outlet + Drop, W2: Outlet + Drop>(
 /// Tells what the module in a file is.
 // Likewise.
 #[inline(never)]
-fn inspect_file<P: Places, R: Read + Drop, W1: Outlet + Drop, W2: Outlet + Drop>(
+fn inspect_file<P: Places, R: Inlet + Drop, W1: Outlet + Drop, W2: Outlet + Drop>(
     alloc: Global,
     places: &mut P,
     path: &str,

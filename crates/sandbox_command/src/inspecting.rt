@@ -6,13 +6,13 @@ ghost use Rattle.sandbox_command.specs.Flushing.{Answered};
 ghost use Rattle.sandbox_command.specs.Inspecting.{Inspects, refused_status, survey_status};
 ghost use Rattle.sandbox_command.specs.Streams.{AppendsSome};
 
-use crate::outlet::Outlet;
 use crate::program::{Executed, FAULT, left_with, out_of_memory, refuse_file};
 use crate::streams::Streams;
 use module_survey::{Links, survey};
 use std::alloc::Global;
 use std::io;
 use std::io::{ErrorKind, Write};
+use stream_answers::Outlet;
 use wasi_calls::call_of;
 use wasm_module::{FuncType, LoadFault, Profile};
 use wasm_store::HostCall;

@@ -10,13 +10,12 @@ ghost use Rattle.sandbox_device.specs.declared.ram_device.RamDevice.{RamDevice a
 ghost use Rattle.sandbox_command.specs.Profiling.{IsProfile};
 ghost use Rattle.sandbox_command.specs.Places.{Access, Cuts, HandsOut, HasRoom, Locks, Makes, Opens, Prints, Reads, Receives, lengthens};
 
-use crate::outlet::Outlet;
 use run_profile::{Names, Profile};
 use run_report::Summary;
 use sandbox_device::{Hindrance, RamDevice};
 use std::alloc::Global;
 use std::io;
-use std::io::Read;
+use stream_answers::{Inlet, Outlet};
 use vol_sector::Device;
 
 /// Where files stand, each under a name.
@@ -26,7 +25,7 @@ use vol_sector::Device;
 /// what it had is at its end.
 pub trait Places {
     /// A file that is read.
-    type Input: Read + Drop;
+    type Input: Inlet + Drop;
 
     /// A file that is written.
     type Output: Outlet + Drop;

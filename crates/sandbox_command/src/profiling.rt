@@ -7,12 +7,14 @@ ghost use Rattle.sandbox_command.specs.Profiling.{called_or_index, no_stacks, sl
 ghost use Rattle.module_survey.specs.Places.{called};
 ghost use Rattle.module_survey.specs.Words.{called_text};
 
+use indexmap::IndexMap;
 use module_survey::add_called;
 use run_profile::{Names, Profile};
 use sandbox_words::Run;
 use std::alloc::{AllocError, Global};
 use std::io;
 use std::io::Write;
+use std::marker::Model;
 
 /// Where the fuel of a run went.
 #[derive(Drop)]
@@ -84,18 +86,86 @@ fn called_or_index(alloc: Global, bytes: &[u8], index: u64) -> io::Result<Vec<u8
 /// How the functions of a module of these bytes are called in stacks.
 #[derive(Drop)]
 pub(crate) struct StackNames<'a> {
-    pub(crate) alloc: Global,
-    pub(crate) bytes: &'a [u8],
-    pub(crate) imported: usize,
+    alloc: Global,
+    bytes: &'a [u8],
+    imported: usize,
+    /// The names that were looked up, each by its function: a name is found by a walk through all names of the module.
+    known: IndexMap<usize, Vec<u8>>,
+}
+
+impl<'a> Model for StackNames<'a> {
+    ghost use Rattle.std.specs.Prelude.{◌≡◌, ℕ, IfSome, nat_eq};
+    ghost use Rattle.indexmap.specs.IndexMap.{get};
+    ghost use Rattle.sandbox_command.specs.Profiling.{Naming, stack_name};
+
+    ghost Value = { Naming };
+
+    ghost view = { λ n. record { bytes = n.bytes.now; imported = n.imported } };
+
+    ghost invariant = { λ n. (own : ℕ) → IfSome (get nat_eq n.known own)
+        (λ name. name.items ≡ stack_name n.bytes.now n.imported own) };
+}
+
+impl<'a> StackNames<'a> {
+    /// None is looked up yet.
+    fn new(alloc: Global, bytes: &'a [u8], imported: usize) -> StackNames<'a>
+        ensures { result ≡ record { bytes = bytes.now; imported = imported } }
+    {
+        StackNames {
+            alloc,
+            bytes,
+            imported,
+            known: IndexMap::new(alloc),
+        }
+    }
+
+    /// Those of the functions of these stacks, each looked up once, as far as there is memory to keep them.
+    pub(crate) fn of(alloc: Global, bytes: &'a [u8], fuel_use: &FuelUse) -> StackNames<'a>
+        ensures { result ≡ record { bytes = bytes.now; imported = fuel_use.now.imported } }
+    {
+        let mut names = StackNames::new(alloc, bytes, fuel_use.imported);
+        for node in 0..usize::MAX {
+            match fuel_use.stacks.function(node) {
+                Some(function) => names.keep(function),
+                None => return names,
+            }
+        }
+        names
+    }
+
+    /// What a function is called in stacks, looked up.
+    fn looked_up(&self, own: usize) -> io::Result<Vec<u8>>
+        ensures { IfOk result (λ name. name.items ≡ stack_name self.now.bytes self.now.imported own) }
+    {
+        let index = (self.imported as u64).saturating_add(own as u64);
+        let mut called = called_or_index(self.alloc, self.bytes, index)?;
+        called.truncate(NAME);
+        let mut name = Vec::new(self.alloc);
+        add_bytes(&mut name, called.as_slice())?;
+        Ok(name)
+    }
+
+    /// Looks the name of a function up where it isn't known, and keeps it where there is memory for it.
+    fn keep(&mut self, own: usize)
+        ensures { self.new ≡ self.old }
+    {
+        if self.known.contains_key(&own) {
+            return;
+        }
+        if let Ok(name) = self.looked_up(own) {
+            let _ = self.known.insert(own, name);
+        }
+    }
 }
 
 impl Names for StackNames<'_> {
-    ghost text = { λ names function. stack_name names.bytes.now names.imported function };
+    ghost text = { λ names function. stack_name names.bytes names.imported function };
 
     fn add(&self, line: &mut Vec<u8>, function: usize) -> io::Result<()> {
-        let index = (self.imported as u64).saturating_add(function as u64);
-        let mut name = called_or_index(self.alloc, self.bytes, index)?;
-        name.truncate(NAME);
-        add_bytes(line, name.as_slice())
+        match self.known.get(&function) {
+            Some(name) => line.extend_from_slice(name.as_slice())?,
+            None => line.extend_from_slice(self.looked_up(function)?.as_slice())?,
+        }
+        Ok(())
     }
 }

@@ -24,7 +24,6 @@ use crate::checking::ended_task;
 use crate::ending::ended;
 use crate::explaining::About;
 use crate::modules::profile_for;
-use crate::outlet::Outlet;
 use crate::output::{GREATEST, NOT_COMMITTED, tell, tell_after, tell_fault, tell_outcome};
 use crate::reporting::{
     kept_after_run, kept_where_not_begun, kept_where_refused, not_run, session_reason,
@@ -41,7 +40,8 @@ use sandbox_core::{HostParts, LoadFault, Outcome, Report, SessionFault, Tally, V
 use sandbox_words::Run;
 use std::alloc::Global;
 use std::io;
-use std::io::{Read, Write};
+use std::io::Write;
+use stream_answers::{Inlet, Outlet};
 use vol_sector::{Device, Refused, VolumeFault};
 use volume_tasks::{export_from, format_where, import_into, open_for_run, perform};
 
@@ -426,7 +426,7 @@ fn no_volume<D: Drop, R: Drop, W1: Drop, W2: Drop>(
 }
 
 /// Runs a valid module on the volume of a device, with random bytes, and gives the module and the device back.
-pub(crate) fn run_valid<'a, D: Device + Drop, R: Read + Drop, W1: Outlet + Drop, W2: Outlet + Drop>(
+pub(crate) fn run_valid<'a, D: Device + Drop, R: Inlet + Drop, W1: Outlet + Drop, W2: Outlet + Drop>(
     alloc: Global,
     run: &Run<'_>,
     runnable: Runnable<'a>,
@@ -457,7 +457,7 @@ pub(crate) fn run_valid<'a, D: Device + Drop, R: Read + Drop, W1: Outlet + Drop,
 /// Runs a module on the volume of a device, with random bytes, and gives the device back, and the lines of its report that tell where
 /// it stopped. Where there are stacks, they get the units of the run. It prints no line of the program's own: `tell_end` does that,
 /// where the caller wants them.
-pub(crate) fn run<D: Device + Drop, R: Read + Drop, W1: Outlet + Drop, W2: Outlet + Drop>(
+pub(crate) fn run<D: Device + Drop, R: Inlet + Drop, W1: Outlet + Drop, W2: Outlet + Drop>(
     alloc: Global,
     run: &Run<'_>,
     module: &[u8],
@@ -495,7 +495,7 @@ pub(crate) fn run<D: Device + Drop, R: Read + Drop, W1: Outlet + Drop, W2: Outle
 /// Does something with the volume on a device, and gives the exit status, the device and the streams. What is put into the
 /// volume comes from the input, what is told of it goes to the output, and the program's own lines to the errors, which call the
 /// volume by this name of its file.
-pub fn execute<D: Device + Drop, R: Read + Drop, W1: Outlet + Drop, W2: Write + Drop>(
+pub fn execute<D: Device + Drop, R: Inlet + Drop, W1: Outlet + Drop, W2: Write + Drop>(
     alloc: Global,
     file: &str,
     work: VolumeWork<'_>,

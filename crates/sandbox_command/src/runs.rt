@@ -12,7 +12,6 @@ ghost use Rattle.sandbox_words.specs.Request.{Text};
 
 use crate::closing::{Ending, finished, handed_out, profiled, refuse, told, unread};
 use crate::opening::{Ledger, Medium, Opened, made_report, open_all};
-use crate::outlet::Outlet;
 use crate::places::Places;
 use crate::program;
 use crate::stopping::no_lines;
@@ -22,7 +21,7 @@ use sandbox_device::RamDevice;
 use sandbox_words::Run;
 use std::alloc::Global;
 use std::io;
-use std::io::Read;
+use stream_answers::{Inlet, Outlet};
 
 /// What a run is given: the bytes of its files, its streams, and those that are spared.
 #[derive(Drop)]
@@ -46,7 +45,7 @@ fn parted<O: Drop>(ledger: Option<Ledger<O>>) -> (Option<Profile>, Option<O>)
 }
 
 /// Opens the files of a run, makes its report, and runs it.
-pub(crate) fn run_alone<P: Places, R: Read + Drop, W1: Outlet + Drop, W2: Outlet + Drop>(
+pub(crate) fn run_alone<P: Places, R: Inlet + Drop, W1: Outlet + Drop, W2: Outlet + Drop>(
     alloc: Global,
     places: &mut P,
     run: &Run<'_>,
@@ -69,7 +68,7 @@ pub(crate) fn run_alone<P: Places, R: Read + Drop, W1: Outlet + Drop, W2: Outlet
 }
 
 /// Says that a file is refused, and gives up the streams.
-pub(crate) fn end_refused<P: Places, R: Read + Drop, W1: Outlet + Drop, W2: Outlet + Drop>(
+pub(crate) fn end_refused<P: Places, R: Inlet + Drop, W1: Outlet + Drop, W2: Outlet + Drop>(
     places: &mut P,
     error: &io::Error,
     given: Streams<R, W1, W2>,
@@ -86,7 +85,7 @@ pub(crate) fn end_refused<P: Places, R: Read + Drop, W1: Outlet + Drop, W2: Outl
 }
 
 /// Says that a file of a run is refused, also in its report, and gives up the streams.
-fn end_unread<P: Places, R: Read + Drop, W1: Outlet + Drop, W2: Outlet + Drop>(
+fn end_unread<P: Places, R: Inlet + Drop, W1: Outlet + Drop, W2: Outlet + Drop>(
     alloc: Global,
     places: &mut P,
     run: &Run<'_>,
@@ -119,7 +118,7 @@ fn end_unread<P: Places, R: Read + Drop, W1: Outlet + Drop, W2: Outlet + Drop>(
 }
 
 /// Runs a module on the files that were opened.
-fn run_opened<P: Places, R: Read + Drop, W1: Outlet + Drop, W2: Outlet + Drop>(
+fn run_opened<P: Places, R: Inlet + Drop, W1: Outlet + Drop, W2: Outlet + Drop>(
     alloc: Global,
     places: &mut P,
     run: &Run<'_>,
@@ -166,7 +165,7 @@ fn run_opened<P: Places, R: Read + Drop, W1: Outlet + Drop, W2: Outlet + Drop>(
 /// Runs a module on the file of a volume.
 // A function of its own, so that what a run needs for the one device isn't on the stack below the other.
 #[inline(never)]
-fn run_in_file<P: Places, R: Read + Drop, W1: Outlet + Drop, W2: Outlet + Drop>(
+fn run_in_file<P: Places, R: Inlet + Drop, W1: Outlet + Drop, W2: Outlet + Drop>(
     alloc: Global,
     places: &mut P,
     run: &Run<'_>,
@@ -202,7 +201,7 @@ fn run_in_file<P: Places, R: Read + Drop, W1: Outlet + Drop, W2: Outlet + Drop>(
 
 /// Runs a module on a volume in memory, and hands it out where that is asked for.
 #[inline(never)]
-fn run_in_memory<P: Places, R: Read + Drop, W1: Outlet + Drop, W2: Outlet + Drop>(
+fn run_in_memory<P: Places, R: Inlet + Drop, W1: Outlet + Drop, W2: Outlet + Drop>(
     alloc: Global,
     places: &mut P,
     run: &Run<'_>,

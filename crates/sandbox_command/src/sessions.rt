@@ -12,7 +12,6 @@ ghost use Rattle.sandbox_command.specs.internal.Runnable.{IsReadyFor, module_in}
 ghost use Rattle.sandbox_command.specs.internal.Seeds.{prepared_by, with_seed, with_terminals};
 ghost use Rattle.sandbox_command.specs.internal.Sessions.{RunsSession};
 
-use crate::outlet::Outlet;
 use crate::profiling::{FuelUse, slice_of};
 use crate::program::{Executed, no_session, reported};
 use crate::runnable::Runnable;
@@ -27,7 +26,7 @@ use sandbox_core::{
 };
 use sandbox_words::Run;
 use std::alloc::Global;
-use std::io::{Read, Write};
+use stream_answers::{Inlet, Outlet};
 use vol_sector::Device;
 use wasm_module::Module;
 
@@ -36,9 +35,9 @@ fn seed<S, D, R, W1, W2>(run: &Run<'_>, session: &mut S)
 where
     S: Resumable<D, R, W1, W2>,
     D: Device,
-    R: Read,
-    W1: Write,
-    W2: Write,
+    R: Inlet,
+    W1: Outlet,
+    W2: Outlet,
     requires { (S.state session.old).host.generator ≡ None }
     ensures { S.state session.new ≡ with_seed run.now.seed (S.state session.old) }
 {
@@ -52,9 +51,9 @@ fn interact<S, D, R, W1, W2>(run: &Run<'_>, session: &mut S)
 where
     S: Resumable<D, R, W1, W2>,
     D: Device,
-    R: Read,
-    W1: Write,
-    W2: Write,
+    R: Inlet,
+    W1: Outlet,
+    W2: Outlet,
     requires { (S.state session.old).host.interactive ≡ None }
     ensures { S.state session.new ≡ with_terminals (terminals_of run.now) (S.state session.old) }
 {
@@ -76,9 +75,9 @@ fn run_into_stacks<S, D, R, W1, W2>(
 where
     S: Resumable<D, R, W1, W2>,
     D: Device + Drop,
-    R: Read + Drop,
-    W1: Write + Drop,
-    W2: Write + Drop,
+    R: Inlet + Drop,
+    W1: Outlet + Drop,
+    W2: Outlet + Drop,
     requires unused { used_by (S.state session) ≡ 0 }
     requires new { stacks ≡ no_stacks }
     ensures kept { S.gives_back (S.state session).machine.valid result.0.kept }
@@ -103,9 +102,9 @@ fn run_charged<S, D, R, W1, W2>(
 where
     S: Resumable<D, R, W1, W2>,
     D: Device + Drop,
-    R: Read + Drop,
-    W1: Write + Drop,
-    W2: Write + Drop,
+    R: Inlet + Drop,
+    W1: Outlet + Drop,
+    W2: Outlet + Drop,
     requires unused { used_by (S.state session) ≡ 0 }
     requires new { IfSome stacks (λ s. s ≡ no_stacks) }
     ensures kept { S.gives_back (S.state session).machine.valid result.0.kept }
@@ -135,9 +134,9 @@ fn run_within<S, D, R, W1, W2>(
 where
     S: Resumable<D, R, W1, W2>,
     D: Device + Drop,
-    R: Read + Drop,
-    W1: Write + Drop,
-    W2: Write + Drop,
+    R: Inlet + Drop,
+    W1: Outlet + Drop,
+    W2: Outlet + Drop,
     requires begun { (used_by (S.state session) ≡ 0) × ((S.state session).host.generator ≡ None)
         × ((S.state session).host.interactive ≡ None) }
     requires new { IfSome stacks (λ s. s ≡ no_stacks) }
@@ -183,7 +182,7 @@ fn run_session<S, D, R, W1, W2>(
 where
     S: Resumable<D, Counted<R>, Counted<W1>, Counted<W2>>,
     D: Device + Drop,
-    R: Read + Drop,
+    R: Inlet + Drop,
     W1: Outlet + Drop,
     W2: Outlet + Drop,
     requires begun { (used_by (S.state session) ≡ 0) × ((S.state session).host.generator ≡ None)
@@ -235,7 +234,7 @@ fn counted_parts<'s, 't, D: Device, R, W1, W2>(
 
 /// Runs a valid module, of which nothing is prepared, with these settings on an open volume. Gives the module and the volume's device
 /// back. Where there are stacks, they get the units of the run.
-fn launch_bare<'a, D: Device + Drop, R: Read + Drop, W1: Outlet + Drop, W2: Outlet + Drop>(
+fn launch_bare<'a, D: Device + Drop, R: Inlet + Drop, W1: Outlet + Drop, W2: Outlet + Drop>(
     alloc: Global,
     run: &Run<'_>,
     valid: Valid<'a>,
@@ -270,7 +269,7 @@ fn launch_bare<'a, D: Device + Drop, R: Read + Drop, W1: Outlet + Drop, W2: Outl
 }
 
 /// Runs a prepared module in the same way. Gives the volume's device back.
-fn launch_prepared<D: Device + Drop, R: Read + Drop, W1: Outlet + Drop, W2: Outlet + Drop>(
+fn launch_prepared<D: Device + Drop, R: Inlet + Drop, W1: Outlet + Drop, W2: Outlet + Drop>(
     alloc: Global,
     run: &Run<'_>,
     shared: &SharedModule<'_>,
@@ -304,7 +303,7 @@ fn launch_prepared<D: Device + Drop, R: Read + Drop, W1: Outlet + Drop, W2: Outl
 
 /// Runs a module with these settings on an open volume. Gives the module and the volume's device back. Where there are stacks, they
 /// get the units of the run.
-pub(crate) fn launch<'a, D: Device + Drop, R: Read + Drop, W1: Outlet + Drop, W2: Outlet + Drop>(
+pub(crate) fn launch<'a, D: Device + Drop, R: Inlet + Drop, W1: Outlet + Drop, W2: Outlet + Drop>(
     alloc: Global,
     run: &Run<'_>,
     runnable: Runnable<'a>,

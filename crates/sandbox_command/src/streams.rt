@@ -3,9 +3,9 @@
 ghost use Rattle.std.specs.Prelude.{◌≡◌, None};
 ghost use Rattle.sandbox_command.specs.Sources.{guest_of, own_of, sink_of, source_of, spare_of};
 
-use crate::outlet::Outlet;
 use std::io;
 use std::io::{Read, Write};
+use stream_answers::{Inlet, Outlet};
 
 /// Three streams.
 #[derive(Drop)]
@@ -33,6 +33,21 @@ impl<F: Read, R: Read> Read for Source<F, R> {
         match self {
             Source::Given(input) => input.read(buf),
             Source::Opened(file) => file.read(buf),
+        }
+    }
+}
+
+impl<F: Inlet, R: Inlet> Inlet for Source<F, R> {
+    ghost use Rattle.sandbox_command.specs.Sources.{source_answered};
+
+    ghost gave = { λ before bytes after. source_answered (λ a b. F.gave a bytes b) (λ a b. R.gave a bytes b) before after };
+
+    ghost refused = { source_answered F.refused R.refused };
+
+    fn try_read(&mut self, buf: &mut [u8]) -> io::Result<usize> {
+        match self {
+            Source::Given(input) => input.try_read(buf),
+            Source::Opened(file) => file.try_read(buf),
         }
     }
 }
@@ -69,9 +84,20 @@ impl<F: Write, W: Write> Write for Sink<F, W> {
 impl<F: Outlet, W: Outlet> Outlet for Sink<F, W> {
     ghost use Rattle.sandbox_command.specs.Sources.{sink_answered};
 
+    ghost took = { λ before bytes after. sink_answered (λ a b. F.took a bytes b) (λ a b. W.took a bytes b) before after };
+
+    ghost refused = { sink_answered F.refused W.refused };
+
     ghost flushed = { sink_answered F.flushed W.flushed };
 
     ghost refuses = { sink_answered F.refuses W.refuses };
+
+    fn try_write(&mut self, buf: &[u8]) -> io::Result<usize> {
+        match self {
+            Sink::Given(out) => out.try_write(buf),
+            Sink::Made(file) => file.try_write(buf),
+        }
+    }
 
     fn try_flush(&mut self) -> bool {
         match self {

@@ -16,7 +16,6 @@ use crate::closing::{refuse, unread};
 use crate::explaining::{tell_of_fault, tell_words};
 use crate::modules::profile_for;
 use crate::opening::{memory_of, read_files};
-use crate::outlet::Outlet;
 use crate::output::tell_fault;
 use crate::places::Places;
 use crate::program::{load_status, refuse_file, run_valid, session_status};
@@ -32,7 +31,8 @@ use sandbox_device::RamDevice;
 use sandbox_words::Run;
 use std::alloc::Global;
 use std::io;
-use std::io::{Read, Write};
+use std::io::Write;
+use stream_answers::{Inlet, Outlet};
 
 /// The names of a test's files.
 #[derive(Clone, Copy)]
@@ -391,7 +391,7 @@ fn run_lines<P: Places, W: Write>(
 /// which it uses `err` alone, and gives the status.
 // A function of its own, since what it needs would else be on the stack below a run alone, too.
 #[inline(never)]
-pub fn run_list<P: Places, R: Read + Drop, W1: Outlet + Drop, W2: Outlet + Drop>(
+pub fn run_list<P: Places, R: Inlet + Drop, W1: Outlet + Drop, W2: Outlet + Drop>(
     alloc: Global,
     places: &mut P,
     run: &Run<'_>,

@@ -8,7 +8,7 @@ ghost use Rattle.sandbox_core.specs.internal.Running.{RunsTo};
 
 use crate::session::{Finished, Session};
 use crate::tally::Tally;
-use std::io::{Read, Write};
+use stream_answers::{Inlet, Outlet};
 use vol_sector::{Device, Refused};
 use vol_tree::Volume;
 use wasm_interp::{Outcome, Pause};
@@ -38,9 +38,9 @@ pub fn run<D, R, W1, W2>(
 ) -> Report<D, R, W1, W2>
 where
     D: Device + Drop,
-    R: Read + Drop,
-    W1: Write + Drop,
-    W2: Write + Drop,
+    R: Inlet + Drop,
+    W1: Outlet + Drop,
+    W2: Outlet + Drop,
     requires { used_by session ≡ 0 }
     ensures { Reports (devices D.Device R.Read W1.Write W2.Write) session.entry fuel result }
 {
@@ -55,9 +55,9 @@ pub fn run_counted<D, R, W1, W2>(
 ) -> (Report<D, R, W1, W2>, Tally)
 where
     D: Device + Drop,
-    R: Read + Drop,
-    W1: Write + Drop,
-    W2: Write + Drop,
+    R: Inlet + Drop,
+    W1: Outlet + Drop,
+    W2: Outlet + Drop,
     requires { used_by session ≡ 0 }
     ensures { ReportsCounted (devices D.Device R.Read W1.Write W2.Write)
         session.entry fuel result.0 result.1 }
@@ -74,9 +74,9 @@ pub fn run_counted_with_module<'a, D, R, W1, W2>(
 ) -> (Valid<'a>, Report<D, R, W1, W2>, Tally)
 where
     D: Device + Drop,
-    R: Read + Drop,
-    W1: Write + Drop,
-    W2: Write + Drop,
+    R: Inlet + Drop,
+    W1: Outlet + Drop,
+    W2: Outlet + Drop,
     requires { used_by session ≡ 0 }
     ensures module { result.0 ≡ session.entry.machine.valid }
     ensures counted { ReportsCounted (devices D.Device R.Read W1.Write W2.Write)
@@ -113,9 +113,9 @@ fn run_out<D, R, W1, W2>(
 ) -> (Outcome, Tally)
 where
     D: Device + Drop,
-    R: Read + Drop,
-    W1: Write + Drop,
-    W2: Write + Drop,
+    R: Inlet + Drop,
+    W1: Outlet + Drop,
+    W2: Outlet + Drop,
     requires { used_by session.old ≤ fuel }
     ensures within { used_by session.new ≤ fuel }
     ensures module { session.new.machine.valid ≡ session.old.machine.valid }

@@ -9,14 +9,14 @@ ghost use Rattle.sandbox_core.specs.Session.{SessionState, Resumes, Finishes, li
 
 use crate::session::{Finished, Session};
 use crate::shared::SharedSession;
-use std::io::{Read, Write};
+use stream_answers::{Inlet, Outlet};
 use vol_sector::Device;
 use wasi_calls::Terminals;
 use wasm_interp::{Frame, Pause};
 use wasm_valid::Valid;
 
 /// A session that goes on as far as it is let, of either kind. Each call does what the session's own call of that name does.
-pub trait Resumable<D: Device, R: Read, W1: Write, W2: Write> {
+pub trait Resumable<D: Device, R: Inlet, W1: Outlet, W2: Outlet> {
     /// What is given back of the module once the session is finished.
     type Kept: Drop;
 
@@ -70,9 +70,9 @@ pub trait Resumable<D: Device, R: Read, W1: Write, W2: Write> {
 impl<'a, 's, 't, D, R, W1, W2> Resumable<D, R, W1, W2> for Session<'a, 's, 't, D, R, W1, W2>
 where
     D: Device + Drop,
-    R: Read + Drop,
-    W1: Write + Drop,
-    W2: Write + Drop,
+    R: Inlet + Drop,
+    W1: Outlet + Drop,
+    W2: Outlet + Drop,
 {
     type Kept = Valid<'a>;
 
@@ -120,9 +120,9 @@ where
 impl<'a, 's, 't, D, R, W1, W2> Resumable<D, R, W1, W2> for SharedSession<'a, 's, 't, D, R, W1, W2>
 where
     D: Device + Drop,
-    R: Read + Drop,
-    W1: Write + Drop,
-    W2: Write + Drop,
+    R: Inlet + Drop,
+    W1: Outlet + Drop,
+    W2: Outlet + Drop,
 {
     type Kept = ();
 

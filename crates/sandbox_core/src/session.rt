@@ -8,8 +8,8 @@ ghost use Rattle.sandbox_core.specs.Session.{given, Commits, Finishes};
 
 use crate::fault::{SessionFault, of_host, of_instance};
 use std::alloc::Global;
-use std::io::{Read, Write};
 use std::marker::Model;
+use stream_answers::{Inlet, Outlet};
 use vol_sector::{Device, Refused, VolumeFault};
 use vol_tree::Volume;
 use wasi_calls::{HostParts, RefusedHost, Settings, Terminals, WasiHost};
@@ -18,12 +18,12 @@ use wasm_valid::Valid;
 
 /// A guest with its volume and its streams, which runs as far as it is let.
 #[derive(Drop)]
-pub struct Session<'a, 's, 't, D: Device, R: Read, W1: Write, W2: Write> {
+pub struct Session<'a, 's, 't, D: Device, R: Inlet, W1: Outlet, W2: Outlet> {
     machine: Machine<'a>,
     host: WasiHost<'s, 't, D, R, W1, W2>,
 }
 
-impl<'a, 's, 't, D: Device, R: Read, W1: Write, W2: Write> Model
+impl<'a, 's, 't, D: Device, R: Inlet, W1: Outlet, W2: Outlet> Model
     for Session<'a, 's, 't, D, R, W1, W2> {
     ghost use Rattle.sandbox_core.specs.Session.{SessionState};
     ghost use Rattle.sandbox_core.specs.internal.Running.{HasConfiguration};
@@ -73,9 +73,9 @@ pub(crate) fn give_back<D, R, W1, W2>(
 ) -> Finished<D, R, W1, W2>
 where
     D: Device + Drop,
-    R: Read + Drop,
-    W1: Write + Drop,
-    W2: Write + Drop,
+    R: Inlet + Drop,
+    W1: Outlet + Drop,
+    W2: Outlet + Drop,
     ensures { (machine : Snapshot) → Finishes D.Device (record { machine = machine; host = host.entry }) result }
 {
     let HostParts {
@@ -96,9 +96,9 @@ where
 impl<'a, 's, 't, D, R, W1, W2> Session<'a, 's, 't, D, R, W1, W2>
 where
     D: Device + Drop,
-    R: Read + Drop,
-    W1: Write + Drop,
-    W2: Write + Drop,
+    R: Inlet + Drop,
+    W1: Outlet + Drop,
+    W2: Outlet + Drop,
 {
     ghost use Rattle.wasi_calls.specs.host.Worlds.{stream_failed};
     ghost use Rattle.sandbox_core.specs.Session.{used_by, limited_to, seeded_by, interactive_with, Opens, Shares, HandsBack, IsRefused, Resumes};

@@ -10,8 +10,8 @@ ghost use Rattle.sandbox_core.specs.Session.{given};
 use crate::fault::{SessionFault, of_host, of_instance};
 use crate::session::{Finished, give_back};
 use std::alloc::{AllocError, Global};
-use std::io::{Read, Write};
 use std::marker::Model;
+use stream_answers::{Inlet, Outlet};
 use vol_sector::Device;
 use vol_tree::Volume;
 use wasi_calls::{HostParts, RefusedHost, Settings, Terminals, WasiHost, call_of};
@@ -107,12 +107,12 @@ impl<'a> SharedModule<'a> {
 
 /// A guest with its volume and its streams, as `Session`, over a module that may have other owners.
 #[derive(Drop)]
-pub struct SharedSession<'a, 's, 't, D: Device, R: Read, W1: Write, W2: Write> {
+pub struct SharedSession<'a, 's, 't, D: Device, R: Inlet, W1: Outlet, W2: Outlet> {
     machine: SharedMachine<'a>,
     host: WasiHost<'s, 't, D, R, W1, W2>,
 }
 
-impl<'a, 's, 't, D: Device, R: Read, W1: Write, W2: Write> Model
+impl<'a, 's, 't, D: Device, R: Inlet, W1: Outlet, W2: Outlet> Model
     for SharedSession<'a, 's, 't, D, R, W1, W2> {
     ghost use Rattle.sandbox_core.specs.Session.{SessionState};
     ghost use Rattle.sandbox_core.specs.internal.Running.{HasConfiguration};
@@ -134,9 +134,9 @@ pub struct RefusedParts<'s, 't, D: Device, R, W1, W2> {
 impl<'a, 's, 't, D, R, W1, W2> SharedSession<'a, 's, 't, D, R, W1, W2>
 where
     D: Device + Drop,
-    R: Read + Drop,
-    W1: Write + Drop,
-    W2: Write + Drop,
+    R: Inlet + Drop,
+    W1: Outlet + Drop,
+    W2: Outlet + Drop,
 {
     ghost use Rattle.wasi_calls.specs.host.Worlds.{stream_failed};
     ghost use Rattle.sandbox_core.specs.Session.{used_by, limited_to, seeded_by, interactive_with, Opens, Shares, HandsBack, IsRefused, Resumes, Finishes};

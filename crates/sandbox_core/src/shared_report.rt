@@ -10,7 +10,7 @@ use crate::report::Report;
 use crate::session::Finished;
 use crate::shared::SharedSession;
 use crate::tally::Tally;
-use std::io::{Read, Write};
+use stream_answers::{Inlet, Outlet};
 use vol_sector::Device;
 use wasm_interp::{Outcome, Pause};
 
@@ -21,9 +21,9 @@ pub fn run_counted_shared<D, R, W1, W2>(
 ) -> (Report<D, R, W1, W2>, Tally)
 where
     D: Device + Drop,
-    R: Read + Drop,
-    W1: Write + Drop,
-    W2: Write + Drop,
+    R: Inlet + Drop,
+    W1: Outlet + Drop,
+    W2: Outlet + Drop,
     requires { used_by session ≡ 0 }
     ensures { ReportsCounted (devices D.Device R.Read W1.Write W2.Write)
         session.entry fuel result.0 result.1 }
@@ -58,9 +58,9 @@ fn run_out_shared<D, R, W1, W2>(
 ) -> (Outcome, Tally)
 where
     D: Device + Drop,
-    R: Read + Drop,
-    W1: Write + Drop,
-    W2: Write + Drop,
+    R: Inlet + Drop,
+    W1: Outlet + Drop,
+    W2: Outlet + Drop,
     requires { used_by session.old ≤ fuel }
     ensures within { used_by session.new ≤ fuel }
     ensures run { RunsTo (devices D.Device R.Read W1.Write W2.Write)

@@ -9,7 +9,7 @@ use crate::report::Report;
 use crate::resumable::Resumable;
 use crate::session::Finished;
 use crate::tally::Tally;
-use std::io::{Read, Write};
+use stream_answers::{Inlet, Outlet};
 use vol_sector::Device;
 use wasm_interp::{Outcome, Pause};
 
@@ -23,9 +23,9 @@ pub fn run_slice<S, D, R, W1, W2>(
 where
     S: Resumable<D, R, W1, W2>,
     D: Device,
-    R: Read,
-    W1: Write,
-    W2: Write,
+    R: Inlet,
+    W1: Outlet,
+    W2: Outlet,
     requires { used_by (S.state session.old) ≤ until }
     ensures { RunsSlice (devices D.Device R.Read W1.Write W2.Write)
         (S.state session.old) (S.state session.new) until (stop_of result.0) earlier result.1 }
@@ -48,9 +48,9 @@ pub fn finish_run<S, D, R, W1, W2>(session: S, outcome: Outcome) -> (S::Kept, Re
 where
     S: Resumable<D, R, W1, W2>,
     D: Device + Drop,
-    R: Read + Drop,
-    W1: Write + Drop,
-    W2: Write + Drop,
+    R: Inlet + Drop,
+    W1: Outlet + Drop,
+    W2: Outlet + Drop,
     ensures kept { S.gives_back (S.state session).machine.valid result.0 }
     ensures reports { ReportsStop (devices D.Device R.Read W1.Write W2.Write)
         (S.state session) outcome result.1 }

@@ -22,3 +22,8 @@ then_ok (Err e) holds next = tt
 pub then_if_ok : {A E : Type 0} {P Q : A → Type 0} (r : Result A E) → IfOk r P → ((x : A) → P x → Q x) → IfOk r Q
 then_if_ok (Ok x) holds next = next x holds
 then_if_ok (Err e) holds next = tt
+
+-- what holds of a success, and of every failure
+pub told_or : {A E : Type 0} (P : A → Type 0) (Q : E → Type 0) (r : Result A E) → IfOk r P → ((e : E) → Q e) → MatchResult r P Q
+told_or P Q (Ok x) holds failed = holds
+told_or P Q (Err e) holds failed = failed e

@@ -14,6 +14,7 @@ use std::io;
 use std::io::{ErrorKind, Write};
 use std::os::fd::AsRawFd;
 use std::rt::Files;
+use stream_answers::Outlet;
 
 /// The last of the numbers of the standard streams.
 const LAST_STANDARD: i32 = 2;
@@ -178,5 +179,25 @@ impl Write for Output {
         ensures flushes { OnOk result (Flushes WasCut WasFlushed self.old.on self.new.on) }
     {
         self.on.flush()
+    }
+}
+
+impl Outlet for Output {
+    ghost use Rattle.stream_answers.specs.System.{HasRefused};
+
+    ghost took = { λ before bytes after. Puts WasCut WasPut before.on bytes after.on };
+
+    ghost refused = { λ before after. HasRefused before after };
+
+    ghost flushed = { λ before after. Flushes WasCut WasFlushed before.on after.on };
+
+    ghost refuses = { λ before after. HasRefused before after };
+
+    fn try_write(&mut self, buf: &[u8]) -> io::Result<usize> {
+        self.write(buf)
+    }
+
+    fn try_flush(&mut self) -> bool {
+        self.flush().is_ok()
     }
 }

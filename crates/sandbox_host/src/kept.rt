@@ -8,6 +8,7 @@ ghost use Rattle.std.specs.Io.KnownBytes.{Keeps, WriteAppends};
 use std::alloc::{AllocError, Global};
 use std::io;
 use std::io::{ErrorKind, Write};
+use stream_answers::Outlet;
 
 /// Bytes, as many as are allowed at most. What would be more is refused, so that the guest is answered errno 29 then and
 /// ever after.
@@ -96,5 +97,26 @@ impl Write for Kept {
         ensures same { self.new ≡ self.old }
     {
         Ok(())
+    }
+}
+
+impl Outlet for Kept {
+    ghost use Rattle.std.specs.Prelude.{◌++◌};
+
+    ghost took = { λ before bytes after. after.bytes.items ≡ before.bytes.items ++ bytes };
+
+    // as many are kept as are allowed, or memory was refused
+    ghost refused = { λ before after. after.bytes.items ≡ before.bytes.items };
+
+    ghost flushed = { λ before after. after ≡ before };
+
+    ghost refuses = { λ before after. ⊥ };
+
+    fn try_write(&mut self, buf: &[u8]) -> io::Result<usize> {
+        self.write(buf)
+    }
+
+    fn try_flush(&mut self) -> bool {
+        true
     }
 }

@@ -9,7 +9,7 @@ ghost use Rattle.volume_tasks.specs.internal.Working.{IsWorking};
 
 use crate::volume_path::directory_named;
 use std::alloc::Global;
-use std::io::Write;
+use stream_answers::Outlet;
 use vol_sector::{Device, Refused, VolumeFault};
 use vol_tree::{Errno, Volume};
 use volume_archive::{Why, export};
@@ -42,7 +42,7 @@ impl From<Why> for ExportFailure {
 }
 
 /// Prints all entries below the directory of a path as members of a tar stream, and its end.
-fn print_directory<D: Device, W: Write>(
+fn print_directory<D: Device, W: Outlet>(
     alloc: Global,
     volume: &mut Volume<D>,
     path: &str,
@@ -62,7 +62,7 @@ fn print_directory<D: Device, W: Write>(
 /// Opens the volume of a device, prints all entries below the directory of a path as members of a
 /// tar stream with its end, and gives the device back. Where it is refused, a beginning of the
 /// stream may be printed.
-pub fn export_from<D: Device, W: Write>(
+pub fn export_from<D: Device, W: Outlet>(
     alloc: Global,
     device: D,
     path: &str,

@@ -12,7 +12,7 @@ ghost use Rattle.volume_tasks.specs.internal.Working.{IsWorking};
 
 use crate::volume_path::directory_named;
 use std::alloc::Global;
-use std::io::Read;
+use stream_answers::Inlet;
 use vol_sector::{Device, Refused, VolumeFault};
 use vol_tree::{Errno, Volume};
 use volume_archive::{Halted, import};
@@ -45,7 +45,7 @@ impl From<Halted> for ImportFailure {
 }
 
 /// Brings a stream into the directory of a path, and makes that last.
-fn bring<D: Device, R: Read>(
+fn bring<D: Device, R: Inlet>(
     alloc: Global,
     volume: &mut Volume<D>,
     path: &str,
@@ -73,7 +73,7 @@ fn bring<D: Device, R: Read>(
 ///
 /// Where a member is refused, nothing is synced: the volume may have the tree from before, or a
 /// first part of the members, where the volume has committed them.
-pub fn import_into<D: Device, R: Read>(
+pub fn import_into<D: Device, R: Inlet>(
     alloc: Global,
     device: D,
     path: &str,

@@ -17,7 +17,7 @@ use crate::putting::put;
 use crate::volume_path::file_named;
 use sandbox_words::Change;
 use std::alloc::{AllocError, Global};
-use std::io::Read;
+use stream_answers::Inlet;
 use vol_sector::{Device, VolumeFault};
 use vol_tree::{Errno, Volume};
 
@@ -72,7 +72,7 @@ fn take_back<D: Device>(volume: &mut Volume<D>, beside: &str, failure: Failure) 
 }
 
 /// Puts the input into the file of one path, and gives that the place of the file of another one.
-fn write_beside<D: Device, R: Read>(
+fn write_beside<D: Device, R: Inlet>(
     volume: &mut Volume<D>,
     beside: &str,
     path: &str,
@@ -107,7 +107,7 @@ fn write_beside<D: Device, R: Read>(
 
 /// Puts the input into the file of a path, whole: into a new file beside it, which takes its place once it has all of the
 /// input, and makes that last. Where it is refused, the file of the path is as it was.
-pub(crate) fn put_whole<D: Device, R: Read>(
+pub(crate) fn put_whole<D: Device, R: Inlet>(
     alloc: Global,
     volume: &mut Volume<D>,
     path: &str,

@@ -18,7 +18,7 @@ use crate::putting::put;
 use crate::replacing::put_whole;
 use sandbox_words::{ListForm, Task};
 use std::alloc::Global;
-use std::io::{Read, Write};
+use stream_answers::{Inlet, Outlet};
 use vol_inode::Version;
 use vol_sector::{Device, Refused};
 use vol_tree::Volume;
@@ -37,7 +37,7 @@ fn version_after(huge: bool) -> Version
 }
 
 /// Does a task with an open volume.
-fn done_with<D: Device, R: Read, W: Write>(
+fn done_with<D: Device, R: Inlet, W: Outlet>(
     alloc: Global,
     volume: &mut Volume<D>,
     task: Task<'_>,
@@ -80,7 +80,7 @@ fn done_with<D: Device, R: Read, W: Write>(
 
 /// Opens the volume of a device, does a task with it, and gives the device back. What isn't
 /// committed when it ends is discarded.
-pub fn perform<D: Device, R: Read, W: Write>(
+pub fn perform<D: Device, R: Inlet, W: Outlet>(
     alloc: Global,
     device: D,
     task: Task<'_>,

@@ -28,15 +28,12 @@ pub start_i64 : (gs : List Val) (code : List Instruction) (n : ℕ) → slice_ge
 start_i64 gs [] n e = cc
 start_i64 gs (i ∷ rest) n e = let f : op.I64Const n ≡ i = cc in ap (λ y. segment_start gs (y ∷ rest)) f
 
--- an f32 constant
-pub start_f32 : (gs : List Val) (code : List Instruction) (n : ℕ) → slice_get code 0 ≡ Some (op.F32Const n) → n ≡ segment_start gs code
-start_f32 gs [] n e = cc
-start_f32 gs (i ∷ rest) n e = let f : op.F32Const n ≡ i = cc in ap (λ y. segment_start gs (y ∷ rest)) f
-
--- an f64 constant
-pub start_f64 : (gs : List Val) (code : List Instruction) (n : ℕ) → slice_get code 0 ≡ Some (op.F64Const n) → n ≡ segment_start gs code
-start_f64 gs [] n e = cc
-start_f64 gs (i ∷ rest) n e = let f : op.F64Const n ≡ i = cc in ap (λ y. segment_start gs (y ∷ rest)) f
+-- an expression of a constant of 32 bits begins with it
+pub narrow_first : (code : List Instruction) (i : Instruction) → slice_get code 0 ≡ Some i → IsNarrow code → IsNarrow (i ∷ [])
+narrow_first [] i e h = absurd h
+narrow_first (op.I32Const n ∷ rest) i e h = let f : op.I32Const n ≡ i = cc in subst (λ y. IsNarrow (y ∷ [])) f tt
+narrow_first (op.F32Const n ∷ rest) i e h = let f : op.F32Const n ≡ i = cc in subst (λ y. IsNarrow (y ∷ [])) f tt
+narrow_first (x ∷ rest) i e h = absurd h
 
 -- the number of a global
 number_at : (gs : List Val) (x : ℕ) → get_or (numbers gs) x 0 ≡ elim (slice_get gs x) [ None ↦ 0 | Some v ↦ number_of v ]

@@ -7,11 +7,11 @@ use crate::arguments::{descriptor, long, word};
 use crate::descriptors;
 use crate::descriptors::{positions, stat};
 use crate::host::inner::Inner;
-use std::io::{Read, Write};
+use stream_answers::{Inlet, Outlet};
 use vol_sector::Device;
 use wasm_store::{Errno, Memory};
 
-impl<'s, 't, D: Device, R: Read, W1: Write, W2: Write> Inner<'s, 't, D, R, W1, W2> {
+impl<'s, 't, D: Device, R: Inlet, W1: Outlet, W2: Outlet> Inner<'s, 't, D, R, W1, W2> {
     ghost use Rattle.wasi_calls.specs.internal.Bodies.{IsSetUp, KnowsEntries, Serves, errno_of};
 
     /// `fd_close(fd)`.

@@ -5,11 +5,11 @@ ghost use Rattle.wasi_calls.specs.laws.Moments.{IsSynced};
 
 use crate::errno::NOSYS;
 use crate::host::inner::Inner;
-use std::io::{Read, Write};
+use stream_answers::{Inlet, Outlet};
 use vol_sector::Device;
 use wasm_store::{Errno, HostCall, Memory};
 
-impl<'s, 't, D: Device, R: Read, W1: Write, W2: Write> Inner<'s, 't, D, R, W1, W2> {
+impl<'s, 't, D: Device, R: Inlet, W1: Outlet, W2: Outlet> Inner<'s, 't, D, R, W1, W2> {
     ghost use Rattle.wasi_calls.specs.internal.Bodies.{IsSetUp, KnowsEntries, Serves, errno_of};
 
     /// A call that is linked, and answers that there is none such.

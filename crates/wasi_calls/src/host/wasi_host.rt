@@ -14,8 +14,8 @@ use crate::streams::{Input, Output, Terminals};
 use rand_chacha::ChaCha20Rng;
 use rand_core::SeedableRng;
 use std::alloc::Global;
-use std::io::{Read, Write};
 use std::marker::Model;
+use stream_answers::{Inlet, Outlet};
 use vol_sector::Device;
 use vol_tree::Volume;
 use wasi_fd::Descriptors;
@@ -24,7 +24,7 @@ use wasm_store::{Answer, Errno, Host, HostCall, Memory};
 
 /// The host of a guest, which answers its calls.
 #[derive(Drop)]
-pub struct WasiHost<'s, 't, D: Device, R: Read, W1: Write, W2: Write> {
+pub struct WasiHost<'s, 't, D: Device, R: Inlet, W1: Outlet, W2: Outlet> {
     inner: Inner<'s, 't, D, R, W1, W2>,
 }
 
@@ -45,7 +45,7 @@ pub struct RefusedHost<'s, 't, D: Device, R, W1, W2> {
     pub fault: HostFault,
 }
 
-impl<'s, 't, D: Device, R: Read, W1: Write, W2: Write> Model for WasiHost<'s, 't, D, R, W1, W2> {
+impl<'s, 't, D: Device, R: Inlet, W1: Outlet, W2: Outlet> Model for WasiHost<'s, 't, D, R, W1, W2> {
     ghost use Rattle.wasi_calls.specs.host.Worlds.{HostState};
 
     ghost Value = { HostState D R W1 W2 };
@@ -57,7 +57,7 @@ impl<'s, 't, D: Device, R: Read, W1: Write, W2: Write> Model for WasiHost<'s, 't
     ghost invariant = { λ h. IsReadyForCalls D.honest R.remaining h.inner };
 }
 
-impl<'s, 't, D: Device, R: Read + Drop, W1: Write + Drop, W2: Write + Drop> WasiHost<
+impl<'s, 't, D: Device, R: Inlet + Drop, W1: Outlet + Drop, W2: Outlet + Drop> WasiHost<
     's,
     't,
     D,
@@ -177,7 +177,7 @@ impl<'s, 't, D: Device, R: Read + Drop, W1: Write + Drop, W2: Write + Drop> Wasi
     }
 }
 
-impl<'s, 't, D: Device, R: Read, W1: Write, W2: Write> WasiHost<'s, 't, D, R, W1, W2> {
+impl<'s, 't, D: Device, R: Inlet, W1: Outlet, W2: Outlet> WasiHost<'s, 't, D, R, W1, W2> {
     ghost use Rattle.std.specs.Prelude.{ℕ, OnOk, OnErr, Some};
     ghost use Rattle.wasi_fd.specs.Table.{table_of, streams};
     ghost use Rattle.path_walk.specs.Walk.{Asked};
@@ -229,7 +229,7 @@ fn value_of(answered: Result<(), Errno>) -> Answer
     }
 }
 
-impl<'s, 't, D: Device, R: Read, W1: Write, W2: Write> Host for WasiHost<'s, 't, D, R, W1, W2> {
+impl<'s, 't, D: Device, R: Inlet, W1: Outlet, W2: Outlet> Host for WasiHost<'s, 't, D, R, W1, W2> {
     ghost use Rattle.wasi_calls.specs.host.Links.{link};
     ghost use Rattle.wasi_calls.specs.host.Worlds.{HostCalls};
 
@@ -256,7 +256,7 @@ impl<'s, 't, D: Device, R: Read, W1: Write, W2: Write> Host for WasiHost<'s, 't,
     }
 }
 
-impl<'s, 't, D: Device, R: Read, W1: Write, W2: Write> VolumeHost
+impl<'s, 't, D: Device, R: Inlet, W1: Outlet, W2: Outlet> VolumeHost
     for WasiHost<'s, 't, D, R, W1, W2> {
     ghost use Rattle.wasi_calls.specs.host.Worlds.{Shows};
 

@@ -9,13 +9,13 @@ use crate::paths;
 use crate::paths::opening::OpenCall;
 use crate::paths::renaming::RenameCall;
 use crate::paths::{opening, removing, renaming};
-use std::io::{Read, Write};
+use stream_answers::{Inlet, Outlet};
 use vol_inode::Kind;
 use vol_sector::Device;
 use wasi_fd::Rights;
 use wasm_store::{Errno, Memory};
 
-impl<'s, 't, D: Device, R: Read, W1: Write, W2: Write> Inner<'s, 't, D, R, W1, W2> {
+impl<'s, 't, D: Device, R: Inlet, W1: Outlet, W2: Outlet> Inner<'s, 't, D, R, W1, W2> {
     ghost use Rattle.wasi_calls.specs.internal.Bodies.{IsSetUp, KnowsEntries, Serves, errno_of};
 
     /// `path_create_directory(fd, path, length)`.

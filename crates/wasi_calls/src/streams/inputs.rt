@@ -1,6 +1,6 @@
 //! Bytes that a call reads from a stream.
 
-ghost use Rattle.std.specs.Prelude.{◌≡◌, ◌<◌, ◌≤◌, ◌+◌, ◌^◌, length, take, min, [], true, false, Ok, Err, OnOk, OnErr, IfOk, IfErr, MatchOption, vec_len, vec_capacity};
+ghost use Rattle.std.specs.Prelude.{◌≡◌, ◌<◌, ◌≤◌, ◌+◌, ◌^◌, length, take, min, [], true, false, Ok, Err, OnOk, OnErr, IfOk, IfErr, MatchOption, is_err, vec_len, vec_capacity};
 ghost use Rattle.std.specs.List.{list_all};
 ghost use Rattle.std.specs.Io.KnownBytes.{Consumes, IsAtEnd};
 ghost use Rattle.wasm_store.specs.Bytes.{written};
@@ -9,11 +9,12 @@ ghost use Rattle.wasi_calls.specs.Checks.{is_inside, total};
 ghost use Rattle.wasi_calls.specs.internal.checks.Buffers.{list_of, AreUsable};
 ghost use Rattle.wasi_calls.specs.internal.streams.Inputs.{Came, SomeCame, Dealt, SomeDealt, Broke, IsRead, IsFirstWithRoom};
 ghost use Rattle.wasi_calls.specs.declared.checks.buffers.TheConstants.{MOST_BUFFERS};
+ghost use Rattle.stream_answers.specs.Hearing.{Hears, Moves};
 
 use crate::checks::write_bytes;
 use crate::numbers::le32;
 use crate::streams::Input;
-use std::io::Read;
+use stream_answers::Inlet;
 use vol_tree::Span;
 use wasm_store::{Errno, Memory};
 
@@ -38,16 +39,17 @@ pub(crate) fn fill_up(piece: &mut Vec<u8>)
 
 /// Reads once into the piece, at most this many bytes, and says how many: none only at the reader's end. Any error of the
 /// reader counts as failure, an interruption too.
-fn read_piece<R: Read>(reader: &mut R, piece: &mut [u8], most: usize) -> Result<usize, ReaderFailed>
+fn read_piece<R: Inlet>(reader: &mut R, piece: &mut [u8], most: usize) -> Result<usize, ReaderFailed>
     requires room { 0 < length piece.old }
     requires some { 0 < most }
     ensures few { IfOk result (λ n. (n ≤ most) × (n ≤ length piece.old)) }
     ensures came { IfOk result (λ n. Consumes (R.remaining reader.old) (R.remaining reader.new) (take n piece.new)) }
     ensures end { IfOk result (λ n. n ≡ 0 → IsAtEnd (R.remaining reader.new)) }
     ensures broke { OnErr result (Consumes (R.remaining reader.old) (R.remaining reader.new) []) }
+    ensures heard { Hears (Moves R.gave) R.refused (is_err result) reader.old reader.new }
 {
     let room = most.min(piece.len());
-    match reader.read(&mut piece[..room]) {
+    match reader.try_read(&mut piece[..room]) {
         Ok(count) => Ok(count),
         Err(_) => Err(ReaderFailed),
     }
@@ -64,7 +66,7 @@ fn put_at(memory: &mut Memory, place: usize, bytes: &[u8])
 }
 
 /// Reads once into memory from a place on, at most this many bytes, and says how many: none only at the reader's end.
-fn read_some<R: Read>(
+fn read_some<R: Inlet>(
     reader: &mut R,
     piece: &mut [u8],
     memory: &mut Memory,
@@ -79,6 +81,7 @@ fn read_some<R: Read>(
     ensures end { IfOk result (λ n. n ≡ 0 → IsAtEnd (R.remaining reader.new)) }
     ensures broke { OnErr result (Consumes (R.remaining reader.old) (R.remaining reader.new) []) }
     ensures kept { OnErr result (memory.new ≡ memory.old) }
+    ensures heard { Hears (Moves R.gave) R.refused (is_err result) reader.old reader.new }
 {
     match read_piece(reader, piece, most) {
         Ok(count) => {
@@ -91,7 +94,7 @@ fn read_some<R: Read>(
 
 /// Reads into memory from a place on until this many bytes came or the input ends, which it marks, and says how many came. After
 /// a failure what came before stands in memory, uncounted. The reader's failure is marked by `read_stream`, not here.
-fn fill<R: Read>(
+fn fill<R: Inlet>(
     input: &mut Input<R>,
     piece: &mut [u8],
     memory: &mut Memory,
@@ -113,6 +116,7 @@ fn fill<R: Read>(
     ensures end { input.new.ended ≡ true → IsAtEnd (R.remaining input.new.reader) }
     ensures broke { OnErr result (SomeCame (R.remaining input.old.reader) (R.remaining input.new.reader) memory.old start len memory.new) }
     ensures mark { input.new.failed ≡ input.old.failed }
+    ensures heard { Hears (Moves R.gave) R.refused (is_err result) input.old.reader input.new.reader }
 {
     let mut filled: usize = 0;
     while filled < len {
@@ -130,7 +134,7 @@ fn fill<R: Read>(
 }
 
 /// Reads into a buffer until it is full or the input ends, and says how many bytes came: none after the end.
-fn fill_next<R: Read>(
+fn fill_next<R: Inlet>(
     input: &mut Input<R>,
     piece: &mut [u8],
     memory: &mut Memory,
@@ -150,6 +154,7 @@ fn fill_next<R: Read>(
     ensures end { input.new.ended ≡ true → IsAtEnd (R.remaining input.new.reader) }
     ensures broke { OnErr result (SomeCame (R.remaining input.old.reader) (R.remaining input.new.reader) memory.old buffer.pointer buffer.len memory.new) }
     ensures mark { input.new.failed ≡ input.old.failed }
+    ensures heard { Hears (Moves R.gave) R.refused (is_err result) input.old.reader input.new.reader }
 {
     if input.ended {
         return Ok(0);
@@ -159,7 +164,7 @@ fn fill_next<R: Read>(
 }
 
 /// Reads into the buffers, one after another, until they are full or the input ends, and says how many bytes came.
-fn fill_buffers<R: Read>(
+fn fill_buffers<R: Inlet>(
     input: &mut Input<R>,
     piece: &mut [u8],
     memory: &mut Memory,
@@ -180,6 +185,7 @@ fn fill_buffers<R: Read>(
     ensures end { input.new.ended ≡ true → IsAtEnd (R.remaining input.new.reader) }
     ensures broke { OnErr result (SomeDealt (R.remaining input.old.reader) (R.remaining input.new.reader) memory.old (list_of buffers.now) memory.new) }
     ensures mark { input.new.failed ≡ input.old.failed }
+    ensures heard { Hears (Moves R.gave) R.refused (is_err result) input.old.reader input.new.reader }
 {
     let mut count: usize = 0;
     for buffer in buffers {
@@ -205,7 +211,7 @@ fn first_with_room(buffers: &[Span]) -> Option<usize>
 
 /// Reads once, into the first buffer that has room, and says how many bytes came: none at the input's end, or where there is no
 /// room.
-fn read_once<R: Read>(
+fn read_once<R: Inlet>(
     input: &mut Input<R>,
     piece: &mut [u8],
     memory: &mut Memory,
@@ -225,6 +231,7 @@ fn read_once<R: Read>(
     ensures end { input.new.ended ≡ true → IsAtEnd (R.remaining input.new.reader) }
     ensures broke { OnErr result (Dealt (R.remaining input.old.reader) (R.remaining input.new.reader) memory.old (list_of buffers.now) memory.new 0) }
     ensures mark { input.new.failed ≡ input.old.failed }
+    ensures heard { Hears (Moves R.gave) R.refused (is_err result) input.old.reader input.new.reader }
 {
     if input.ended {
         return Ok(0);
@@ -247,7 +254,7 @@ fn read_once<R: Read>(
 
 /// Reads into the buffers, and says how many bytes came: where reads are short those of one read, else until the buffers are full or
 /// the input ends.
-fn read_buffers<R: Read>(
+fn read_buffers<R: Inlet>(
     input: &mut Input<R>,
     piece: &mut [u8],
     memory: &mut Memory,
@@ -268,6 +275,7 @@ fn read_buffers<R: Read>(
     ensures end { input.new.ended ≡ true → IsAtEnd (R.remaining input.new.reader) }
     ensures broke { OnErr result (Broke short (R.remaining input.old.reader) (R.remaining input.new.reader) memory.old (list_of buffers.now) memory.new) }
     ensures mark { input.new.failed ≡ input.old.failed }
+    ensures heard { Hears (Moves R.gave) R.refused (is_err result) input.old.reader input.new.reader }
 {
     if short {
         read_once(input, piece, memory, buffers)
@@ -278,7 +286,7 @@ fn read_buffers<R: Read>(
 
 /// Reads from a stream into the buffers until they are full or it ends, or once where reads are short, and then writes how many
 /// bytes came.
-pub(crate) fn read_stream<R: Read>(
+pub(crate) fn read_stream<R: Inlet>(
     input: &mut Input<R>,
     piece: &mut [u8],
     memory: &mut Memory,
@@ -296,6 +304,7 @@ pub(crate) fn read_stream<R: Read>(
         × Broke short (R.remaining input.old.reader) (R.remaining input.new.reader) memory.old (list_of buffers.now) memory.new) }
     ensures answer { IfErr result (λ e. e.0 ≡ 29) }
     ensures end { input.new.ended ≡ true → IsAtEnd (R.remaining input.new.reader) }
+    ensures heard { input.old.failed ≡ false → Hears (Moves R.gave) R.refused input.new.failed input.old.reader input.new.reader }
 {
     if input.failed {
         return Err(Errno::IO);

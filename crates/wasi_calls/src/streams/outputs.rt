@@ -1,6 +1,6 @@
 //! Bytes that a call writes to a stream.
 
-ghost use Rattle.std.specs.Prelude.{◌≡◌, ◌≤◌, length, true, false, Ok, Err, OnOk, OnErr, IfErr};
+ghost use Rattle.std.specs.Prelude.{◌≡◌, ◌≤◌, length, true, false, Ok, Err, OnOk, OnErr, IfErr, is_err};
 ghost use Rattle.std.specs.List.{list_all};
 ghost use Rattle.std.specs.Io.KnownBytes.{Appends};
 ghost use Rattle.byteorder.specs.Endian.{little_bytes};
@@ -9,12 +9,13 @@ ghost use Rattle.wasi_calls.specs.Checks.{is_inside, gathered};
 ghost use Rattle.wasi_calls.specs.internal.checks.Buffers.{list_of, AreUsable};
 ghost use Rattle.wasi_calls.specs.internal.streams.Outputs.{AppendsSome};
 ghost use Rattle.wasi_calls.specs.declared.checks.buffers.TheConstants.{MOST_BUFFERS};
+ghost use Rattle.stream_answers.specs.Hearing.{Hears, Moves, Refuses};
 
 use crate::checks::buffers::total_len;
 use crate::checks::write_bytes;
 use crate::numbers::le32;
 use crate::streams::Output;
-use std::io::Write;
+use stream_answers::Outlet;
 use vol_tree::Span;
 use wasm_store::{Errno, Memory};
 
@@ -25,22 +26,24 @@ struct WriterFailed;
 /// Hands all of the bytes to a writer. Any error of the writer counts as failure, an interruption too, and so does a
 /// write that takes none of them.
 #[tactic(auto, using(crate::proofs::streams::WriterBytes::begun, crate::proofs::streams::WriterBytes::begun_all, crate::proofs::streams::WriterBytes::begun_refused, crate::proofs::streams::WriterBytes::begun_stuck))]
-fn hand<W: Write>(writer: &mut W, bytes: &[u8]) -> Result<(), WriterFailed>
+fn hand<W: Outlet>(writer: &mut W, bytes: &[u8]) -> Result<(), WriterFailed>
     ensures all { OnOk result (Appends (W.contents writer.old) (W.contents writer.new) bytes.now) }
     ensures some { OnErr result (AppendsSome (W.contents writer.old) (W.contents writer.new) bytes.now) }
+    ensures heard { Hears (Moves W.took) (Refuses W.took W.refused) (is_err result) writer.old writer.new }
 {
     let mut rest = bytes;
     while !rest.is_empty() {
-        match writer.write(rest) {
-            Ok(taken) if taken > 0 => rest = &rest[taken..],
-            _ => return Err(WriterFailed),
+        match writer.try_write(rest) {
+            Ok(0) => return Err(WriterFailed),
+            Ok(taken) => rest = &rest[taken..],
+            Err(_) => return Err(WriterFailed),
         }
     }
     Ok(())
 }
 
 /// Hands what stands in the buffers to a writer, one after the other.
-fn hand_buffers<W: Write>(
+fn hand_buffers<W: Outlet>(
     writer: &mut W,
     memory: &Memory,
     buffers: &[Span],
@@ -48,6 +51,7 @@ fn hand_buffers<W: Write>(
     requires { list_all (is_inside memory.now) (list_of buffers.now) ≡ true }
     ensures all { OnOk result (Appends (W.contents writer.old) (W.contents writer.new) (gathered memory.now (list_of buffers.now))) }
     ensures some { OnErr result (AppendsSome (W.contents writer.old) (W.contents writer.new) (gathered memory.now (list_of buffers.now))) }
+    ensures heard { Hears (Moves W.took) (Refuses W.took W.refused) (is_err result) writer.old writer.new }
 {
     for buffer in buffers {
         let Some(bytes) = memory.slice(buffer.pointer, buffer.len) else {
@@ -61,7 +65,7 @@ fn hand_buffers<W: Write>(
 }
 
 /// Writes what stands in the buffers to a stream, and then how many bytes that is.
-pub(crate) fn write_stream<W: Write>(
+pub(crate) fn write_stream<W: Outlet>(
     output: &mut Output<W>,
     memory: &mut Memory,
     buffers: &[Span],
@@ -76,6 +80,7 @@ pub(crate) fn write_stream<W: Write>(
     ensures broke { OnErr result (output.old.failed ≡ false → (output.new.failed ≡ true)
         × AppendsSome (W.contents output.old.writer) (W.contents output.new.writer) (gathered memory.old (list_of buffers.now))) }
     ensures answer { IfErr result (λ e. (e.0 ≡ 29) × (memory.new ≡ memory.old)) }
+    ensures heard { output.old.failed ≡ false → Hears (Moves W.took) (Refuses W.took W.refused) output.new.failed output.old.writer output.new.writer }
 {
     if output.failed {
         return Err(Errno::IO);

@@ -5,11 +5,11 @@ ghost use Rattle.wasm_store.specs.declared.call.HostCall.TheVariants as call;
 use crate::arguments::word;
 use crate::host::inner::Inner;
 use crate::supplies::{clocks, random, texts};
-use std::io::{Read, Write};
+use stream_answers::{Inlet, Outlet};
 use vol_sector::Device;
 use wasm_store::{Errno, Memory};
 
-impl<'s, 't, D: Device, R: Read, W1: Write, W2: Write> Inner<'s, 't, D, R, W1, W2> {
+impl<'s, 't, D: Device, R: Inlet, W1: Outlet, W2: Outlet> Inner<'s, 't, D, R, W1, W2> {
     ghost use Rattle.wasi_calls.specs.internal.Bodies.{IsSetUp, Serves, errno_of};
 
     /// `clock_res_get(id, result)`.

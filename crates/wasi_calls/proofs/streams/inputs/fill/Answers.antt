@@ -1,5 +1,7 @@
 use Rattle.std.proofs.Common.{◌∙◌, arith, ◌+◌, ◌-◌, subst, refl, sym}
 use Rattle.std.proofs.lemmas.Bool.{false≢true}
+use Rattle.stream_answers.specs.Hearing.{stays}
+use Rattle.stream_answers.proofs.Hearing.{then}
 use Rattle.wasi_calls.proofs.streams.ReaderBytes.{came_more, came_end, came_none, came_fails}
 use Rattle.wasi_calls.specs.internal.streams.Inputs.{Came}
 use Rattle.wasi_calls.proofs.streams.inputs.fill.Goals as goal
@@ -13,6 +15,7 @@ loop-filled-preserved g c =
       few = omega (arith, more.few);
       goes_on = before.goes_on;
       mark = before.mark;
+      heard = then before.heard c.in-Ok.ensures.heard;
       came = came_more _ _ _ c.args.memory.now c.loop-filled.memory c.read_some.new.memory c.args.start c.args.len c.loop-filled.filled c.in-Ok.count c.requires.inside before.few before.came more;
     }
 
@@ -29,11 +32,12 @@ returns-in-Ok-eq0 g c = record {
   end = λ ended. c.in-Ok-eq0.ensures.end c.in-Ok-eq0.field-0-test;
   broke = tt;
   mark = c.loop-filled.invariant.mark;
+  heard = then c.loop-filled.invariant.heard c.in-Ok-eq0.ensures.heard;
 }
 
 pub loop-filled-init : goal.loop-filled-init
 loop-filled-init g c =
-    record { long = refl; few = omega arith; goes_on = c.requires.goes_on; mark = refl; came = came_none _ c.args.memory.now c.args.start c.args.len }
+    record { long = refl; few = omega arith; goes_on = c.requires.goes_on; mark = refl; heard = stays; came = came_none _ c.args.memory.now c.args.start c.args.len }
 
 pub returns-in-Err : goal.returns-in-Err
 returns-in-Err g c = record {
@@ -45,6 +49,7 @@ returns-in-Err g c = record {
   end = λ ended. absurd (false≢true (sym c.loop-filled.invariant.goes_on ∙ ended));
   broke = came_fails _ _ _ c.args.memory.now c.loop-filled.memory c.read_some.new.memory c.args.start c.args.len c.loop-filled.filled c.loop-filled.invariant.came c.in-Err.ensures.broke c.in-Err.ensures.kept;
   mark = c.loop-filled.invariant.mark;
+  heard = let told = c.in-Err.ensures.heard in (told.0, then c.loop-filled.invariant.heard told.1, told.2);
 }
 
 pub returns : goal.returns
@@ -57,4 +62,5 @@ returns g c = record {
   end = λ ended. absurd (false≢true (sym c.loop-filled.invariant.goes_on ∙ ended));
   broke = tt;
   mark = c.loop-filled.invariant.mark;
+  heard = c.loop-filled.invariant.heard;
 }

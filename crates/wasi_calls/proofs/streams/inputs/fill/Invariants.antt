@@ -1,4 +1,5 @@
 use Rattle.std.proofs.Common.{◌≡◌, ◌≤◌, ◌-◌, length, false}
+use Rattle.stream_answers.specs.Hearing.{Goes, Moves}
 use Rattle.wasi_calls.specs.internal.streams.Inputs.{Came}
 use Rattle.wasi_calls.proofs.streams.inputs.fill.Given as goal
 
@@ -8,6 +9,7 @@ invariant-loop-filled g l = record {
   few : l.filled ≤ l.len;
   goes_on : l.input.ended ≡ false;
   mark : l.input.failed ≡ l.initial.input.failed;
+  heard : Goes (Moves g.R.Inlet.gave) l.initial.input.reader l.input.reader;
   came : Came (g.R.Read.remaining l.initial.input.reader) (g.R.Read.remaining l.input.reader) l.initial.memory l.start l.len l.memory l.filled;
 }
 

@@ -1,11 +1,14 @@
 use Rattle.std.proofs.lemmas.List.{take_all}
-use Rattle.std.proofs.Common.{◌≡◌, ◌<◌, ◌⊎◌, take, inl, inr, sym, ◌∙◌, arith, List, Ok, ap, subst}
+use Rattle.std.proofs.Common.{◌≡◌, ◌<◌, ◌⊎◌, [], take, inl, inr, refl, sym, ◌∙◌, arith, List, Ok, ap, subst}
 use Rattle.std.proofs.lemmas.Bool.{false≢true}
 use Rattle.vol_body.specs.declared.source.Span.{Span}
+use Rattle.stream_answers.specs.Hearing.{stays}
+use Rattle.stream_answers.proofs.Hearing.{then}
 use Rattle.wasi_calls.specs.Checks.{total}
 use Rattle.wasi_calls.specs.internal.checks.Buffers.{list_of}
 use Rattle.wasi_calls.proofs.checks.BufferArrays.{inside_at, total_more}
 use Rattle.wasi_calls.proofs.streams.ReaderBytes.{dealt_more, dealt_fails, ended_or, same_count, no_count}
+use Rattle.wasi_calls.proofs.streams.ShortReads.{untouched}
 use Rattle.wasi_calls.specs.internal.streams.Inputs.{Dealt}
 use Rattle.wasi_calls.proofs.streams.inputs.fill_buffers.Goals as goal
 
@@ -36,6 +39,20 @@ returns-in-Err g c = record {
         | inr goes_on ↦ before.full goes_on
       ]);
   mark = c.in-Err.ensures.mark ∙ c.loop-buffer.invariant.mark;
+  heard = let said = c.in-Err.ensures.heard in (said.0, then c.loop-buffer.invariant.heard said.1, said.2);
+}
+
+pub loop-buffer-init : goal.loop-buffer-init
+loop-buffer-init g c = record {
+  long = refl;
+  small = omega arith;
+  dealt = untouched _ c.args.memory.now [];
+  full = λ goes_on. refl;
+  short = λ began ended. absurd (false≢true (sym began ∙ ended));
+  none = λ ended. (refl, ended);
+  end = c.requires.end;
+  mark = refl;
+  heard = stays;
 }
 
 pub loop-buffer-preserved : goal.loop-buffer-preserved
@@ -64,6 +81,7 @@ loop-buffer-preserved g c =
       none = λ ended. let was = before.none ended in let now = told.none was.1 in (omega (arith, was.0, same_count c.in-Ok.more 0 now.0), now.1);
       end = told.end;
       mark = told.mark ∙ before.mark;
+      heard = then before.heard told.heard;
     }
 
 pub returns : goal.returns
@@ -78,4 +96,5 @@ returns g c = record {
   end = c.loop-buffer.invariant.end;
   broke = tt;
   mark = c.loop-buffer.invariant.mark;
+  heard = c.loop-buffer.invariant.heard;
 }

@@ -1,5 +1,6 @@
 use Rattle.std.proofs.Common.{◌≡◌, ◌<◌, ◌≤◌, ◌*◌, ◌^◌, length, take, true, false}
 use Rattle.std.specs.Io.KnownBytes.{IsAtEnd}
+use Rattle.stream_answers.specs.Hearing.{Goes, Moves}
 use Rattle.wasi_calls.specs.Checks.{total}
 use Rattle.wasi_calls.specs.internal.checks.Buffers.{list_of}
 use Rattle.wasi_calls.specs.internal.streams.Inputs.{Dealt}
@@ -15,4 +16,5 @@ invariant-loop-buffer g l = record {
   none : l.initial.input.ended ≡ true → (l.count ≡ 0) × (l.input.ended ≡ true);
   end : l.input.ended ≡ true → IsAtEnd (g.R.Read.remaining l.input.reader);
   mark : l.input.failed ≡ l.initial.input.failed;
+  heard : Goes (Moves g.R.Inlet.gave) l.initial.input.reader l.input.reader;
 }

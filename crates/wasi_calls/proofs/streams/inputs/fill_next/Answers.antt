@@ -1,5 +1,6 @@
 use Rattle.std.proofs.Common.{refl, sym, ◌∙◌, arith}
 use Rattle.std.proofs.lemmas.Bool.{false≢true}
+use Rattle.stream_answers.specs.Hearing.{stays}
 use Rattle.wasi_calls.proofs.streams.ReaderBytes.{came_none}
 use Rattle.wasi_calls.proofs.streams.inputs.fill_next.Goals as goal
 
@@ -15,4 +16,5 @@ returns-then-input g c = record {
   end = c.requires.end;
   broke = tt;
   mark = refl;
+  heard = stays;
 }

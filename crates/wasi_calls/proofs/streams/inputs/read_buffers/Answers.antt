@@ -18,6 +18,7 @@ returns-then-short g c = record {
   broke = subst (λ (b : Bool). OnErr c.read_once.result (Broke b (g.R.Read.remaining c.args.input.now.reader) (g.R.Read.remaining c.read_once.new.input.reader) c.args.memory.now (list_of c.args.buffers.now) c.read_once.new.memory)) (sym c.if-short.true)
       (broke_short c.read_once.result _ _ _ _ _ c.read_once.ensures.broke);
   mark = c.read_once.ensures.mark;
+  heard = c.read_once.ensures.heard;
 }
 
 pub returns-else-short : goal.returns-else-short
@@ -33,4 +34,5 @@ returns-else-short g c = record {
   broke = subst (λ (b : Bool). OnErr c.fill_buffers.result (Broke b (g.R.Read.remaining c.args.input.now.reader) (g.R.Read.remaining c.fill_buffers.new.input.reader) c.args.memory.now (list_of c.args.buffers.now) c.fill_buffers.new.memory)) (sym c.if-short.false)
       (broke_long c.fill_buffers.result _ _ _ _ _ c.fill_buffers.ensures.broke);
   mark = c.fill_buffers.ensures.mark;
+  heard = c.fill_buffers.ensures.heard;
 }

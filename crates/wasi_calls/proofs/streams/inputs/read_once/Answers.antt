@@ -1,6 +1,7 @@
 use Rattle.std.proofs.Common.{◌≡◌, ◌+◌, ◌≤◌, length, min, refl, sym, ◌∙◌, arith}
 use Rattle.std.proofs.lemmas.Bool.{false≢true}
 use Rattle.vol_body.specs.declared.source.Span.{Span}
+use Rattle.stream_answers.specs.Hearing.{stays}
 use Rattle.wasi_calls.specs.internal.checks.Buffers.{list_of}
 use Rattle.wasi_calls.proofs.checks.BufferArrays.{inside_at}
 use Rattle.wasi_calls.proofs.streams.ShortReads.{dealt_once, nothing_dealt, untouched, room_at}
@@ -20,6 +21,7 @@ returns-then-input g c = record {
   end = c.requires.end;
   broke = tt;
   mark = refl;
+  heard = stays;
 }
 
 pub returns-in_default : goal.returns-in_default
@@ -33,6 +35,7 @@ returns-in_default g c = record {
   end = c.requires.end;
   broke = tt;
   mark = refl;
+  heard = stays;
 }
 
 pub read_some-requires-clause-inside : goal.read_some-requires-clause-inside
@@ -52,6 +55,7 @@ returns-in-Ok-eq0 g c = record {
   end = λ ended. c.in-Ok-eq0.ensures.end c.in-Ok-eq0.field-0-test;
   broke = tt;
   mark = refl;
+  heard = c.in-Ok-eq0.ensures.heard;
 }
 
 pub returns-in-Ok : goal.returns-in-Ok
@@ -66,6 +70,7 @@ returns-in-Ok g c = record {
   end = λ ended. absurd (false≢true (sym c.if-input.false ∙ ended));
   broke = tt;
   mark = refl;
+  heard = c.in-Ok.ensures.heard;
 }
 
 pub returns-in-Err : goal.returns-in-Err
@@ -79,4 +84,5 @@ returns-in-Err g c = record {
   end = λ ended. absurd (false≢true (sym c.if-input.false ∙ ended));
   broke = nothing_dealt _ _ c.args.memory.now c.read_some.new.memory (list_of c.args.buffers.now) c.in-Err.ensures.broke c.in-Err.ensures.kept;
   mark = refl;
+  heard = c.in-Err.ensures.heard;
 }

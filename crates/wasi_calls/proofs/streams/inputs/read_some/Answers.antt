@@ -16,6 +16,7 @@ returns-in-Ok g c = record {
   end = c.in-Ok.ensures.end;
   broke = tt;
   kept = tt;
+  heard = c.in-Ok.ensures.heard;
 }
 
 pub returns-in-Err : goal.returns-in-Err
@@ -25,4 +26,5 @@ returns-in-Err g c = record {
   end = tt;
   broke = c.in-Err.ensures.broke;
   kept = refl;
+  heard = c.in-Err.ensures.heard;
 }

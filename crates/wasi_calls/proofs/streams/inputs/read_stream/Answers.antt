@@ -1,5 +1,6 @@
-use Rattle.std.proofs.Common.{◌≡◌, false, inl, inr, refl, ap, sym, ◌∙◌}
+use Rattle.std.proofs.Common.{◌≡◌, Bool, false, inl, inr, refl, ap, sym, subst, ◌∙◌}
 use Rattle.std.proofs.lemmas.Bool.{false≢true}
+use Rattle.stream_answers.specs.Hearing.{Hears, Moves}
 use Rattle.wasi_calls.proofs.streams.ReaderBytes.{ended_or, ended_so, no_count, same_count}
 use Rattle.wasm_store.specs.Bytes.{written}
 use Rattle.wasi_calls.proofs.streams.inputs.read_stream.Goals as goal
@@ -16,6 +17,7 @@ returns-in-Err g c = record {
       (refl, goes_on, c.in-Err.ensures.still, c.in-Err.ensures.broke);
   answer = refl;
   end = c.in-Err.ensures.end;
+  heard = λ worked. c.in-Err.ensures.heard;
 }
 
 pub returns-then-input : goal.returns-then-input
@@ -25,6 +27,7 @@ returns-then-input g c = record {
   broke = λ worked. absurd (false≢true (sym worked ∙ c.if-input.true));
   answer = refl;
   end = c.requires.end;
+  heard = λ worked. absurd (false≢true (sym worked ∙ c.if-input.true));
 }
 
 pub returns-in-Ok : goal.returns-in-Ok
@@ -45,4 +48,6 @@ returns-in-Ok g c = record {
   broke = tt;
   answer = tt;
   end = c.in-Ok.ensures.end;
+  heard = λ worked. subst (λ (b : Bool). Hears (Moves g.R.Inlet.gave) g.R.Inlet.refused b c.args.input.now.reader c.read_buffers.new.input.reader)
+      (sym (c.in-Ok.ensures.mark ∙ worked)) c.in-Ok.ensures.heard;
 }

@@ -1,7 +1,8 @@
-use Rattle.std.proofs.Common.{sym, ap, ◌∙◌, refl}
+use Rattle.std.proofs.Common.{Bool, sym, ap, ◌∙◌, refl, subst}
 use Rattle.std.proofs.lemmas.Bool.{false≢true}
 use Rattle.byteorder.specs.Endian.{little_bytes}
 use Rattle.wasm_store.specs.Bytes.{written}
+use Rattle.stream_answers.specs.Hearing.{Hears, Moves, Refuses}
 use Rattle.wasi_calls.specs.internal.checks.Buffers.{list_of}
 use Rattle.wasi_calls.proofs.checks.BufferArrays.{gathered_length}
 use Rattle.wasi_calls.proofs.streams.outputs.write_stream.Goals as goal
@@ -17,6 +18,7 @@ returns-in-Ok g c = record {
   );
   broke = tt;
   answer = tt;
+  heard = λ worked. subst (λ (b : Bool). Hears (Moves g.W.Outlet.took) (Refuses g.W.Outlet.took g.W.Outlet.refused) b c.args.output.now.writer c.hand_buffers.new.writer) (sym worked) c.in-Ok.ensures.heard;
 }
 
 pub returns-then-output : goal.returns-then-output
@@ -25,6 +27,7 @@ returns-then-output g c = record {
   took = tt;
   broke = λ worked. absurd (false≢true (sym worked ∙ c.if-output.true));
   answer = (refl, refl);
+  heard = λ worked. absurd (false≢true (sym worked ∙ c.if-output.true));
 }
 
 pub returns-in-Err : goal.returns-in-Err
@@ -33,4 +36,5 @@ returns-in-Err g c = record {
   took = tt;
   broke = λ worked. (refl, c.in-Err.ensures.some);
   answer = (refl, refl);
+  heard = λ worked. c.in-Err.ensures.heard;
 }

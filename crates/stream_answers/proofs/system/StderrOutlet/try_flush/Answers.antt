@@ -1,5 +1,5 @@
-use Rattle.sandbox_command.specs.Flushing.{has_refused, was_flushed}
-use Rattle.sandbox_command.proofs.outlet.StderrOutlet.try_flush.Goals as goal
+use Rattle.stream_answers.specs.System.{has_refused, was_flushed}
+use Rattle.stream_answers.proofs.system.StderrOutlet.try_flush.Goals as goal
 
 pub returns-clause-flushed : goal.returns-clause-flushed
 returns-clause-flushed c = λ is. was_flushed _ _

@@ -1,8 +1,0 @@
-use Rattle.sandbox_command.specs.Flushing.{has_refused, was_flushed}
-use Rattle.sandbox_command.proofs.outlet.OutputOutlet.try_flush.Goals as goal
-
-pub returns-clause-flushed : goal.returns-clause-flushed
-returns-clause-flushed c = λ is. was_flushed _ _
-
-pub returns-clause-refused : goal.returns-clause-refused
-returns-clause-refused c = λ is. has_refused _ _

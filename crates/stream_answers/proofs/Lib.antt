@@ -1,0 +1,2 @@
+pub mod Hearing
+mod Told
