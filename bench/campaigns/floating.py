@@ -43,8 +43,14 @@ class Floating(Writer):
         """The value on top, or the positive canonical NaN in place of any."""
         own = len(self.locals)
         self.locals.append(kind)
-        self.counters.append(own)            # nothing else sets it
+        self.counters.append(own)            # nothing else sets it, and `local` doesn't read it
         return [(0x22, (own,)), (CONST[kind], (NAN[kind],)), (0x20, (own,)), (0x20, (own,)), (COMPARE[kind], ()), (0x1B, ())]
+
+    def local(self, kind, _=0):
+        if kind not in FLOATS:
+            return super().local(kind)
+        fitting = [k for k, it in enumerate(self.locals) if it == kind and k not in self.counters]
+        return [(0x20, (self.chance.choice(fitting),))] if fitting else self.constant(kind)
 
     def binary(self, kind, depth):
         if kind not in FLOATS:

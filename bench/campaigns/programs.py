@@ -177,7 +177,7 @@ class Writer:
         return self.value(I32, depth) + [(IF, (EMPTY,))] + then + other + [(END, ())]
 
     def loop(self, depth):
-        if len(self.counters) > 2:
+        if sum(self.locals[k] == I32 for k in self.counters) > 2:
             return self.stored(depth)
         counter = len(self.locals)
         self.locals.append(I32)
