@@ -17,8 +17,10 @@ int main() {
         std::iter_swap(rows.begin() + i, std::max_element(rows.begin() + i, rows.end(), is_less));
         rows[i] /= rows[i][i];
         for (size_t k = 0; k < count; k++)
-            if (k != i)
-                rows[k] -= rows[i] * rows[k][i];
+            if (k != i) {
+                const double times = rows[k][i];
+                rows[k] -= rows[i] * times;
+            }
     }
     double sum = 0;
     for (const auto &it : rows)
