@@ -15,7 +15,8 @@ int main() {
     for (size_t i = 0; i < count; i++) {
         const auto is_less = [i](auto &a, auto &b) { return std::fabs(a[i]) < std::fabs(b[i]); };
         std::iter_swap(rows.begin() + i, std::max_element(rows.begin() + i, rows.end(), is_less));
-        rows[i] /= rows[i][i];
+        const double pivot = rows[i][i];
+        rows[i] /= pivot;
         for (size_t k = 0; k < count; k++)
             if (k != i) {
                 const double times = rows[k][i];
