@@ -12,7 +12,7 @@ int main() {
             continue;
         count++;
         inverses += 1.0 / i;
-        for (size_t k = i * i; k < is_composite.size(); k += i)
+        for (unsigned long long k = 1ULL * i * i; k < is_composite.size(); k += i)
             is_composite.set(k);
     }
     std::cout << count << ' ' << is_composite.count() << ' ' << inverses << ' ' << std::bitset<12>(count).to_string() << '\n';
