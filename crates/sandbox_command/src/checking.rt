@@ -9,6 +9,7 @@ ghost use Rattle.sandbox_command.specs.Status.{ended_status, failure_status};
 
 use crate::ending::ended;
 use crate::explaining::About;
+use crate::output::print_all;
 use crate::program::{Executed, FAULT, left_with};
 use crate::streams::Streams;
 use arrayvec::ArrayVec;
@@ -18,7 +19,7 @@ use std::io::Write;
 use std::{fmt, io};
 use stream_answers::Outlet;
 use vol_sector::{Damage, VolumeFault};
-use volume_tasks::{Failure, print_all};
+use volume_tasks::Failure;
 
 /// Lines before they are printed, with room for those of any damage.
 type Lines = ArrayVec<u8, 320>;

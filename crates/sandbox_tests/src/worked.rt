@@ -11,12 +11,12 @@ ghost use Rattle.sandbox_tests.specs.Worked.{StoppedAnywhere};
 use sandbox_core::laws::turns_are_safe;
 use sandbox_core::{Pause, RefusedSession, Session, Settings, Valid, Volume};
 use std::alloc::Global;
-use std::io::{Read, Write};
+use stream_answers::{Inlet, Outlet};
 use vol_sector::Device;
 
 /// A session that was resumed twice, and what the two pauses tell.
 #[derive(Drop)]
-pub struct Twice<'a, 's, 't, D: Device, R: Read, W1: Write, W2: Write> {
+pub struct Twice<'a, 's, 't, D: Device, R: Inlet, W1: Outlet, W2: Outlet> {
     pub session: Session<'a, 's, 't, D, R, W1, W2>,
     pub first: Pause,
     pub second: Pause,
@@ -36,9 +36,9 @@ pub fn resumed_twice<'a, 's, 't, D, R, W1, W2>(
 ) -> Result<Twice<'a, 's, 't, D, R, W1, W2>, RefusedSession<'a, 's, 't, D, R, W1, W2>>
 where
     D: Device + Drop,
-    R: Read + Drop,
-    W1: Write + Drop,
-    W2: Write + Drop,
+    R: Inlet + Drop,
+    W1: Outlet + Drop,
+    W2: Outlet + Drop,
     // as `Volume::open` leaves it
     requires { D.honest volume.device → (c : Image) → (D.disk volume.device).may_leave c → StandsAs c volume.numbers volume.tree }
     ensures { D.honest volume.device → IfOk result (λ t.
@@ -73,9 +73,9 @@ pub fn resumed_twice_on<'a, 's, 't, D, R, W1, W2>(
 ) -> Option<Twice<'a, 's, 't, D, R, W1, W2>>
 where
     D: Device + Drop,
-    R: Read + Drop,
-    W1: Write + Drop,
-    W2: Write + Drop,
+    R: Inlet + Drop,
+    W1: Outlet + Drop,
+    W2: Outlet + Drop,
     ensures { D.honest device → IfSome result (λ t. (volume : Opened D)
         × StandsOn (D.size device) (D.disk device).seen volume.numbers volume.tree
         × StoppedAnywhere (devices D.Device R.Read W1.Write W2.Write) volume t.session t.first t.second) }

@@ -7,8 +7,9 @@ use sandbox_core::{
     Report, Session, SessionFault, Settings, Valid, Volume, load, run,
 };
 use std::alloc::Global;
-use std::io::{ErrorKind, Read, Write};
+use std::io::ErrorKind;
 use std::process::Abort;
+use stream_answers::{Inlet, Outlet};
 use vol_sector::{Device, FlakyDevice, FuseDevice, MemoryDevice};
 
 fn settings<'a, 't>(
@@ -284,9 +285,9 @@ pub fn whole_run<D, R, W1, W2>(
 ) -> Report<D, R, W1, W2>
 where
     D: Device + Drop,
-    R: Read + Drop,
-    W1: Write + Drop,
-    W2: Write + Drop,
+    R: Inlet + Drop,
+    W1: Outlet + Drop,
+    W2: Outlet + Drop,
 {
     assert!(rt; session.used() == 0);
     run(session, fuel)
@@ -369,9 +370,9 @@ type Resumed = (u64, Pause, u64);
 fn resumes_so<D, R, W1, W2>(session: &mut Session<'_, '_, '_, D, R, W1, W2>, row: &Resumed) -> bool
 where
     D: Device + Drop,
-    R: Read + Drop,
-    W1: Write + Drop,
-    W2: Write + Drop,
+    R: Inlet + Drop,
+    W1: Outlet + Drop,
+    W2: Outlet + Drop,
 {
     let (units, pause, used) = row;
     let left = u64::MAX - session.used();

@@ -6,6 +6,7 @@ use std::alloc::Global;
 use std::io;
 use std::io::{ErrorKind, Read, Write};
 use std::process::Abort;
+use stream_answers::{Inlet, Outlet};
 use wasi_calls::Terminals;
 use wasm_store::HostCall::{FdFdstatGet, FdFilestatGet, FdRead, FdWrite};
 
@@ -51,6 +52,16 @@ impl Read for Feeding {
         buf[..count].copy_from_slice(given);
         self.bytes = rest;
         Ok(count)
+    }
+}
+
+impl Inlet for Feeding {
+    ghost gave = { λ before bytes after. Unit {0} };
+
+    ghost refused = { λ before after. Unit {0} };
+
+    fn try_read(&mut self, buf: &mut [u8]) -> io::Result<usize> {
+        self.read(buf)
     }
 }
 
@@ -106,6 +117,24 @@ impl Write for Taking {
 
     fn flush(&mut self) -> io::Result<()> {
         Ok(())
+    }
+}
+
+impl Outlet for Taking {
+    ghost took = { λ before bytes after. Unit {0} };
+
+    ghost refused = { λ before after. Unit {0} };
+
+    ghost flushed = { λ before after. Unit {0} };
+
+    ghost refuses = { λ before after. Unit {0} };
+
+    fn try_write(&mut self, buf: &[u8]) -> io::Result<usize> {
+        self.write(buf)
+    }
+
+    fn try_flush(&mut self) -> bool {
+        self.flush().is_ok()
     }
 }
 
