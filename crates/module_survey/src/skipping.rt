@@ -61,10 +61,10 @@ fn after_labels(bytes: &[u8]) -> &[u8]
 
 /// What follows the bytes that this number behind the opcode FC asks for: two of `memory.copy`, one of `memory.fill`, none of a
 /// saturating conversion.
-fn after_bulk_number(number: u32, bytes: &[u8]) -> &[u8]
-    ensures { result.now ≡ after_bulk_number number bytes.now }
+fn after_bulk_number(opcode: u32, bytes: &[u8]) -> &[u8]
+    ensures { result.now ≡ after_bulk_number opcode bytes.now }
 {
-    match number {
+    match opcode {
         10 => after_numbers(bytes, 2),
         11 => after_number(bytes),
         _ => bytes,
@@ -76,7 +76,7 @@ fn after_bulk(bytes: &[u8]) -> &[u8]
     ensures { result.now ≡ after_bulk bytes.now }
 {
     match number(bytes) {
-        Some((number, rest)) => after_bulk_number(number, rest),
+        Some((opcode, rest)) => after_bulk_number(opcode, rest),
         None => bytes,
     }
 }

@@ -29,7 +29,7 @@ use crate::reporting::{
     kept_after_run, kept_where_not_begun, kept_where_refused, not_run, session_reason,
 };
 use crate::runnable::Runnable;
-use crate::sessions::launch;
+use crate::sessions::{launch_bare, launch_prepared};
 use crate::stopping::{Stopped, lines_of, no_lines};
 use crate::streams::Streams;
 use crate::supplies::{Supplies, settings, supplied};
@@ -426,7 +426,13 @@ fn no_volume<D: Drop, R: Drop, W1: Drop, W2: Drop>(
 }
 
 /// Runs a valid module on the volume of a device, with random bytes, and gives the module and the device back.
-pub(crate) fn run_valid<'a, D: Device + Drop, R: Inlet + Drop, W1: Outlet + Drop, W2: Outlet + Drop>(
+pub(crate) fn run_valid<
+    'a,
+    D: Device + Drop,
+    R: Inlet + Drop,
+    W1: Outlet + Drop,
+    W2: Outlet + Drop,
+>(
     alloc: Global,
     run: &Run<'_>,
     runnable: Runnable<'a>,
@@ -448,7 +454,16 @@ pub(crate) fn run_valid<'a, D: Device + Drop, R: Inlet + Drop, W1: Outlet + Drop
     match open_for_run(alloc, volume_of(run), device) {
         Ok(volume) => {
             let parts = parts_of(run, supplies, random, volume, streams);
-            launch(alloc, run, runnable, parts, stacks)
+            match runnable {
+                Runnable::Prepared(shared) => {
+                    let left = launch_prepared(alloc, run, &shared, parts, stacks);
+                    (Runnable::Prepared(shared), left)
+                }
+                Runnable::Bare(valid) => {
+                    let (valid, left) = launch_bare(alloc, run, valid, parts, stacks);
+                    (Runnable::Bare(valid), left)
+                }
+            }
         }
         Err(refused) => (runnable, no_volume(run, refused, streams)),
     }
