@@ -1,10 +1,11 @@
 -- Serials in a long list and a late one, and what one more or less does to both.
-use Rattle.std.proofs.Common.{◌≡◌, ◌⊎◌, inl, inr, ℕ, ◌+◌, ◌-◌, ◌≤◌, ◌<◌, List, [], ◌∷◌, ◌++◌, length, set, refl, sym, ◌∙◌, ap, subst, arith}
+use Rattle.std.proofs.Common.{◌≡◌, ◌⊎◌, inl, inr, ℕ, ◌+◌, ◌-◌, ◌≤◌, ◌<◌, Bool, true, false, List, [], ◌∷◌, ◌++◌, length, set, refl, sym, ◌∙◌, ap, ap₂, subst, arith}
 use Rattle.std.specs.List.{Contains, insert, remove}
 use Rattle.std.specs.List.Sorted.{IsPermutation}
 use Rattle.std.specs.Cmp.{IsTotalOrder}
 use Rattle.std.specs.declared.cmp.Ordering.{Ordering}
 use Rattle.std.specs.declared.cmp.Ordering.TheVariants.{Less, Equal, Greater}
+use Rattle.std.proofs.lemmas.List.{map-append}
 use Rattle.std.proofs.lemmas.List.Elements.{Contains-append_left, Contains-append_right, Contains-append_cases}
 use Rattle.std.proofs.lemmas.List.Sorted.{IsPermutation-insert, IsPermutation-map, IsPermutation-sym, IsPermutation-trans, IsPermutation-append_left, IsPermutation-append_right, IsPermutation-middle, Contains-permutation}
 use Rattle.vol_dirs.specs.internal.Rising.{Rises, IsFirstOver, IsLesser, IsLeastOver, NoneIsOver, AreApart, AddsItem, Drops}
@@ -135,3 +136,50 @@ module _ {X : Type 0} (order : X → X → Ordering) (xs ys : List X) (bound : X
       through y here over less Less is = one.least y here over is
       through y here over less Equal is = never (sym (o.congr y x z is) ∙ less)
       through y here over less Greater is = never (o.trans x y z (less_back o y x is) less)
+
+-- ---- the same serials in other lists
+
+pub moved_keys : (names now : List (List ℕ)) (old new : List ℕ) → now ≡ names → IsPermutation old new → IsPermutation (keys_in names old) (keys_in now new)
+moved_keys names now old new same moved = subst (λ (l : List (List ℕ)). IsPermutation (keys_in names old) (keys_in l new)) (sym same) (IsPermutation-map (key_at names) old new moved)
+
+pub absent_moved : (old new : List ℕ) (s : ℕ) → IsPermutation old new → IsAbsentIn s old → IsAbsentIn s new
+absent_moved old new s moved absent has = absent (Contains-permutation new old s (IsPermutation-sym old new moved) has)
+
+pub absent_same : (long late other_long other_late : List ℕ) (s : ℕ) → other_long ≡ long → other_late ≡ late → IsAbsentIn s (long ++ late) → IsAbsentIn s (other_long ++ other_late)
+absent_same long late other_long other_late s first second absent has = absent (subst (λ (l : List ℕ). Contains l s) (ap₂ (λ (p q : List ℕ). p ++ q) first second) has)
+
+-- ---- keys of both lists
+
+module _ (names : List (List ℕ)) (long late : List ℕ) (bound : List ℕ × ℕ) where
+  joined : keys_in names (long ++ late) ≡ keys_in names long ++ keys_in names late
+  joined = map-append (key_at names) long late
+
+  pub none_found : NoneIsOver key_order (keys_in names long) bound → NoneIsOver key_order (keys_in names late) bound → NoneIsOver key_order (keys_in names (long ++ late)) bound
+  none_found first second = subst (λ (l : List (List ℕ × ℕ)). NoneIsOver key_order l bound) (sym joined) (none_in_both key_order (keys_in names long) (keys_in names late) bound first second)
+
+  pub long_found : (s : ℕ) → IsLeastOver key_order (keys_in names long) bound (key_at names s) → NoneIsOver key_order (keys_in names late) bound → IsLeastOver key_order (keys_in names (long ++ late)) bound (key_at names s)
+  long_found s least none = subst (λ (l : List (List ℕ × ℕ)). IsLeastOver key_order l bound (key_at names s)) (sym joined) (least_first key_order (keys_in names long) (keys_in names late) bound (key_at names s) least none)
+
+  pub late_found : (s : ℕ) → NoneIsOver key_order (keys_in names long) bound → IsLeastOver key_order (keys_in names late) bound (key_at names s) → IsLeastOver key_order (keys_in names (long ++ late)) bound (key_at names s)
+  late_found s none least = subst (λ (l : List (List ℕ × ℕ)). IsLeastOver key_order l bound (key_at names s)) (sym joined) (least_second key_order (keys_in names long) (keys_in names late) bound (key_at names s) none least)
+
+  pub lesser_found : (one other lesser : ℕ) → IsLesser key_order (key_at names) one other lesser → IsLeastOver key_order (keys_in names long) bound (key_at names one) → IsLeastOver key_order (keys_in names late) bound (key_at names other)
+      → IsLeastOver key_order (keys_in names (long ++ late)) bound (key_at names lesser)
+  lesser_found one other lesser is first second = subst (λ (l : List (List ℕ × ℕ)). IsLeastOver key_order l bound (key_at names lesser)) (sym joined) (elim is [
+    | inl (same, less) ↦ subst (λ (s : ℕ). IsLeastOver key_order (keys_in names long ++ keys_in names late) bound (key_at names s)) (sym same) (least_of_both key_order (keys_in names long) (keys_in names late) bound key_total (key_at names one) (key_at names other) first second less)
+    | inr (same, never) ↦ subst (λ (s : ℕ). IsLeastOver key_order (keys_in names long ++ keys_in names late) bound (key_at names s)) (sym same) (other_of_both key_order (keys_in names long) (keys_in names late) bound key_total (key_at names one) (key_at names other) first second never)
+  ])
+
+pub lesser_held : (item : ℕ → List ℕ × ℕ) (serials : List ℕ) (one other lesser : ℕ) → IsLesser key_order item one other lesser → Contains serials one → Contains serials other → Contains serials lesser
+lesser_held item serials one other lesser is first second = elim is [
+  | inl (same, less) ↦ subst (λ (s : ℕ). Contains serials s) (sym same) first
+  | inr (same, never) ↦ subst (λ (s : ℕ). Contains serials s) (sym same) second
+]
+
+-- what the second of two lists didn't have, the first had
+pub taken_first : (long late : List ℕ) (s : ℕ) (rest : List ℕ) (r : Bool) → Contains (long ++ late) s → IsAbsentIn s late → (r ≡ true → IsPermutation long (s ∷ rest)) → (r ≡ false → IsAbsentIn s long) → IsPermutation long (s ∷ rest)
+taken_first long late s rest true held absent taken none = taken refl
+taken_first long late s rest false held absent taken none = elim (Contains-append_cases long late s held) [
+  | inl here ↦ absurd (none refl here)
+  | inr there ↦ absurd (absent there)
+]

@@ -225,3 +225,20 @@ module _ (names : List (List ℕ)) (long late : List ℕ) (apart : AreApart (lon
       let own : x ≡ y = only_one x y has in
       let over : Before names x (get_or long k.0 0) = (long_there k.0 k.2).1 (found.from k.0 ([], 0) k.1 (omega (arith, k.2, as_many names long))) in
       subst (λ (q : ℕ). Before names y q) k.3 (subst (λ (q : ℕ). Before names q (get_or long k.0 0)) own over)
+
+-- ---- how much was merged, and all of it
+
+pub merged_long : (names : List (List ℕ)) (long late : List ℕ) (from i : ℕ) (merged : List ℕ) → HasMerged names long late from i merged → from ≤ length long → i ≤ length late → length merged ≡ from + i
+merged_long names long late from i merged done first second =
+    let same = length_permutation (take from long ++ take i late) merged done.moved in
+    omega (arith, same, length-append (take from long) (take i late), length-take-le from long first, length-take-le i late second)
+
+pub part_fits : (names : List (List ℕ)) (long late : List ℕ) (from i : ℕ) (merged : List ℕ) → HasMerged names long late from i merged → i ≤ length late → (at room : ℕ) → from ≤ at → at ≤ length long → at + i ≤ room → length (merged ++ slice_range long from at) ≤ room
+part_fits names long late from i merged done second at room le within fits =
+    omega (arith, length-append merged (slice_range long from at), part_long long from at le within, merged_long names long late from i merged done (omega arith) second)
+
+pub all_merged : (names : List (List ℕ)) (long late : List ℕ) (from i : ℕ) (merged : List ℕ) → HasMerged names long late from i merged → from ≤ length long → length late ≤ i → InOrder names long → HasMerged names long late (length long) i (merged ++ slice_range long from (length long))
+all_merged names long late from i merged done first second ordered = long_merged names long late from i merged done (length long) first (omega arith) ordered (λ x y has other. let k = in_drop i late y other in absurd (omega (arith, k.1, k.2)))
+
+pub moved_all : (names : List (List ℕ)) (long late : List ℕ) (i : ℕ) (merged : List ℕ) → HasMerged names long late (length long) i merged → length late ≤ i → IsPermutation (long ++ late) merged
+moved_all names long late i merged done second = subst (λ (l : List ℕ). IsPermutation l merged) (ap₂ (λ (p q : List ℕ). p ++ q) (take_all (length long) long (omega arith)) (take_all i late second)) done.moved

@@ -1,6 +1,6 @@
 //! Keys by their serials, and the serials in the order of keys.
 
-ghost use Rattle.std.specs.Prelude.{◌≡◌, ◌<◌, ◌≤◌, ◌+◌, ◌++◌, ℕ, List, [], length, slice_index_or};
+ghost use Rattle.std.specs.Prelude.{◌≡◌, ◌<◌, ◌≤◌, ◌^◌, ◌++◌, ℕ, List, [], length, slice_index_or};
 ghost use Rattle.std.specs.Prelude.{vec_len, vec_capacity, IfOk, IfSome, IfNone, IsPermutation};
 ghost use Rattle.vol_dirs.specs.internal.Rising.{Rises, AreApart, IsLesser, IsLeastOver, NoneIsOver, AddsItem, Drops};
 ghost use Rattle.vol_dirs.specs.internal.Listing.{key_order};
@@ -30,6 +30,7 @@ pub struct SerialOrder<const N: usize> {
     ghost long_rises: { Rises key_order (keys_in keys.items long.items) },
     ghost late_rises: { Rises key_order (keys_in keys.items late.items) },
     ghost apart: { AreApart (long.items ++ late.items) },
+    ghost narrow: { N < 2 ^ 32 },
     ghost within: { vec_len keys ≤ slots },
     ghost keys_room: { slots ≤ vec_capacity keys },
     ghost long_room: { slots ≤ vec_capacity long },
@@ -43,6 +44,7 @@ impl<const N: usize> SerialOrder<N> {
     /// Room for so many serials, and none of them. It is refused where there is no memory. What isn't
     /// used of it isn't touched.
     pub fn reserve(alloc: Global, slots: u32) -> Result<SerialOrder<N>, AllocError>
+        requires { N < 2 ^ 32 }
         ensures none { IfOk result (λ o. keys_of o ≡ []) }
         ensures room { IfOk result (λ o. room_of o ≡ slots) }
     {
