@@ -144,45 +144,45 @@ module _ (names : List (List ℕ)) (long late : List ℕ) (from i : ℕ) (merged
   -- a part of the long list more
   pub long_merged : (at : ℕ) → from ≤ at → at ≤ length long → InOrder names long → AllBefore names (slice_range long from at) (drop i late) → HasMerged names long late at i (merged ++ slice_range long from at)
   long_merged at le within ordered before =
-    let part : List ℕ = slice_range long from at in
-    record {
-    moved = subst (λ (l : List ℕ). IsPermutation (l ++ take i late) (merged ++ part)) (sym (take_part long from at le)) (with_first (take from long) (take i late) part merged done.moved);
-    ordered = joined_order names merged part done.ordered (part_order names long from at le within ordered) (λ x y has other.
-        let k = in_part long from at y le within other in
-        subst (λ (q : ℕ). Before names x q) k.3 (done.before_long x (get_or long k.0 0) has (drop_has from long k.0 k.1 (omega (arith, k.2)))));
-    before_long = λ x y has other.
-        let k = in_drop at long y other in
-        elim (Contains-append_cases merged part x has) [
-          | inl old ↦ subst (λ (q : ℕ). Before names x q) k.3 (done.before_long x (get_or long k.0 0) old (drop_has from long k.0 (omega (arith, k.1)) k.2))
-          | inr new ↦
-              let m = in_part long from at x le within new in
-              subst (λ (q : ℕ). Before names x q) k.3 (subst (λ (q : ℕ). Before names q (get_or long k.0 0)) m.3 (ordered m.0 k.0 (omega (arith, m.2, k.1)) k.2))
+      let part : List ℕ = slice_range long from at in
+      record {
+        moved = subst (λ (l : List ℕ). IsPermutation (l ++ take i late) (merged ++ part)) (sym (take_part long from at le)) (with_first (take from long) (take i late) part merged done.moved);
+        ordered = joined_order names merged part done.ordered (part_order names long from at le within ordered) (λ x y has other.
+            let k = in_part long from at y le within other in
+            subst (λ (q : ℕ). Before names x q) k.3 (done.before_long x (get_or long k.0 0) has (drop_has from long k.0 k.1 (omega (arith, k.2)))));
+        before_long = λ x y has other.
+            let k = in_drop at long y other in
+            elim (Contains-append_cases merged part x has) [
+              | inl old ↦ subst (λ (q : ℕ). Before names x q) k.3 (done.before_long x (get_or long k.0 0) old (drop_has from long k.0 (omega (arith, k.1)) k.2))
+              | inr new ↦
+                  let m = in_part long from at x le within new in
+                  subst (λ (q : ℕ). Before names x q) k.3 (subst (λ (q : ℕ). Before names q (get_or long k.0 0)) m.3 (ordered m.0 k.0 (omega (arith, m.2, k.1)) k.2))
+            ];
+        before_late = λ x y has other. elim (Contains-append_cases merged part x has) [
+          | inl old ↦ done.before_late x y old other
+          | inr new ↦ before x y new other
         ];
-    before_late = λ x y has other. elim (Contains-append_cases merged part x has) [
-      | inl old ↦ done.before_late x y old other
-      | inr new ↦ before x y new other
-    ];
-  }
+      }
 
   -- a late serial more
   pub late_merged : i < length late → InOrder names late → AllBefore names (get_or late i 0 ∷ []) (drop from long) → HasMerged names long late from (i + 1) (merged ++ get_or late i 0 ∷ [])
   late_merged lt ordered before =
-    let s : ℕ = get_or late i 0 in
-    record {
-    moved = subst (λ (l : List ℕ). IsPermutation (take from long ++ l) (merged ++ s ∷ [])) (sym (take_more late i 0 lt))
-        (subst (λ (l : List ℕ). IsPermutation l (merged ++ s ∷ [])) (append_assoc (take from long) (take i late) (s ∷ [])) (IsPermutation-append_left (s ∷ []) (take from long ++ take i late) merged done.moved));
-    ordered = joined_order names merged (s ∷ []) done.ordered (λ a b less there. absurd (omega arith)) (λ x y has other. subst (λ (q : ℕ). Before names x q) (only_one s y other) (done.before_late x s has (drop_has i late i (omega arith) lt)));
-    before_long = λ x y has other. elim (Contains-append_cases merged (s ∷ []) x has) [
-      | inl old ↦ done.before_long x y old other
-      | inr new ↦ before x y new other
-    ];
-    before_late = λ x y has other.
-        let k = in_drop (i + 1) late y other in
-        elim (Contains-append_cases merged (s ∷ []) x has) [
-          | inl old ↦ subst (λ (q : ℕ). Before names x q) k.3 (done.before_late x (get_or late k.0 0) old (drop_has i late k.0 (omega (arith, k.1)) k.2))
-          | inr new ↦ subst (λ (q : ℕ). Before names x q) k.3 (subst (λ (q : ℕ). Before names q (get_or late k.0 0)) (only_one s x new) (ordered i k.0 (omega (arith, k.1)) k.2))
+      let s : ℕ = get_or late i 0 in
+      record {
+        moved = subst (λ (l : List ℕ). IsPermutation (take from long ++ l) (merged ++ s ∷ [])) (sym (take_more late i 0 lt))
+            (subst (λ (l : List ℕ). IsPermutation l (merged ++ s ∷ [])) (append_assoc (take from long) (take i late) (s ∷ [])) (IsPermutation-append_left (s ∷ []) (take from long ++ take i late) merged done.moved));
+        ordered = joined_order names merged (s ∷ []) done.ordered (λ a b less there. absurd (omega arith)) (λ x y has other. subst (λ (q : ℕ). Before names x q) (only_one s y other) (done.before_late x s has (drop_has i late i (omega arith) lt)));
+        before_long = λ x y has other. elim (Contains-append_cases merged (s ∷ []) x has) [
+          | inl old ↦ done.before_long x y old other
+          | inr new ↦ before x y new other
         ];
-  }
+        before_late = λ x y has other.
+            let k = in_drop (i + 1) late y other in
+            elim (Contains-append_cases merged (s ∷ []) x has) [
+              | inl old ↦ subst (λ (q : ℕ). Before names x q) k.3 (done.before_late x (get_or late k.0 0) old (drop_has i late k.0 (omega (arith, k.1)) k.2))
+              | inr new ↦ subst (λ (q : ℕ). Before names x q) k.3 (subst (λ (q : ℕ). Before names q (get_or late k.0 0)) (only_one s x new) (ordered i k.0 (omega (arith, k.1)) k.2))
+            ];
+      }
 
 -- ---- where the next late serial goes
 

@@ -63,8 +63,8 @@ module _ (names : List (List ℕ)) (order : List ℕ) (serials : AreSerials (len
       let inside : k < length order = omega (arith, as_many changed order) in
       let s = get_or order k 0 in
       let other : s - 1 ≢ serial - 1 = λ is.
-          let same : s ≡ serial = omega (arith, serials k inside) in
-          absent (subst (λ (q : ℕ). Contains order q) same (Contains-get_or order k 0 inside)) in
+      let same : s ≡ serial = omega (arith, serials k inside) in
+      absent (subst (λ (q : ℕ). Contains order q) same (Contains-get_or order k 0 inside)) in
       key_there changed order k ([], 0) inside ∙ ap (λ (name : List ℕ). (name, s)) (get_or-set_other names (serial - 1) (s - 1) key [] other) ∙ sym (key_there names order k ([], 0) inside))
 
   pub own_key : key_at changed serial ≡ (key, serial)

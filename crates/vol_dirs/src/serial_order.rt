@@ -10,8 +10,8 @@ use crate::serials::{first_over, is_over, least_over, merge, take_out};
 use std::alloc::{AllocError, Global};
 use std::mem;
 
-/// How many serials may be late. A serial more moves half as many at most, and once in so many all
-/// others are moved: about as much work at a hundred thousand of them.
+/// How many serials may be late. A new one moves half of them where they come in no order, and once in
+/// so many all others are moved, which is as much for each where there are half a million.
 const MOST_LATE: usize = 1024;
 
 /// Keys of `N` bytes, each in the place of its serial, where it stays; and the serials in the order of

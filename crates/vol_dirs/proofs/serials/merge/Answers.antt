@@ -34,7 +34,7 @@ append-requires g c =
     let inside : c.loop-i.i < length late = omega (arith, c.loop-i-test.true) in
     record {
       room = part_fits c.args.keys.now long late c.loop-i.from c.loop-i.i c.loop-i.merged.items c.loop-i.invariant.done (omega arith) c.first_over-at.result _ (starts c.args.keys.now long late c.loop-i.from c.loop-i.i c.loop-i.merged.items c.first_over-at.result c.index-keys-serial.result c.requires.apart c.requires.late c.loop-i.invariant.done inside c.loop-i.invariant.within c.first_over-at.ensures.within c.index-keys-serial.is c.first_over-at.ensures.first) c.first_over-at.ensures.within
-      (omega (arith, c.first_over-at.ensures.within, inside, c.requires.room, length-append long late, c.loop-i.invariant.capacity));
+          (omega (arith, c.first_over-at.ensures.within, inside, c.requires.room, length-append long late, c.loop-i.invariant.capacity));
     }
 
 pub push_reserved-requires : goal.push_reserved-requires
@@ -78,7 +78,7 @@ append-requires-2 g c =
     let within : c.loop-i.i ≤ length late = omega (arith, c.loop-i.auto.i-end) in
     record {
       room = part_fits c.args.keys.now long late c.loop-i.from c.loop-i.i c.loop-i.merged.items c.loop-i.invariant.done within (length long) _ c.loop-i.invariant.within (omega arith)
-      (omega (arith, within, c.requires.room, length-append long late, c.loop-i.invariant.capacity));
+          (omega (arith, within, c.requires.room, length-append long late, c.loop-i.invariant.capacity));
     }
 
 pub returns-clause-moved : goal.returns-clause-moved

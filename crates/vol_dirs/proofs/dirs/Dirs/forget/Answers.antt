@@ -16,29 +16,29 @@ use Rattle.vol_dirs.proofs.Places.{held_at, key_held, held_or_not}
 use Rattle.vol_dirs.proofs.Listings.{listing_less, names_less, only_child}
 use Rattle.vol_dirs.proofs.dirs.Dirs.forget.Goals as goal
 
+-- the serial of an entry is a child's too
+child_held : (old : Dirs) (p s : ℕ) (n : List ℕ) → Names old p n s → Contains (serials_of old.children) s
+child_held old p s n held = elim (held_or_not (serials_of old.children) s) [
+  | inl there ↦ there
+  | inr absent ↦ absurd (old.listing.no_fewer (key_of p n) s held.held (λ has. absent (held_at old.children.keys.items (serials_of old.children) _ s has)))
+]
+
 pub remove-requires : goal.remove-requires
 remove-requires c =
     let old = c.args.self.now in
     let e = c.args.entry.now in
-    rw c.number-number.ensures (held_at old.keys.keys.items (serials_of old.keys) (key_of e.parent (name_of e)) c.args.serial c.requires.held.held)
+    (omega arith, rw c.number-number.ensures (held_at old.keys.keys.items (serials_of old.keys) (key_of e.parent (name_of e)) c.args.serial c.requires.held.held))
 
 pub remove-requires-2 : goal.remove-requires-2
 remove-requires-2 c =
     let old = c.args.self.now in
     let e = c.args.entry.now in
-    rw c.number-number.ensures (elim (held_or_not (serials_of old.children) c.args.serial) [
-      | inl held ↦ held
-      | inr absent ↦ absurd (old.listing.no_fewer (key_of e.parent (name_of e)) c.args.serial c.requires.held.held (λ has. absent (held_at old.children.keys.items (serials_of old.children) _ c.args.serial has)))
-    ])
+    (omega arith, rw c.number-number.ensures (child_held old e.parent c.args.serial (name_of e) c.requires.held))
 
 -- the key of a child that is held is that of its entry
 own_child_less : (old : Dirs) (new : SerialOrder 4) (p s number : ℕ) (n : List ℕ) → number ≡ s → Names old p n s → Drops (keys_of old.children) (keys_of new) (key_at old.children.keys.items number) → Drops (keys_of old.children) (keys_of new) (big_bytes 4 p, s)
 own_child_less old new p s number n is held less =
-    let held_there : Contains (serials_of old.children) s = elim (held_or_not (serials_of old.children) s) [
-      | inl there ↦ there
-      | inr absent ↦ absurd (old.listing.no_fewer (key_of p n) s held.held (λ has. absent (held_at old.children.keys.items (serials_of old.children) _ s has)))
-    ] in
-    let own = key_held old.children.keys.items (serials_of old.children) s held_there in
+    let own = key_held old.children.keys.items (serials_of old.children) s (child_held old p s n held) in
     let same = only_child old.slots (keys_of old.keys) (keys_of old.children) old.listing p n s held _ own in
     subst (λ (k : List ℕ). Drops (keys_of old.children) (keys_of new) (k, s)) same (subst (λ (m : ℕ). Drops (keys_of old.children) (keys_of new) (key_at old.children.keys.items m)) is less)
 

@@ -1,9 +1,11 @@
-use Rattle.std.proofs.Common.{◌<◌, ◌^◌, ◌∙◌, inl, inr, sym, subst, arith}
+use Rattle.std.proofs.Common.{◌≤◌, ◌<◌, ◌^◌, ◌∙◌, ℕ, inl, inr, sym, subst, arith}
 use Rattle.byteorder.specs.Endian.{big_bytes}
 use Rattle.vol_inode.specs.Entry.{name_of}
 use Rattle.vol_dirs.specs.internal.Listing.{AreMarked}
 use Rattle.vol_dirs.specs.SlotMarks.{flags_of}
-use Rattle.vol_dirs.specs.SerialOrder.{keys_of, serials_of}
+use Rattle.vol_dirs.specs.SerialOrder.{keys_of, serials_of, room_of, IsAbsent}
+use Rattle.vol_dirs.specs.Names.{IsFree}
+use Rattle.vol_dirs.specs.declared.dirs.Dirs.{Dirs}
 use Rattle.vol_dirs.specs.Key.{key_of}
 use Rattle.vol_dirs.proofs.Marks.{marks_more}
 use Rattle.vol_dirs.proofs.Places.{key_held}
@@ -13,17 +15,30 @@ use Rattle.vol_dirs.specs.Seats.{seat_of, no_seat}
 use Rattle.vol_dirs.proofs.Seating.{seat_set}
 use Rattle.vol_dirs.proofs.dirs.Dirs.hold.Goals as goal
 
-pub insert-requires-clause-free : goal.insert-requires-clause-free
-insert-requires-clause-free c has =
-    let old = c.args.self.now in
-    let free = key_free old.slots (keys_of old.keys) (keys_of old.children) old.listing c.args.serial c.requires.free in
-    free _ (key_held old.keys.keys.items (serials_of old.keys) c.args.serial (rw c.number-number.ensures at has))
+-- the serial has no key and no child yet
+no_key : (old : Dirs) (s : ℕ) → IsFree old s → IsAbsent old.keys s
+no_key old s free has = key_free old.slots (keys_of old.keys) (keys_of old.children) old.listing s free _ (key_held old.keys.keys.items (serials_of old.keys) s has)
 
-pub insert-requires-2-clause-free : goal.insert-requires-2-clause-free
-insert-requires-2-clause-free c has =
+no_child : (old : Dirs) (s : ℕ) → IsFree old s → IsAbsent old.children s
+no_child old s free has =
+    let none = key_free old.slots (keys_of old.keys) (keys_of old.children) old.listing s free in
+    child_free old.slots (keys_of old.keys) (keys_of old.children) old.listing s none _ (key_held old.children.keys.items (serials_of old.children) s has)
+
+pub insert-requires : goal.insert-requires
+insert-requires c =
     let old = c.args.self.now in
-    let free = key_free old.slots (keys_of old.keys) (keys_of old.children) old.listing c.args.serial c.requires.free in
-    child_free old.slots (keys_of old.keys) (keys_of old.children) old.listing c.args.serial free _ (key_held old.children.keys.items (serials_of old.children) c.args.serial (rw c.number-number.ensures at has))
+    let free : IsAbsent old.keys c.number-number.result = rw c.number-number.ensures (no_key old c.args.serial c.requires.free) in
+    let first : 1 ≤ c.number-number.result = omega (arith, c.requires.first, c.number-number.ensures) in
+    let last : c.number-number.result ≤ room_of old.keys = omega (arith, c.requires.last, c.number-number.ensures, old.keys_room) in
+    (omega arith, (omega arith, (first, (last, free))))
+
+pub insert-requires-2 : goal.insert-requires-2
+insert-requires-2 c =
+    let old = c.args.self.now in
+    let free : IsAbsent old.children c.number-number.result = rw c.number-number.ensures (no_child old c.args.serial c.requires.free) in
+    let first : 1 ≤ c.number-number.result = omega (arith, c.requires.first, c.number-number.ensures) in
+    let last : c.number-number.result ≤ room_of old.children = omega (arith, c.requires.last, c.number-number.ensures, old.children_room) in
+    (omega arith, (omega arith, (first, (last, free))))
 
 pub invariant_of-self-clause-listing : goal.invariant_of-self-clause-listing
 invariant_of-self-clause-listing c =

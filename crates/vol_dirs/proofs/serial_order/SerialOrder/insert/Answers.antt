@@ -72,6 +72,6 @@ returns-in-Ok-clause-adds g c =
     let is : c.insert.new.self.items ≡ insert late at s = c.in-Ok.ensures.items in
     let new : List (List ℕ × ℕ) = keys_in (set keys (s - 1) key) (long ++ c.insert.new.self.items) in
     let adds : AddsItem (keys_of o) new (key, s) = subst (λ (l : List ℕ). AddsItem (keys_of o) (keys_in (set keys (s - 1) key) (long ++ l)) (key, s)) (sym is)
-        (more_keys keys long late (fit o long o.long_serials) (fit o late o.late_serials) o.apart key s c.requires.first last absent at) in
+    (more_keys keys long late (fit o long o.long_serials) (fit o late o.late_serials) o.apart key s c.requires.first last absent at) in
     let moved = moved_keys old.keys.items mid.keys.items (serials_of old) (serials_of mid) (ap (λ v. v.items) c.make_room.ensures.keys) c.make_room.ensures.moved in
     adds_moved (keys_of old) (keys_of mid) new (key, s) moved (subst (λ (l : List (List ℕ × ℕ)). AddsItem l new (key, s)) c.reach.ensures.keys adds)

@@ -22,10 +22,13 @@ pub lesser-requires : goal.lesser-requires
 lesser-requires g c =
     let o = c.args.self.now in
     let long = rw c.deref-2.ensures.value at c.least_over-long.ensures.held in
-    let late = rw c.deref-4.ensures.value at c.least_over-late.ensures.held in
-    (omega arith, (
-      Contains-append_left o.long.items o.late.items c.in-Some-Some.one (held_in o.long.items c.least_over-long.result c.in-Some-Some.one c.in-Some-Some.is-0 long),
-      Contains-append_right o.long.items o.late.items c.in-Some-Some.other (held_in o.late.items c.least_over-late.result c.in-Some-Some.other c.in-Some-Some.is-1 late)))
+    let late = rw c.deref-4.ensures.value at c.least_over-late.ensures.held in (
+      omega arith,
+      (
+        Contains-append_left o.long.items o.late.items c.in-Some-Some.one (held_in o.long.items c.least_over-long.result c.in-Some-Some.one c.in-Some-Some.is-0 long),
+        Contains-append_right o.long.items o.late.items c.in-Some-Some.other (held_in o.late.items c.least_over-late.result c.in-Some-Some.other c.in-Some-Some.is-1 late),
+      ),
+    )
 
 pub returns-in-Some-Some-clause-found : goal.returns-in-Some-Some-clause-found
 returns-in-Some-Some-clause-found g c =
