@@ -27,7 +27,7 @@ use crate::reporting::{
     kept_after_run, kept_where_not_begun, kept_where_refused, not_run, session_reason,
 };
 use crate::runnable::Runnable;
-use crate::sessions::launch;
+use crate::sessions::{launch_bare, launch_prepared};
 use crate::stopping::{Stopped, lines_of, no_lines};
 use crate::streams::Streams;
 use crate::supplies::{Supplies, settings, supplied};
@@ -446,7 +446,16 @@ pub(crate) fn run_valid<'a, D: Device + Drop, R: Inlet + Drop, W1: Outlet + Drop
     match open_for_run(alloc, volume_of(run), device) {
         Ok(volume) => {
             let parts = parts_of(run, supplies, random, volume, streams);
-            launch(alloc, run, runnable, parts, stacks)
+            match runnable {
+                Runnable::Prepared(shared) => {
+                    let left = launch_prepared(alloc, run, &shared, parts, stacks);
+                    (Runnable::Prepared(shared), left)
+                }
+                Runnable::Bare(valid) => {
+                    let (valid, left) = launch_bare(alloc, run, valid, parts, stacks);
+                    (Runnable::Bare(valid), left)
+                }
+            }
         }
         Err(refused) => (runnable, no_volume(run, refused, streams)),
     }

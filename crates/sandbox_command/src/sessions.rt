@@ -8,13 +8,11 @@ ghost use Rattle.sandbox_command.specs.Profiling.{IsThere, IsUseWith, ReportsCha
 ghost use Rattle.sandbox_command.specs.Reporting.{counting, output_of};
 ghost use Rattle.sandbox_command.specs.Running.{Launches};
 ghost use Rattle.sandbox_command.specs.Supplies.{terminals_of};
-ghost use Rattle.sandbox_command.specs.internal.Runnable.{IsReadyFor, module_in};
 ghost use Rattle.sandbox_command.specs.internal.Seeds.{prepared_by, with_seed, with_terminals};
 ghost use Rattle.sandbox_command.specs.internal.Sessions.{RunsSession};
 
 use crate::profiling::{FuelUse, slice_of};
 use crate::program::{Executed, no_session, reported};
-use crate::runnable::Runnable;
 use crate::stopping::{room_for, stopped_with};
 use crate::supplies::terminals_of;
 use observed_run::{Told, run_profiled, run_told};
@@ -234,7 +232,7 @@ fn counted_parts<'s, 't, D: Device, R, W1, W2>(
 
 /// Runs a valid module, of which nothing is prepared, with these settings on an open volume. Gives the module and the volume's device
 /// back. Where there are stacks, they get the units of the run.
-fn launch_bare<'a, D: Device + Drop, R: Inlet + Drop, W1: Outlet + Drop, W2: Outlet + Drop>(
+pub(crate) fn launch_bare<'a, D: Device + Drop, R: Inlet + Drop, W1: Outlet + Drop, W2: Outlet + Drop>(
     alloc: Global,
     run: &Run<'_>,
     valid: Valid<'a>,
@@ -269,7 +267,7 @@ fn launch_bare<'a, D: Device + Drop, R: Inlet + Drop, W1: Outlet + Drop, W2: Out
 }
 
 /// Runs a prepared module in the same way. Gives the volume's device back.
-fn launch_prepared<D: Device + Drop, R: Inlet + Drop, W1: Outlet + Drop, W2: Outlet + Drop>(
+pub(crate) fn launch_prepared<D: Device + Drop, R: Inlet + Drop, W1: Outlet + Drop, W2: Outlet + Drop>(
     alloc: Global,
     run: &Run<'_>,
     shared: &SharedModule<'_>,
@@ -298,34 +296,5 @@ fn launch_prepared<D: Device + Drop, R: Inlet + Drop, W1: Outlet + Drop, W2: Out
             left
         }
         Err(RefusedParts { parts, fault }) => no_session(run, parts, fault),
-    }
-}
-
-/// Runs a module with these settings on an open volume. Gives the module and the volume's device back. Where there are stacks, they
-/// get the units of the run.
-pub(crate) fn launch<'a, D: Device + Drop, R: Inlet + Drop, W1: Outlet + Drop, W2: Outlet + Drop>(
-    alloc: Global,
-    run: &Run<'_>,
-    runnable: Runnable<'a>,
-    parts: HostParts<'_, '_, D, R, W1, W2>,
-    stacks: Option<Profile>,
-) -> (Runnable<'a>, Executed<D, R, W1, W2>)
-    requires ready { IsReadyFor parts.settings.pages runnable }
-    requires new { IfSome stacks (λ s. s ≡ no_stacks) }
-    ensures module { result.0 ≡ runnable.entry }
-    ensures fuel_use { TellsUse stacks result.1.stopped }
-    ensures launches { Launches D.honest D.disk D.size D.failures D.goes_on R.remaining W1.contents W2.contents
-        (module_in runnable.entry) run.now parts.entry result.1 }
-    ensures answered { RunAnswered W1.flushed W1.refuses W2.flushed W2.refuses result.1 }
-{
-    match runnable {
-        Runnable::Prepared(shared) => {
-            let left = launch_prepared(alloc, run, &shared, parts, stacks);
-            (Runnable::Prepared(shared), left)
-        }
-        Runnable::Bare(valid) => {
-            let (valid, left) = launch_bare(alloc, run, valid, parts, stacks);
-            (Runnable::Bare(valid), left)
-        }
     }
 }

@@ -1,5 +1,8 @@
-use Rattle.std.proofs.Common.{sym, subst}
+use Rattle.std.proofs.Common.{sym, ap, subst, ◌∙◌}
 use Rattle.volume_tasks.specs.Volumes.{IsOpenFor, IsRefusedFor}
+use Rattle.wasm_module.specs.declared.module.Module.{Module}
+use Rattle.sandbox_command.specs.Running.{Launches}
+use Rattle.sandbox_command.specs.declared.runnable.Runnable.{Runnable}
 use Rattle.sandbox_command.specs.internal.Runnable.{IsReadyFor, module_in}
 use Rattle.sandbox_command.proofs.Charged.{none_tells}
 use Rattle.sandbox_command.proofs.Launching.{no_volume, on_volume}
@@ -15,16 +18,31 @@ returns-in-Err-clause-runs g c =
     ended.ends ended.flushed ended.summary ended.device ended.input ended.out ended.err
 
 -- the module was launched
-pub returns-in-Ok-clause-runs : goal.returns-in-Ok-clause-runs
-returns-in-Ok-clause-runs g c =
+pub returns-in-Prepared-clause-runs : goal.returns-in-Prepared-clause-runs
+returns-in-Prepared-clause-runs g c =
+    let parts = c.parts_of-parts.result in
     on_volume g.D.Device g.R.Read.remaining g.W1.Write.contents g.W2.Write.contents c.args.run.now (module_in c.args.runnable) c.args.random.now
-    c.args.device c.args.streams.input c.args.streams.out c.args.streams.err c.in-Ok.volume c.parts_of-parts.result c.launch.result.1
+    c.args.device c.args.streams.input c.args.streams.out c.args.streams.err c.in-Ok.volume parts c.launch_prepared-left.result
     (subst (λ named. IsOpenFor g.D.Device.honest g.D.Device.disk g.D.Device.size g.D.Device.failures named c.args.device c.in-Ok.volume) c.volume_of.ensures c.in-Ok.ensures.opens)
-    c.parts_of-parts.ensures.settings c.parts_of-parts.ensures.parts c.launch.ensures.launches
+    c.parts_of-parts.ensures.settings c.parts_of-parts.ensures.parts
+    (subst (λ (m : Module). Launches g.D.Device.honest g.D.Device.disk g.D.Device.size g.D.Device.failures g.D.Device.goes_on g.R.Read.remaining g.W1.Write.contents g.W2.Write.contents m c.args.run.now parts c.launch_prepared-left.result)
+    (sym (ap module_in c.in-Prepared.is)) c.launch_prepared-left.ensures.launches)
+
+pub returns-in-Bare-clause-runs : goal.returns-in-Bare-clause-runs
+returns-in-Bare-clause-runs g c =
+    let parts = c.parts_of-parts.result in
+    let left = c.launch_bare-valid.result.1 in
+    on_volume g.D.Device g.R.Read.remaining g.W1.Write.contents g.W2.Write.contents c.args.run.now (module_in c.args.runnable) c.args.random.now
+    c.args.device c.args.streams.input c.args.streams.out c.args.streams.err c.in-Ok.volume parts left
+    (subst (λ named. IsOpenFor g.D.Device.honest g.D.Device.disk g.D.Device.size g.D.Device.failures named c.args.device c.in-Ok.volume) c.volume_of.ensures c.in-Ok.ensures.opens)
+    c.parts_of-parts.ensures.settings c.parts_of-parts.ensures.parts
+    (subst (λ (m : Module). Launches g.D.Device.honest g.D.Device.disk g.D.Device.size g.D.Device.failures g.D.Device.goes_on g.R.Read.remaining g.W1.Write.contents g.W2.Write.contents m c.args.run.now parts left)
+    (sym (ap module_in c.in-Bare.is)) c.launch_bare-valid.ensures.launches)
 
 pub returns-in-Err-clause-fuel_use : goal.returns-in-Err-clause-fuel_use
 returns-in-Err-clause-fuel_use g c = none_tells c.args.stacks _ c.no_volume.ensures.stopped
 
 -- its settings have the pages of the words
-pub launch-requires-clause-ready : goal.launch-requires-clause-ready
-launch-requires-clause-ready g c = subst (λ n. IsReadyFor n c.args.runnable) (sym c.parts_of-parts.ensures.settings.pages) c.requires.ready
+pub launch_prepared-left-requires-clause-pages : goal.launch_prepared-left-requires-clause-pages
+launch_prepared-left-requires-clause-pages g c =
+    c.parts_of-parts.ensures.settings.pages ∙ sym (subst (λ (r : Runnable). IsReadyFor c.args.run.now.limits.pages r) c.in-Prepared.is c.requires.ready)
