@@ -57,7 +57,7 @@ import sys
 # `signal`, `argparse`, `subprocess`, `tempfile`, `shutil`, `re`, `json` and `hashlib` take longer to import than a small guest takes to run
 import _signal as signal
 
-from step_volume import MOST_FILE, MOST_SLOTS, SECTOR, Image, Left, has_parents, make_volume, put, removed, shown, sizes
+from step_volume import MOST_FILE, MOST_SLOTS, SECTOR, Image, Left, Room, has_parents, make_volume, put, removed, shown, sizes
 
 VERSION = b"2"                                 # of what a key says: another one, other keys
 ROOTS = (b"in", b"out", b"tmp")                # what the guest has
@@ -216,10 +216,14 @@ def words_of(argv):
 
 def check_places(it):
     """Each output has a place of its own, where it takes away nothing but a file, or a folder that it was asked to take away."""
+    try:
+        here = os.getcwdb()
+    except OSError as error:
+        raise Refused(f"the folder that it is called in: {error.strerror}") from None
     places = [os.path.join(os.path.realpath(os.path.dirname(os.path.abspath(host))), os.path.basename(os.path.abspath(host))) for _, host in outputs_of(it)]
     if len(set(places)) < len(places):
         raise Refused("two outputs have one place")
-    others = [os.path.realpath(host) for host in (os.getcwdb(), it["module"], it["keep"], it["image"], it["stdin"], *(host for _, host in it["in"])) if host]
+    others = [os.path.realpath(host) for host in (here, it["module"], it["keep"], it["image"], it["stdin"], *(host for _, host in it["in"])) if host]
     for (name, host), place in zip(outputs_of(it), places):
         if not os.path.isdir(os.path.dirname(place)):
             raise Refused(f"{shown(host)}: no folder to put it in")
@@ -229,11 +233,13 @@ def check_places(it):
             if inside or place in others:
                 raise Refused(f"{shown(host)}: what it holds is to go, and it holds {shown((inside or [place])[0])}")
         try:
-            mode = os.lstat(place).st_mode
+            there, above = os.lstat(place), os.stat(os.path.dirname(place))
         except OSError:
             continue
-        if not (stat.S_ISDIR(mode) if is_folder else stat.S_ISREG(mode)):
+        if not (stat.S_ISDIR(there.st_mode) if is_folder else stat.S_ISREG(there.st_mode)):
             raise Refused(f"{shown(host)}: there is something else than a {'folder' if is_folder else 'file'}")
+        if above.st_mode & stat.S_ISVTX and os.geteuid() not in (0, there.st_uid, above.st_uid):
+            raise Refused(f"{shown(host)}: another user's, in a folder where each removes but one's own")
 
 
 def content(path, most, links=True):
@@ -323,55 +329,6 @@ def asked(of, act, *given):
         raise (Refused if error.errno in CALLERS else Machine)(f"{of}{error.strerror}") from None
 
 
-class Room:
-    """A folder of one's own, which goes at the end. Those of steps that were killed go first: nobody holds their lock."""
-
-    def __init__(self, parent):
-        self.mark, self.parent = b"sandbox-step.%d." % os.getuid(), parent
-        self.sweep_all(parent, self.mark)
-
-    @classmethod
-    def sweep_all(cls, parent, mark):
-        for it in os.scandir(parent):
-            if it.name.startswith(mark):
-                cls.sweep(it.path)
-
-    @staticmethod
-    def sweep(path):
-        try:
-            held = os.open(path, os.O_RDONLY | os.O_DIRECTORY | os.O_NOFOLLOW | os.O_CLOEXEC)
-        except OSError:
-            return
-        try:
-            if os.fstat(held).st_uid == os.getuid():
-                fcntl.flock(held, fcntl.LOCK_EX | fcntl.LOCK_NB)
-                removed(path)
-        except OSError:
-            pass
-        finally:
-            os.close(held)
-
-    def __enter__(self):
-        while True:
-            self.path = os.path.join(self.parent, self.mark + os.urandom(8).hex().encode())
-            os.mkdir(self.path, 0o700)
-            try:
-                self.held = os.open(self.path, os.O_RDONLY | os.O_DIRECTORY | os.O_CLOEXEC)
-            except FileNotFoundError:          # another one may have swept it before it was held
-                continue
-            fcntl.flock(self.held, fcntl.LOCK_EX)
-            if os.path.exists(self.path):
-                return self
-            os.close(self.held)
-
-    def __exit__(self, *_):
-        removed(self.path)
-        os.close(self.held)
-
-    def __call__(self, name):
-        return os.path.join(self.path, name)
-
-
 def parent_for(size, tried):
     """Memory where there is enough: a volume that is thrown away needs no disk. A second try goes elsewhere, if it can."""
     found = []
@@ -402,6 +359,11 @@ def program_in(room, inside):
     return b"/proc/self/fd/%d" % reader if path.startswith(b"/proc/") else path, reader
 
 
+def heard():
+    """The signals that end a step. One that whoever calls ignores, as `nohup` does, stays so."""
+    return [one for one in (signal.SIGTERM, signal.SIGINT, signal.SIGHUP) if signal.getsignal(one) != signal.SIG_IGN]
+
+
 def in_child(words, program, streams, limits, leash, mine):
     """Becomes the program. The kernel kills it when nobody holds the other end of its leash any more: the step is gone."""
     os.close(mine)
@@ -419,7 +381,7 @@ def in_child(words, program, streams, limits, leash, mine):
         hard = resource.getrlimit(what)[1]
         most = most if hard == resource.RLIM_INFINITY else min(most, hard)
         resource.setrlimit(what, (most, hard if what == resource.RLIMIT_CPU else most))
-    for one in (signal.SIGPIPE, signal.SIGXFSZ, signal.SIGTERM, signal.SIGINT, signal.SIGHUP, signal.SIGALRM):
+    for one in (signal.SIGPIPE, signal.SIGXFSZ, signal.SIGXCPU, signal.SIGALRM, *heard()):
         signal.signal(one, signal.SIG_DFL)
     os.execve(program, words, {})
 
@@ -592,6 +554,7 @@ def placed(it, result):
                     os.mkdir(os.path.join(own, path)) if inside[path] is None else write(os.path.join(own, path), inside[path])
             else:
                 write(own, inside)
+        signal.pthread_sigmask(signal.SIG_BLOCK, heard())      # from here on it is done: all outputs come to their places
         for own, host in moves:
             former = beside(host, b"old")
             for is_last in (*[False] * 99, True):      # another step may put its folder to the same place meanwhile
@@ -773,19 +736,19 @@ def step(it):
 def main():
     while os.open(os.devnull, os.O_RDWR) <= 2:                 # no file gets the number of a closed standard stream
         pass
-    for one in (signal.SIGTERM, signal.SIGINT, signal.SIGHUP):
+    signal.signal(signal.SIGCHLD, signal.SIG_DFL)              # children are waited for and the clock is heard, whatever the caller ignores or blocks
+    signal.pthread_sigmask(signal.SIG_SETMASK, ())
+    for one in heard():
         signal.signal(one, lambda number_of, _: sys.exit(128 + number_of))     # rooms go
     try:
-        if sys.argv[1:] == ["--help"]:
-            result, said = {b"stdout": __doc__.strip().encode() + b"\n"}, ""
-        else:
-            it = words_of([os.fsencode(word) for word in sys.argv[1:]])
-            result, said = step(it)
-            placed(it, result)
+        it = sys.argv[1:] != ["--help"] and words_of([os.fsencode(word) for word in sys.argv[1:]])
+        result, said = step(it) if it else ({b"stdout": __doc__.strip().encode() + b"\n"}, "")
         signal.signal(signal.SIGPIPE, signal.SIG_DFL)          # who reads no more is no failure of the machine
-        rest = b"" if sys.argv[1:] != ["--help"] and it["stdout"] else result[b"stdout"]
-        while rest:
+        rest = b"" if it and it["stdout"] else result[b"stdout"]
+        while rest:                            # before the outputs are placed: where it isn't taken nothing stands at their places
             rest = rest[os.write(1, rest):]
+        if it:
+            placed(it, result)
         status = 0
     except Refused as refused:
         status, said = 2, str(refused)

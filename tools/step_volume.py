@@ -1,7 +1,7 @@
 """Volumes by their format alone (docs/VOLUME.md): a new one that holds a tree, a copy of one with a tree put into it, and what a run
 left in one.
 
-So one process of `sandbox` does a whole step, and none formats, fills or empties its volume. And what trees of paths need besides.
+So one process of `sandbox` does a whole step, and none formats, fills or empties its volume. And what trees of paths and folders of one's own need besides.
 """
 import errno
 import fcntl
@@ -43,6 +43,55 @@ def removed(path):
             os.rmdir(one)
         except OSError:
             continue
+
+
+class Room:
+    """A folder of one's own, which goes at the end. Those of steps that were killed go first: nobody holds their lock."""
+
+    def __init__(self, parent):
+        self.mark, self.parent = b"sandbox-step.%d." % os.getuid(), parent
+        self.sweep_all(parent, self.mark)
+
+    @classmethod
+    def sweep_all(cls, parent, mark):
+        for it in os.scandir(parent):
+            if it.name.startswith(mark):
+                cls.sweep(it.path)
+
+    @staticmethod
+    def sweep(path):
+        try:
+            held = os.open(path, os.O_RDONLY | os.O_DIRECTORY | os.O_NOFOLLOW | os.O_CLOEXEC)
+        except OSError:
+            return
+        try:
+            if os.fstat(held).st_uid == os.getuid():
+                fcntl.flock(held, fcntl.LOCK_EX | fcntl.LOCK_NB)
+                removed(path)
+        except OSError:
+            pass
+        finally:
+            os.close(held)
+
+    def __enter__(self):
+        while True:
+            self.path = os.path.join(self.parent, self.mark + os.urandom(8).hex().encode())
+            os.mkdir(self.path, 0o700)
+            try:
+                self.held = os.open(self.path, os.O_RDONLY | os.O_DIRECTORY | os.O_CLOEXEC)
+            except FileNotFoundError:          # another one may have swept it before it was held
+                continue
+            fcntl.flock(self.held, fcntl.LOCK_EX)
+            if os.path.exists(self.path):
+                return self
+            os.close(self.held)
+
+    def __exit__(self, *_):
+        removed(self.path)
+        os.close(self.held)
+
+    def __call__(self, name):
+        return os.path.join(self.path, name)
 
 
 def needs(size):

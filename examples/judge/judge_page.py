@@ -14,6 +14,7 @@ KINDS = {"accepted": ("ok", "ok", "green"), "wrong answer": ("wrong", "WA", "red
          "fault": ("fault", "FA", "gray"), "too much output": ("output", "OU", "blue"), "wall clock": ("clock", "CL", "orange"),
          "too much memory": ("memory", "ME", "blue"), "module too large": ("size", "SI", "gray"), "judge error": ("judge", "JE", "gray"),
          "refused": ("refused", "RF", "gray"), "not judged": ("-", "-", "gray")}
+TEXTS = "id", "verdict", "text", "ms", "units", "pages"
 MANY = 12
 STYLE = """
 td.n { white-space: nowrap } table.grid tbody th { position: sticky; left: 0; background: var(--ground) } td.v { padding: .2rem .25rem; border-bottom: 1px solid var(--line) } .c { --k: var(--gray); display: block; min-width: 5.9rem; padding: .1rem .4rem .25rem;
@@ -96,10 +97,22 @@ def table(title, tests):
             f"<tbody>\n" + "\n".join(rows) + f"\n</tbody></table></div>\n<details><summary>Each test in numbers</summary>{inner}</details>")
 
 
+def rows_of(path):
+    """The rows of verdicts by their ids."""
+    csv.field_size_limit(1 << 24)
+    try:
+        with open(path, encoding="utf-8", newline="") as file:
+            rows = list(csv.DictReader(file))
+        if all(all(isinstance(it.get(name), str) for name in TEXTS) and all(not it[name] or int(it[name]) >= 0 for name in ("units", "pages")) for it in rows):
+            return {it["id"]: it for it in rows}
+    except (ValueError, csv.Error):
+        pass
+    raise OSError(0, "not as `judge-tests collect` writes it", path)
+
+
 def written(batch, out):
     """Writes the page of a judged batch, and gives its path."""
-    with open(os.path.join(out, "verdicts.csv"), encoding="utf-8", newline="") as file:
-        by_id = {it["id"]: it for it in csv.DictReader(file)}
+    by_id = rows_of(os.path.join(out, "verdicts.csv"))
     tests = []
     with open(batch, "rb") as file:
         for line in file:

@@ -1,4 +1,5 @@
 pub mod Allocating
+pub mod Deeds
 pub mod Living
 pub mod Confining
 pub mod Keeping

@@ -1,4 +1,5 @@
 pub mod Allocating
 pub mod WholeLives
+pub mod Deeds
 pub mod Confined
 pub mod Moments

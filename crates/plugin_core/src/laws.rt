@@ -2,13 +2,22 @@
 
 ghost use Rattle.plugin_core.specs.Allocating.{InstancesAllocate};
 ghost use Rattle.plugin_core.specs.Confined.{ConfinesLives};
+ghost use Rattle.plugin_core.specs.Deeds.{DeedsAreALife};
 ghost use Rattle.plugin_core.specs.Moments.{KeepsLives};
 
+use plugin_steps::InstanceMachine;
 use wasi_calls::VolumeHost;
+use wasm_store::Host;
 
 /// A law: the instance that a command begins with is one by allocation, whose imports the host answers all.
 pub fn instances_allocate()
     ensures { InstancesAllocate }
+{}
+
+/// A law: whatever is done from its opening on with a machine that stands for configurations of an instance is a life of it, so
+/// what holds over lives holds of that.
+pub fn deeds_are_a_life<H: Host, S: InstanceMachine>()
+    ensures { DeedsAreALife H H.calls S S.stands }
 {}
 
 /// A law: whatever is called of an instance in all its life, and whatever its embedder answers and writes, an entry that was no

@@ -3,4 +3,4 @@
 
 mod laws;
 
-pub use laws::{instances_allocate, lives_keep_moments, lives_stay_confined};
+pub use laws::{deeds_are_a_life, instances_allocate, lives_keep_moments, lives_stay_confined};

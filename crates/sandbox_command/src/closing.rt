@@ -1,15 +1,17 @@
 //! The end of a run alone: the program's own lines, its volume handed out, its report, and all that it had given up.
 
-ghost use Rattle.std.specs.Prelude.{◌≡◌, Some, false, option_and_then, option_map};
+ghost use Rattle.std.specs.Prelude.{◌≡◌, Some, IfErr, OnOk, false, option_and_then, option_map};
+ghost use Rattle.std.specs.Io.KnownBytes.{Appends};
 ghost use Rattle.std.specs.IoError.{error_kind};
 ghost use Rattle.run_report.specs.declared.end.End.TheVariants.{Ran};
 ghost use Rattle.sandbox_command.specs.declared.streams.Sink.{Sink as SinkValue};
 ghost use Rattle.run_report.specs.declared.summary.Summary.{Summary as SummaryValue};
+ghost use Rattle.sandbox_words.specs.Request.{Text};
 ghost use Rattle.wasm_steps.specs.declared.pause.Outcome.{Outcome};
 ghost use Rattle.sandbox_command.specs.Alone.{Hands, IsProfiled, IsTold, PrintsProfile, left_of, lost, unprofiled};
 ghost use Rattle.sandbox_command.specs.Beginning.{unread};
-ghost use Rattle.sandbox_command.specs.Places.{IsOfName};
-ghost use Rattle.sandbox_command.specs.Profiling.{TellsUse};
+ghost use Rattle.sandbox_command.specs.Places.{IsOfName, Prints};
+ghost use Rattle.sandbox_command.specs.Profiling.{IsProfileOf, TellsUse};
 ghost use Rattle.sandbox_command.specs.Sources.{own_of, sink_contents};
 ghost use Rattle.sandbox_command.specs.Status.{file_status};
 ghost use Rattle.sandbox_command.specs.Streams.{AppendsSome};
@@ -197,6 +199,25 @@ fn unprofiled(summary: Option<Summary>) -> Option<Summary>
     })
 }
 
+/// Prints where the fuel of a run of a module of these bytes went into its file.
+fn print_stacks<P: Places>(
+    alloc: Global,
+    places: &mut P,
+    name: &str,
+    module: &[u8],
+    fuel_use: &FuelUse,
+    file: &mut P::Output,
+) -> io::Result<()>
+    requires { P.is_output name.now file.old }
+    ensures asked { P.asked (Prints name.now) places.old places.new }
+    ensures refused { IfErr result (λ error. P.refused (Prints name.now) (error_kind error) places.old places.new) }
+    ensures printed { OnOk result ((text : Text) × IsProfileOf «module».now fuel_use.now text × P.printed name.now text places.old places.new
+        × Appends (P.Output.contents file.old) (P.Output.contents file.new) text) }
+{
+    let names = StackNames::of(alloc, module, fuel_use);
+    places.print_profile(alloc, name, file, &fuel_use.stacks, &names)
+}
+
 /// Prints where the fuel of a run of a module of these bytes went into its file, and gives how the run ended then.
 fn print_use<P: Places, W: Write>(
     alloc: Global,
@@ -214,8 +235,7 @@ fn print_use<P: Places, W: Write>(
     ensures lines { AppendsSome (W.contents err.old) (W.contents err.new) }
 {
     let mut file = file;
-    let names = StackNames::of(alloc, module, fuel_use);
-    let printed = places.print_profile(alloc, name, &mut file, &fuel_use.stacks, &names);
+    let printed = print_stacks(alloc, places, name, module, fuel_use, &mut file);
     places.end(file);
     match printed {
         Ok(()) => ending,

@@ -424,7 +424,13 @@ fn no_volume<D: Drop, R: Drop, W1: Drop, W2: Drop>(
 }
 
 /// Runs a valid module on the volume of a device, with random bytes, and gives the module and the device back.
-pub(crate) fn run_valid<'a, D: Device + Drop, R: Inlet + Drop, W1: Outlet + Drop, W2: Outlet + Drop>(
+pub(crate) fn run_valid<
+    'a,
+    D: Device + Drop,
+    R: Inlet + Drop,
+    W1: Outlet + Drop,
+    W2: Outlet + Drop,
+>(
     alloc: Global,
     run: &Run<'_>,
     runnable: Runnable<'a>,

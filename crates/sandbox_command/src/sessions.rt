@@ -232,7 +232,13 @@ fn counted_parts<'s, 't, D: Device, R, W1, W2>(
 
 /// Runs a valid module, of which nothing is prepared, with these settings on an open volume. Gives the module and the volume's device
 /// back. Where there are stacks, they get the units of the run.
-pub(crate) fn launch_bare<'a, D: Device + Drop, R: Inlet + Drop, W1: Outlet + Drop, W2: Outlet + Drop>(
+pub(crate) fn launch_bare<
+    'a,
+    D: Device + Drop,
+    R: Inlet + Drop,
+    W1: Outlet + Drop,
+    W2: Outlet + Drop,
+>(
     alloc: Global,
     run: &Run<'_>,
     valid: Valid<'a>,
@@ -267,7 +273,12 @@ pub(crate) fn launch_bare<'a, D: Device + Drop, R: Inlet + Drop, W1: Outlet + Dr
 }
 
 /// Runs a prepared module in the same way. Gives the volume's device back.
-pub(crate) fn launch_prepared<D: Device + Drop, R: Inlet + Drop, W1: Outlet + Drop, W2: Outlet + Drop>(
+pub(crate) fn launch_prepared<
+    D: Device + Drop,
+    R: Inlet + Drop,
+    W1: Outlet + Drop,
+    W2: Outlet + Drop,
+>(
     alloc: Global,
     run: &Run<'_>,
     shared: &SharedModule<'_>,

@@ -39,7 +39,11 @@ pub(crate) fn fill_up(piece: &mut Vec<u8>)
 
 /// Reads once into the piece, at most this many bytes, and says how many: none only at the reader's end. Any error of the
 /// reader counts as failure, an interruption too.
-fn read_piece<R: Inlet>(reader: &mut R, piece: &mut [u8], most: usize) -> Result<usize, ReaderFailed>
+fn read_piece<R: Inlet>(
+    reader: &mut R,
+    piece: &mut [u8],
+    most: usize,
+) -> Result<usize, ReaderFailed>
     requires room { 0 < length piece.old }
     requires some { 0 < most }
     ensures few { IfOk result (λ n. (n ≤ most) × (n ≤ length piece.old)) }
