@@ -31,5 +31,3 @@ returns-in_err-ask_place-clause-heard g c =
 
 pub returns-in-Err-clause-heard : goal.returns-in-Err-clause-heard
 returns-in-Err-clause-heard g c = unblamed (Moves g.R.Inlet.gave) g.R.Inlet.refused _ refl _ _ stays
-
-

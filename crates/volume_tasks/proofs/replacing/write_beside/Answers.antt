@@ -58,5 +58,3 @@ returns-in-Err-clause-heard g c = exactly (Moves g.R.Inlet.gave) g.R.Inlet.refus
 
 pub returns-in-Err-2-clause-heard : goal.returns-in-Err-2-clause-heard
 returns-in-Err-2-clause-heard g c = behind (Moves g.R.Inlet.gave) g.R.Inlet.refused c.in-Err-2.failure c.take_back.result c.take_back.ensures.unblamed _ _ c.in-Err-2.ensures.heard
-
-
