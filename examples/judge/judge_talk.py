@@ -53,8 +53,11 @@ class Limits:
 
 def bounded(seconds, memory):
     """What a guest's process is bound by, and that it is gone with this one."""
+    parent = os.getpid()
     def begin():
         LIBC.prctl(PR_SET_PDEATHSIG, signal.SIGKILL)
+        if os.getppid() != parent:             # it was gone before the kernel knew
+            os._exit(127)
         for what, most in ((resource.RLIMIT_AS, memory), (resource.RLIMIT_CORE, 0), (resource.RLIMIT_CPU, seconds)):
             hard = resource.getrlimit(what)[1]
             most = most if hard == resource.RLIM_INFINITY else min(most, hard)
