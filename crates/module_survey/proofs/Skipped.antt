@@ -164,10 +164,10 @@ opcode_skipped p (op.Load o m) text rest h = load_behind o (text ++ rest) ∙ tw
 opcode_skipped p (op.Store o m) text rest h = store_behind o (text ++ rest) ∙ two_skipped text rest m.align m.offset h.1
 opcode_skipped p op.MemorySize text rest h = zero_skipped text rest tt h
 opcode_skipped p op.MemoryGrow text rest h = zero_skipped text rest tt h
-opcode_skipped p op.MemoryCopy text rest (front, back, u, (zero_, zeros, p, q, parts), e) =
+opcode_skipped profile op.MemoryCopy text rest (front, back, u, (zero_, zeros, p, q, parts), e) =
     number_then (λ n. after_bulk_number n.0 n.1) 10 front back text rest u
     (λ r. then_skipped after_number after_number zero_ zeros back r (λ x. zero_skipped zero_ x tt p) (λ x. zero_skipped zeros x tt q) parts) e
-opcode_skipped p op.MemoryFill text rest (front, back, u, p, e) =
+opcode_skipped profile op.MemoryFill text rest (front, back, u, p, e) =
     number_then (λ n. after_bulk_number n.0 n.1) 11 front back text rest u (λ r. zero_skipped back r tt p) e
 opcode_skipped p (op.I32Const n) text rest h = number_skipped Signed 32 n text rest h
 opcode_skipped p (op.I64Const n) text rest h = number_skipped Signed 64 n text rest h
