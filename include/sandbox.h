@@ -204,11 +204,21 @@ uint32_t sandbox_open(sandbox_session **session, const uint8_t *module, size_t m
 /* Decodes and validates a module once, for many sessions one after another. The bytes are kept. */
 uint32_t sandbox_load(sandbox_module **module, const uint8_t *bytes, size_t length, sandbox_why *why);
 
+/* The same; where `floats` isn't 0, the module may have types, constants and instructions of floating point, which are fault 10
+ * else. Its sessions compute as IEEE 754 says where the thread's floating-point mode is the one in which Linux starts a process:
+ * to nearest, with subnormal numbers. A host that is linked with -ffast-math, or calls fesetround, has another one, and what floats
+ * are then is not said. */
+uint32_t sandbox_load_with(sandbox_module **module, const uint8_t *bytes, size_t length, uint32_t floats, sandbox_why *why);
+
 /* sandbox_load, and makes all once that sessions of the module look up, so that each opens in the time of its memory, however
  * large the module is. Its sessions have the pages of these limits, which are borrowed; else sandbox_open_loaded is 15. It is
  * instantiated once to that end. Refused, in this order: MISUSE; the module's fault, in *why; 15 where `later` isn't 0, or for more
  * than 65,536 pages; 13, 14, 20, 21, 22; OUT_OF_MEMORY at any of them. */
 uint32_t sandbox_prepare(sandbox_module **module, const uint8_t *bytes, size_t length, const sandbox_limits *limits, sandbox_why *why);
+
+/* The same of a module that sandbox_load_with loads. */
+uint32_t sandbox_prepare_with(sandbox_module **module, const uint8_t *bytes, size_t length, const sandbox_limits *limits, uint32_t floats,
+                              sandbox_why *why);
 
 /* Makes *other the same prepared module: nothing is decoded or made again. Each of both goes into a session and is unloaded for
  * itself, in any order, and may go to a thread of its own; so any number of sessions at once are of one module:

@@ -20,6 +20,7 @@ The run (as `sandbox run` has them):
   --values N             values on its stack (134217728)
   --moment N             what its clock says, in nanoseconds since 1970 (0)
   --seed N               random bytes, the same for the same N (none)
+  --floats               the guest may have floats
   --exit N               an exit that is well too, beside 0; may come again: the report has it
 
 Bounds:
@@ -61,7 +62,7 @@ from step_volume import MOST_FILE, MOST_SLOTS, SECTOR, Image, Left, Room, has_pa
 
 VERSION = b"2"                                 # of what a key says: another one, other keys
 ROOTS = (b"in", b"out", b"tmp")                # what the guest has
-LISTS, TEXTS, FLAGS = ("in", "out", "out-dir", "env", "exit"), ("image", "stdin", "stdout", "report", "keep", "sandbox"), ("links", "again")
+LISTS, TEXTS, FLAGS = ("in", "out", "out-dir", "env", "exit"), ("image", "stdin", "stdout", "report", "keep", "sandbox"), ("links", "again", "floats")
 U64 = (1 << 64) - 1
 # option: what it is without it, the least and the most
 NUMBERS = {"fuel": (1_000_000_000, 0, U64), "pages": (1_024, 0, 65_536), "values": (None, 0, U64), "moment": (None, 0, U64), "seed": (None, 0, U64),
@@ -431,6 +432,7 @@ def run(it, program, path_of_module, room, sectors, stdin):
     words = [b"sandbox", b"run", b"--volume", room(b"volume"), b"--report", room(b"report"), b"--name", b"module.wasm"]
     for name in ("fuel", "pages", "values", "moment", "seed"):
         words += [b"--" + name.encode(), b"%d" % it[name]] if it[name] is not None else []
+    words += [b"--floats"] if it["floats"] else []
     words += [word for text in it["env"] for word in (b"--env", text)]
     words += [word for name in ROOTS for word in (b"--dir", b"/%s=/%s" % (name, name))]        # no guest can remove what is open
     words += [b"--dir", b"/image=/"] if it["image"] else []
@@ -680,6 +682,7 @@ def key_of(it, program, module, stdin, tree, sectors, slots):
     parts = [VERSION, sha(program), sha(module), sha(stdin), b"%d %d" % (sectors, slots)]
     for name in ("fuel", "pages", "values", "moment", "seed", "output", "memory"):
         parts.append(b"-" if it[name] is None else b"%d" % it[name])
+    parts += [b"floats"] if it["floats"] else []
     parts += [b"image", it["image"].digest()] if it["image"] else []
     for some in (it["words"], it["env"], [b"%d" % one for one in sorted(set(it["exit"]))], *(sorted(path for path, _ in it[name]) for name in ("out", "out-dir"))):
         parts += [b"%d" % len(some), *some]

@@ -18,7 +18,7 @@ sys.path.insert(0, f"{TOP}/tools")
 
 TRAPS = (
     "unreachable|integer divide by zero|integer overflow|out of bounds memory access|undefined element|uninitialized element|"
-    "indirect call type mismatch|call stack exhausted"
+    "indirect call type mismatch|call stack exhausted|invalid conversion to integer"
 )
 STREAMS = (
     "no tar header|wrong checksum|its size is no number|it has 4 GiB or more|it is a (link|device|pipe)|its type is not known|"

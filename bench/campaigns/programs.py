@@ -12,7 +12,7 @@ import subprocess
 import wasm_binary
 from common import Wrong, answer
 from damage import own_path
-from wasm_binary import I32, I64, Body, Module
+from wasm_binary import F32, F64, I32, I64, Body, Module
 
 BINARY = {I32: list(range(0x6A, 0x79)), I64: list(range(0x7C, 0x8B))}
 COMPARE = {I32: list(range(0x46, 0x50)), I64: list(range(0x51, 0x5B))}
@@ -20,7 +20,7 @@ UNARY = {I32: [0x67, 0x68, 0x69, 0xC0, 0xC1], I64: [0x79, 0x7A, 0x7B, 0xC2, 0xC3
 LOADS = {I32: [(0x28, 2), (0x2C, 0), (0x2D, 0), (0x2E, 1), (0x2F, 1)]}
 LOADS[I64] = [(0x29, 3), (0x30, 0), (0x31, 0), (0x32, 1), (0x33, 1), (0x34, 2), (0x35, 2)]
 STORES = {I32: [(0x36, 2), (0x3A, 0), (0x3B, 1)], I64: [(0x37, 3), (0x3C, 0), (0x3D, 1), (0x3E, 2)]}
-CONST = {I32: 0x41, I64: 0x42}
+CONST = {I32: 0x41, I64: 0x42, F32: 0x43, F64: 0x44}
 EMPTY = -0x40
 BLOCK, LOOP, IF, ELSE, END, BR, BR_IF, BR_TABLE, RETURN = 0x02, 0x03, 0x04, 0x05, 0x0B, 0x0C, 0x0D, 0x0E, 0x0F
 EDGES = [0, 1, 2, 7, 31, 32, 63, 64, 255, 65_535, 65_536, 2**31 - 1, 2**31, 2**32 - 1, 2**63 - 1, 2**63, 2**64 - 1]
@@ -32,9 +32,12 @@ OUT, VALUE = 60_000, 60_016
 class Writer:
     """Writes one function: `chance` draws, `calls` are the functions it may call with their types."""
 
+    # the types of its values and of the globals, and what the run needs
+    kinds, held, options = VALUES, GLOBALS, ()
+
     def __init__(self, chance, types, takes, gives, calls, table):
         self.chance, self.types, self.gives, self.calls, self.table = chance, types, gives, calls, table
-        self.locals = list(takes) + [chance.choice(VALUES) for _ in range(chance.randrange(6))]
+        self.locals = list(takes) + [chance.choice(self.kinds) for _ in range(chance.randrange(6))]
         self.takes, self.labels, self.counters, self.loops = len(takes), [], [], 0
 
     def constant(self, kind, _=0):
@@ -66,7 +69,7 @@ class Writer:
         return [(0x20, (self.chance.choice(fitting),))] if fitting else self.constant(kind)
 
     def global_value(self, kind, _=0):
-        return [(0x23, (self.chance.choice([k for k, it in enumerate(GLOBALS) if it == kind]),))]
+        return [(0x23, (self.chance.choice([k for k, it in enumerate(self.held) if it == kind]),))]
 
     def binary(self, kind, depth):
         op = self.chance.choice(BINARY[kind])
@@ -155,8 +158,8 @@ class Writer:
         return self.value(self.locals[k], depth) + [(0x21, (k,))]
 
     def set_global(self, depth):
-        k = self.chance.randrange(len(GLOBALS))
-        return self.value(GLOBALS[k], depth) + [(0x24, (k,))]
+        k = self.chance.randrange(len(self.held))
+        return self.value(self.held[k], depth) + [(0x24, (k,))]
 
     def stored(self, depth):
         kind = self.chance.choice(VALUES)
@@ -164,7 +167,7 @@ class Writer:
         return self.address(depth) + self.value(kind, depth) + [(op, (self.chance.randrange(most + 1), self.offset()))]
 
     def dropped(self, depth):
-        return self.value(self.chance.choice(VALUES), depth) + [(0x1A, ())]
+        return self.value(self.chance.choice(self.kinds), depth) + [(0x1A, ())]
 
     def if_else(self, depth):
         self.labels.append(EMPTY)
@@ -174,7 +177,7 @@ class Writer:
         return self.value(I32, depth) + [(IF, (EMPTY,))] + then + other + [(END, ())]
 
     def loop(self, depth):
-        if len(self.counters) > 2:
+        if sum(self.locals[k] == I32 for k in self.counters) > 2:
             return self.stored(depth)
         counter = len(self.locals)
         self.locals.append(I32)
@@ -231,7 +234,17 @@ class Writer:
         return Body([(1, it) for it in self.locals[self.takes :]], code + [(END, ())])
 
 
-def made(seed):
+def as_number(k, kind):
+    """A global's value as an i64."""
+    return [(0x23, (k,))] + {I32: [(0xAD, ())], I64: [], F32: [(0xBC, ()), (0xAD, ())], F64: [(0xBD, ())]}[kind]
+
+
+def first(kind, number):
+    """A constant of the kind, and the end behind it."""
+    return [(CONST[kind], (number if kind in VALUES else abs(number),)), (END, ())]
+
+
+def made(seed, writer=Writer):
     """A module of the seed."""
     chance = random.Random(seed)
     module = Module(wasm_binary.MAGIC)
@@ -239,16 +252,16 @@ def made(seed):
     module.imports = [(b"wasi_snapshot_preview1", b"fd_write", 0, 0)]
     calls, table = [], []
     for index in range(1, chance.randrange(2, 7)):
-        kind = ([chance.choice(VALUES) for _ in range(chance.randrange(4))], [chance.choice(VALUES)])
+        kind = ([chance.choice(writer.kinds) for _ in range(chance.randrange(4))], [chance.choice(writer.kinds)])
         if kind not in module.types:
             module.types.append(kind)
         module.functions.append(module.types.index(kind))
-        module.bodies.append(Writer(chance, module.types, *kind, calls, table).body(4))
+        module.bodies.append(writer(chance, module.types, *kind, calls, table).body(4))
         calls.append((index, *kind))
         table.append((len(table), kind))
-    start = Writer(chance, module.types, [], [], calls, table)
+    start = writer(chance, module.types, [], [], calls, table)
     body = start.body(5)
-    last = [it for k, kind in enumerate(GLOBALS) for it in [(0x23, (k,))] + ([(0xAD, ())] if kind == I32 else [])]
+    last = [it for k, kind in enumerate(writer.held) for it in as_number(k, kind)]
     mix = [(0x42, (0,))] + [it for k in range(0, len(last)) for it in [last[k]] + ([(0x85, ()), (0x42, (13,)), (0x89, ())] if ends(last, k) else [])]
     mix += [it for at in range(0, 800, 8) for it in ((0x41, (at,)), (0x29, (0, 0)), (0x7C, ()), (0x42, (7,)), (0x89, ()))]
     store = [(0x41, (VALUE,))] + mix + [(0x37, (0, 0)), (0x41, (1,)), (0x41, (OUT,)), (0x41, (1,)), (0x41, (OUT + 8,)), (0x10, (0,)), (0x1A, ())]
@@ -257,7 +270,7 @@ def made(seed):
     module.functions.append(1)
     module.bodies.append(body)
     module.memories, module.tables = [(1, 3)], [(10, 10)]
-    module.globals = [(kind, 1, [(CONST[kind], (chance.choice((0, 1, -1, 1000)),)), (END, ())]) for kind in GLOBALS]
+    module.globals = [(kind, 1, first(kind, chance.choice((0, 1, -1, 1000)))) for kind in writer.held]
     module.elements = [([(0x41, (0,)), (END, ())], [it[0] for it in calls])]
     module.datas = [([(0x41, (OUT,)), (END, ())], VALUE.to_bytes(4, "little") + (8).to_bytes(4, "little"))]
     module.exports = [(b"memory", 2, 0), (b"_start", 0, len(calls) + 1)]
@@ -321,20 +334,20 @@ def trap_text(text):
     return names.get(text, text)
 
 
-def tried(setting, seed):
+def tried(setting, seed, writer=Writer):
     """How the program of this seed ends, the same in both."""
-    module = made(seed)
+    module = made(seed, writer)
     path, other = own_path(setting, "program.wasm"), own_path(setting, "counting.wasm")
     with open(path, "wb") as it:
         it.write(module.bytes())
     try:
         trap, value, units = counted(other, module)
         trap = trap_text(trap)
-        status, out, said = answer(setting, ["run", "--pages", "16", "--fuel", str(units), path], seconds=20)
+        status, out, said = answer(setting, ["run", *writer.options, "--pages", "16", "--fuel", str(units), path], seconds=20)
         wanted = (120, b"", f"sandbox: trap: {trap}\n") if trap else (0, value.to_bytes(8, "little"), "")
         if (status, out, said) != wanted:
             raise Wrong(f"{(status, out, said)} with {units} units, wasm-interp {wanted}")
-        less = answer(setting, ["run", "--pages", "16", "--fuel", str(units - 1), path], seconds=20)
+        less = answer(setting, ["run", *writer.options, "--pages", "16", "--fuel", str(units - 1), path], seconds=20)
         if less[0] != 121:
             raise Wrong(f"{less} with {units - 1} units of {units}")
     except Wrong as wrong:
@@ -342,11 +355,11 @@ def tried(setting, seed):
     return trap or "ended", units
 
 
-def side_by_side(setting):
+def side_by_side(setting, writer=Writer, count=10_000):
     """Random programs with exactly their units and with one less."""
-    count = 300 if setting.is_quick else 10_000
+    count = 300 if setting.is_quick else count
     ends_of, units = collections.Counter(), 0
-    for end, used in setting.each(lambda k: tried(setting, setting.seed * 1_000_000 + k), range(count)):
+    for end, used in setting.each(lambda k: tried(setting, setting.seed * 1_000_000 + k, writer), range(count)):
         ends_of[end] += 1
         units += used
     return count, f"{units:,} units; " + ", ".join(f"{name} {times}" for name, times in ends_of.most_common())

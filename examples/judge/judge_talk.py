@@ -218,7 +218,8 @@ def tried(program, test, limits, room):
             files[name] = file.read()
     image(program, files, room)
     check, guests = test["check"], []
-    own = [program, "--fuel", str(test["fuel"]), "--pages", str(test["pages"]), "--output", "8388608", f"base/{test['module']}"]
+    floats = ["--floats"] if test.get("floats") else []
+    own = [program, *floats, "--fuel", str(test["fuel"]), "--pages", str(test["pages"]), "--output", "8388608", f"base/{test['module']}"]
     others = [program, *VALIDATOR, "--image", "volume", f"base/{check['programs'][0]}", "--", "/in/input", "/in/answer", "/out/", *check.get("words", [])]
     try:
         guests.append(Guest("submission", own, room, bounded(limits.seconds(test), limits.memory)))

@@ -59,6 +59,7 @@ traps = (0, codes "unreachable")
     ∷ (5, codes "uninitialized element")
     ∷ (6, codes "indirect call type mismatch")
     ∷ (7, codes "call stack exhausted")
+    ∷ (8, codes "invalid conversion to integer")
     ∷ []
 
 -- the errnos of WASI preview 1

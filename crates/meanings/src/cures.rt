@@ -21,7 +21,7 @@ pub static FAULT_CURES: [Meaning; 25] = cures! {
     7 "mostly a later feature, so build for -mcpu=mvp, or try tools/soften"
     8 "the file is damaged, or its tool is at fault"
     9 "the file is damaged, or its tool is at fault"
-    10 "tools/soften makes it integers"
+    10 "--floats takes it, or tools/soften makes it integers"
     11 "docs/USING.md has them"
     12 "its tool is at fault, and wasm-validate says why"
     13 "link functions of wasi_snapshot_preview1 alone"

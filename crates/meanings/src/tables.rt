@@ -76,6 +76,7 @@ macro_rules! traps {
                 5 "uninitialized element"
                 6 "indirect call type mismatch"
                 7 "call stack exhausted"
+                8 "invalid conversion to integer"
             }
             $($more)*
         }
@@ -145,7 +146,7 @@ macro_rules! table {
 pub static FAULTS: [Meaning; 30] = faults!(table);
 
 /// All traps.
-pub static TRAPS: [Meaning; 8] = traps!(table);
+pub static TRAPS: [Meaning; 9] = traps!(table);
 
 /// All errnos that a call answers.
 pub static ERRNOS: [Meaning; 22] = errnos!(table);

@@ -3,6 +3,7 @@ use Rattle.std.proofs.Common.{◌≡◌, ℕ, zero, suc, ◌+◌, ◌-◌, ◌<�
 use Rattle.std.specs.Prelude.{IfSome, get_or, slice_get, slice_set}
 use Rattle.std.proofs.lemmas.List.{drop_at, length-take-le}
 use Rattle.std.proofs.lemmas.Option.{slice_get-get_or}
+use Rattle.wasm_module.specs.declared.profile.Profile.{Profile}
 use Rattle.wasm_module.specs.declared.module.Body.{Body}
 use Rattle.wasm_valid.specs.Offsets.{StandsBehind}
 use Rattle.wasm_module.proofs.Laws.{some_is}
@@ -24,24 +25,24 @@ places_at most (suc n) zero place text has = sym (some_is _ _ has)
 places_at most (suc n) (suc index) place text has = places_at most n index place (after_instruction text) has
 
 -- behind the locals of a body and its first instructions comes the rest of it
-rest_of_body : (b : Body) (index : ℕ) (before rest : List ℕ) → index ≤ length b.code → (k : StandsBehind b index before) → after_instructions index (after_locals (b.bytes ++ rest)) ≡ k.after ++ rest
-rest_of_body b index before rest within k =
+rest_of_body : (p : Profile) (b : Body) (index : ℕ) (before rest : List ℕ) → index ≤ length b.code → (k : StandsBehind p b index before) → after_instructions index (after_locals (b.bytes ++ rest)) ≡ k.after ++ rest
+rest_of_body p b index before rest within k =
     let parts : b.bytes ++ rest ≡ k.locals ++ (k.instructions ++ (k.after ++ rest)) =
     ap (λ z. z ++ rest) (k.bytes ∙ ap (λ z. z ++ k.after) k.before_is) ∙ append_assoc (k.locals ++ k.instructions) k.after rest ∙ append_assoc k.locals k.instructions (k.after ++ rest) in
     ap (λ z. after_instructions index (after_locals z)) parts
-    ∙ ap (after_instructions index) (locals_skipped b.locals k.locals (k.instructions ++ (k.after ++ rest)) k.spells_locals)
+    ∙ ap (after_instructions index) (locals_skipped p b.locals k.locals (k.instructions ++ (k.after ++ rest)) k.spells_locals)
     ∙ ap (λ n. after_instructions n (k.instructions ++ (k.after ++ rest))) (sym (length-take-le index b.code within))
-    ∙ instructions_skipped (take index b.code) k.instructions (k.after ++ rest) k.spells_instructions
+    ∙ instructions_skipped p (take index b.code) k.instructions (k.after ++ rest) k.spells_instructions
 
 -- the table that is made from where a function's entry begins
 pub are_places : (bytes : List ℕ) (own start count : ℕ) → ((content behind : List ℕ) → own_entry bytes own ≡ Some (content, behind) → Some start ≡ Some (length bytes - length behind - length content))
     → ArePlaces bytes own (places_from (length bytes) count (after_locals (drop start bytes)))
-are_places bytes own start count begins index place b behind before has entry within k =
+are_places bytes own start count begins p index place b behind before has entry within k =
     let ends = own_ends bytes own b.bytes behind entry in
     let sum : length bytes ≡ length ends.0 + (length b.bytes + length behind) = ap length ends.1 ∙ length-append ends.0 (b.bytes ++ behind) ∙ ap (λ n. length ends.0 + n) (length-append b.bytes behind) in
     let front : length ends.0 ≡ start = omega (arith, sum, some_is _ _ (begins b.bytes behind entry)) in
     let text : drop start bytes ≡ b.bytes ++ behind = ap (drop start) ends.1 ∙ drop_at ends.0 (b.bytes ++ behind) start front in
-    let left : after_instructions index (after_locals (drop start bytes)) ≡ k.after ++ behind = ap (λ z. after_instructions index (after_locals z)) text ∙ rest_of_body b index before behind within k in
+    let left : after_instructions index (after_locals (drop start bytes)) ≡ k.after ++ behind = ap (λ z. after_instructions index (after_locals z)) text ∙ rest_of_body p b index before behind within k in
     omega (arith, sum, places_at (length bytes) count index place (after_locals (drop start bytes)) has, ap length left, length-append k.after behind, ap length k.bytes, length-append before k.after)
 
 -- what a table has of an instruction of a body
@@ -55,7 +56,7 @@ instruction_placed bytes own places index place b behind are has within entry =
       behind = behind;
       entry = entry;
       parts = ends.1;
-      offset_is = λ before k. omega (arith, sum, are index place b behind before has entry within k);
+      offset_is = λ p before k. omega (arith, sum, are p index place b behind before has entry within k);
     }
 
 -- what `get` finds
@@ -68,8 +69,8 @@ some_holds P (Some y) x h e = subst P (some_is y x e) h
 
 -- a table that has nothing says nothing
 pub none_yet : (bytes : List ℕ) (own : ℕ) (places : List ℕ) → places ≡ [] → ArePlaces bytes own places
-none_yet bytes own [] e index place b behind before has entry within k = cc
-none_yet bytes own (x ∷ places) e index place b behind before has entry within k = cc
+none_yet bytes own [] e p index place b behind before has entry within k = cc
+none_yet bytes own (x ∷ places) e p index place b behind before has entry within k = cc
 
 -- ---- lists of tables
 

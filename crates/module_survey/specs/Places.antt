@@ -6,9 +6,10 @@ use Rattle.std.specs.List.{filter_map}
 use Rattle.std.specs.Option.{option_map_or}
 use Rattle.wasm_module.specs.declared.module.Body.{Body}
 use Rattle.wasm_module.specs.declared.module.Module.{Module}
-use Rattle.wasm_module.specs.Module.{Spells}
+use Rattle.wasm_module.specs.Module.{SpellsWith}
 use Rattle.wasm_module.specs.Reading.{◌>>=◌, next_at, u32_at, sized_at, raw_of}
 use Rattle.wasm_valid.specs.Validity.{kinds_of, imported_function}
+use Rattle.wasm_module.specs.declared.profile.Profile.{Profile}
 use Rattle.wasm_valid.specs.Offsets.{StandsBehind}
 use Rattle.module_survey.specs.declared.sections.Wanted.{Wanted}
 use Rattle.module_survey.specs.declared.sections.Wanted.TheVariants.{Code, AfterImports, Names, FunctionNames, Exports}
@@ -78,7 +79,7 @@ pub record IsInstructionAt (bytes : List ℕ) (own : ℕ) (b : Body) (index offs
   pub behind : List ℕ
   pub entry : own_entry bytes own ≡ Some (b.bytes, behind)
   pub parts : bytes ≡ front ++ (b.bytes ++ behind)
-  pub offset_is : (before : List ℕ) → StandsBehind b index before → offset ≡ length front + length before
+  pub offset_is : (p : Profile) (before : List ℕ) → StandsBehind p b index before → offset ≡ length front + length before
 
 -- the bytes up to the end of the imports, which are a module by themselves where they are read
 abbrev pub up_to_imports : List ℕ → List ℕ
@@ -89,9 +90,9 @@ imported_functions m = length (filter_map imported_function (kinds_of m.imports)
 
 -- The function that holds the byte at this offset, counted as the standard does, the imported ones first; or there is none,
 -- or its imports can't be read.
-abbrev pub IsFunctionAt : List ℕ → ℕ → Option ℕ → Type 0
-IsFunctionAt bytes offset (Some f) = (m : Module) × Spells (up_to_imports bytes) m × (k : ℕ) × (own_function_at bytes offset ≡ Some k) × (f ≡ imported_functions m + k)
-IsFunctionAt bytes offset None = (m : Module) → Spells (up_to_imports bytes) m → own_function_at bytes offset ≡ None
+abbrev pub IsFunctionAt : Profile → List ℕ → ℕ → Option ℕ → Type 0
+IsFunctionAt p bytes offset (Some f) = (m : Module) × SpellsWith p (up_to_imports bytes) m × (k : ℕ) × (own_function_at bytes offset ≡ Some k) × (f ≡ imported_functions m + k)
+IsFunctionAt p bytes offset None = (m : Module) → SpellsWith p (up_to_imports bytes) m → own_function_at bytes offset ≡ None
 
 -- ---- names
 

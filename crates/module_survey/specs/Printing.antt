@@ -5,6 +5,7 @@ use Rattle.std.specs.declared.io.ErrorKind.{ErrorKind}
 use Rattle.std.specs.declared.io.ErrorKind.TheVariants.{OutOfMemory}
 use Rattle.std.specs.Io.KnownBytes.{Appends, Keeps}
 use Rattle.wasm_module.specs.declared.fault.LoadFault.{LoadFault}
+use Rattle.wasm_module.specs.declared.profile.Profile.{Profile}
 use Rattle.wasm_store.specs.Instantiation.{LinksOf}
 use Rattle.module_survey.specs.Refusal.{IsSurvey}
 
@@ -16,10 +17,10 @@ pub record AppendsPart (before after : Option (List ℕ)) (text : List ℕ) : Ty
   pub appended : Appends before after part
 
 -- all that is told of the bytes was printed
-abbrev pub Tells : LinksOf → List ℕ → Option (List ℕ) → Option (List ℕ) → Result (Unit {0}) LoadFault → Type 0
-Tells links bytes before after outcome = (text : List ℕ) × IsSurvey links bytes outcome text × Appends before after text
+abbrev pub Tells : LinksOf → Profile → List ℕ → Option (List ℕ) → Option (List ℕ) → Result (Unit {0}) LoadFault → Type 0
+Tells links p bytes before after outcome = (text : List ℕ) × IsSurvey links p bytes outcome text × Appends before after text
 
 -- memory was refused, and nothing was printed; or a beginning of what is told was
-abbrev pub PrintsBeginning : LinksOf → List ℕ → Option (List ℕ) → Option (List ℕ) → ErrorKind → Type 0
-PrintsBeginning links bytes before after kind = ((kind ≡ OutOfMemory) × Keeps before after)
-    ⊎ ((outcome : Result (Unit {0}) LoadFault) × (text : List ℕ) × IsSurvey links bytes outcome text × AppendsPart before after text)
+abbrev pub PrintsBeginning : LinksOf → Profile → List ℕ → Option (List ℕ) → Option (List ℕ) → ErrorKind → Type 0
+PrintsBeginning links p bytes before after kind = ((kind ≡ OutOfMemory) × Keeps before after)
+    ⊎ ((outcome : Result (Unit {0}) LoadFault) × (text : List ℕ) × IsSurvey links p bytes outcome text × AppendsPart before after text)

@@ -7,7 +7,8 @@ use Rattle.std.specs.Option.{option_map_or}
 use Rattle.wasm_module.specs.declared.fault.LoadFault.{LoadFault}
 use Rattle.wasm_module.specs.declared.fault.LoadFault.TheVariants.{Memory}
 use Rattle.wasm_module.specs.declared.module.Module.{Module}
-use Rattle.wasm_module.specs.Module.{Spells}
+use Rattle.wasm_module.specs.declared.profile.Profile.{Profile}
+use Rattle.wasm_module.specs.Module.{SpellsWith}
 use Rattle.wasm_valid.specs.Validity.{IsValid}
 use Rattle.wasm_valid.specs.Refusal.{IsRefusal}
 use Rattle.wasm_store.specs.Instantiation.{LinksOf}
@@ -33,17 +34,17 @@ abbrev pub refusal_text : List ℕ → LoadFault → Option ℕ → SurveyText
 refusal_text bytes fault f = fault_lines fault f ++ (name_text (name_of bytes f) ++ codes "\n")
 
 -- The bytes spell no valid module; with a fault of decoding they spell none at all.
-pub record IsRefusedFor (bytes : List ℕ) (fault : LoadFault) : Type 0 where
+pub record IsRefusedFor (p : Profile) (bytes : List ℕ) (fault : LoadFault) : Type 0 where
   pub fault_is : fault ≢ Memory
-  pub not_valid : (m : Module) → Spells bytes m → IsValid m → ⊥
-  pub spells_none : ¬ IsRefusal fault → (m : Module) → Spells bytes m → ⊥
+  pub not_valid : (m : Module) → SpellsWith p bytes m → IsValid m → ⊥
+  pub spells_none : ¬ IsRefusal fault → (m : Module) → SpellsWith p bytes m → ⊥
 
 -- the function that a fault lies in, where it has an offset
-abbrev pub LiesIn : List ℕ → Option ℕ → Option ℕ → Type 0
-LiesIn bytes None f = f ≡ None
-LiesIn bytes (Some offset) f = IsFunctionAt bytes offset f
+abbrev pub LiesIn : Profile → List ℕ → Option ℕ → Option ℕ → Type 0
+LiesIn p bytes None f = f ≡ None
+LiesIn p bytes (Some offset) f = IsFunctionAt p bytes offset f
 
 -- what is told of bytes: of a valid module what it is, else why they are refused
-abbrev pub IsSurvey : LinksOf → List ℕ → Result (Unit {0}) LoadFault → SurveyText → Type 0
-IsSurvey links bytes (Ok u) text = (m : Module) × Spells bytes m × IsValid m × (text ≡ survey_of links m)
-IsSurvey links bytes (Err fault) text = IsRefusedFor bytes fault × (f : Option ℕ) × LiesIn bytes (load_offset fault) f × (text ≡ refusal_text bytes fault f)
+abbrev pub IsSurvey : LinksOf → Profile → List ℕ → Result (Unit {0}) LoadFault → SurveyText → Type 0
+IsSurvey links p bytes (Ok u) text = (m : Module) × SpellsWith p bytes m × IsValid m × (text ≡ survey_of links m)
+IsSurvey links p bytes (Err fault) text = IsRefusedFor p bytes fault × (f : Option ℕ) × LiesIn p bytes (load_offset fault) f × (text ≡ refusal_text bytes fault f)

@@ -11,7 +11,7 @@ use crate::words::add_name;
 use std::alloc::Global;
 use std::io;
 use std::io::Write;
-use wasm_module::{FuncType, Import, ImportKind, Module};
+use wasm_module::{FuncType, Import, ImportKind, Module, Profile};
 
 /// Adds a function by its index and its name, where it has one.
 fn add_function(text: &mut Vec<u8>, bytes: &[u8], index: u64) -> io::Result<()>
@@ -32,12 +32,13 @@ pub fn add_function_at(
     alloc: Global,
     text: &mut Vec<u8>,
     bytes: &[u8],
+    profile: Profile,
     offset: u32,
 ) -> io::Result<bool>
-    ensures { IfOk result (λ found. (f : Option ℕ) × IsFunctionAt bytes.now offset f × (found ≡ is_some f)
+    ensures { IfOk result (λ found. (f : Option ℕ) × IsFunctionAt profile bytes.now offset f × (found ≡ is_some f)
         × (text.new.items ≡ text.old.items ++ option_map_or (function_text bytes.now) f [])) }
 {
-    match function_at(alloc, bytes, offset)? {
+    match function_at(alloc, bytes, profile, offset)? {
         Some(index) => {
             add_function(text, bytes, index)?;
             Ok(true)

@@ -4,7 +4,8 @@ ghost use Rattle.std.specs.Prelude.{◌≡◌, List, ℕ, IfOk, IfSome, IfNone, 
 ghost use Rattle.std.specs.Option.{option_map};
 ghost use Rattle.wasm_module.specs.declared.module.Body.{Body as BodyValue};
 ghost use Rattle.wasm_module.specs.declared.module.Module.{Module as ModuleValue};
-ghost use Rattle.wasm_module.specs.Module.{Spells};
+ghost use Rattle.wasm_module.specs.Module.{SpellsWith};
+ghost use Rattle.wasm_module.specs.declared.profile.Profile.{Profile as ProfileValue};
 ghost use Rattle.wasm_valid.specs.Offsets.{StandsBehind};
 ghost use Rattle.module_survey.specs.Places.{function_name, holding_entry, IsFunctionAt, IsInstructionAt, name_among, nth_entry, own_entry, own_function_at, up_to_imports};
 ghost use Rattle.module_survey.specs.internal.Counting.{IsCountedAfter};
@@ -13,7 +14,7 @@ use crate::sections::{Wanted, find, module_section, number, sized};
 use std::alloc::Global;
 use std::io;
 use std::io::{Error, ErrorKind};
-use wasm_module::{Body, LoadFault, decode};
+use wasm_module::{Body, LoadFault, Profile, decode_with};
 use wasm_valid::{imported_functions, instruction_place};
 
 /// The entry of the code section that holds a byte, with so many bytes from it to the entries' end.
@@ -83,8 +84,8 @@ pub fn instruction_offset(bytes: &[u8], own: usize, body: &Body<'_>, index: usiz
 /// A law: in the bytes of a module the body of each of its own functions stands in the entry of that function, and each of
 /// its instructions behind the locals and the instructions before it.
 pub fn instructions_stand_in_the_bytes()
-    ensures { (bytes : List ℕ) (m : ModuleValue) (own : ℕ) (b : BodyValue) (index : ℕ) → Spells bytes m → slice_get m.bodies own ≡ Some b
-        → (behind : List ℕ) × (own_entry bytes own ≡ Some (b.bytes, behind)) × (before : List ℕ) × StandsBehind b index before }
+    ensures { (p : ProfileValue) (bytes : List ℕ) (m : ModuleValue) (own : ℕ) (b : BodyValue) (index : ℕ) → SpellsWith p bytes m → slice_get m.bodies own ≡ Some b
+        → (behind : List ℕ) × (own_entry bytes own ≡ Some (b.bytes, behind)) × (before : List ℕ) × StandsBehind p b index before }
 {}
 
 /// The bytes up to the end of the imports.
@@ -99,10 +100,15 @@ fn up_to_imports(bytes: &[u8]) -> &[u8]
 
 /// The index of a module's own function, where the bytes, which end with the imports, are read as a module: the imported
 /// functions are counted first.
-fn counted_after_imports(alloc: Global, bytes: &[u8], own: u32) -> io::Result<Option<u64>>
-    ensures { IfOk result (IsCountedAfter bytes.now own) }
+fn counted_after_imports(
+    alloc: Global,
+    bytes: &[u8],
+    profile: Profile,
+    own: u32,
+) -> io::Result<Option<u64>>
+    ensures { IfOk result (IsCountedAfter profile bytes.now own) }
 {
-    match decode(alloc, bytes) {
+    match decode_with(alloc, bytes, profile) {
         Ok(module) => {
             let imported = imported_functions(alloc, module.imports.as_slice());
             drop(module); // by the call, since each end of the scope spells it out
@@ -117,11 +123,16 @@ fn counted_after_imports(alloc: Global, bytes: &[u8], own: u32) -> io::Result<Op
 
 /// The function that holds the byte at this offset, the imported ones counted first; none where there is none, or its
 /// imports can't be read.
-pub(crate) fn function_at(alloc: Global, bytes: &[u8], offset: u32) -> io::Result<Option<u64>>
-    ensures { IfOk result (IsFunctionAt bytes.now offset) }
+pub(crate) fn function_at(
+    alloc: Global,
+    bytes: &[u8],
+    profile: Profile,
+    offset: u32,
+) -> io::Result<Option<u64>>
+    ensures { IfOk result (IsFunctionAt profile bytes.now offset) }
 {
     match own_function_at(bytes, offset) {
-        Some(own) => counted_after_imports(alloc, up_to_imports(bytes), own),
+        Some(own) => counted_after_imports(alloc, up_to_imports(bytes), profile, own),
         None => Ok(None),
     }
 }

@@ -10,7 +10,7 @@ use run_report::Fault;
 use std::alloc::Global;
 use std::io;
 use std::io::Write;
-use wasm_module::LoadFault;
+use wasm_module::{LoadFault, Profile};
 
 /// The function's name, where there is a function and it has one.
 fn name_of(bytes: &[u8], function: Option<u64>) -> &[u8]
@@ -26,11 +26,16 @@ fn name_of(bytes: &[u8], function: Option<u64>) -> &[u8]
 }
 
 /// The function that a fault at this offset lies in.
-fn function_of(alloc: Global, bytes: &[u8], offset: Option<u32>) -> io::Result<Option<u64>>
-    ensures { IfOk result (LiesIn bytes.now offset) }
+fn function_of(
+    alloc: Global,
+    bytes: &[u8],
+    profile: Profile,
+    offset: Option<u32>,
+) -> io::Result<Option<u64>>
+    ensures { IfOk result (LiesIn profile bytes.now offset) }
 {
     match offset {
-        Some(offset) => function_at(alloc, bytes, offset),
+        Some(offset) => function_at(alloc, bytes, profile, offset),
         None => Ok(None),
     }
 }
@@ -76,12 +81,13 @@ pub(crate) fn add_refusal(
     alloc: Global,
     text: &mut Vec<u8>,
     bytes: &[u8],
+    profile: Profile,
     fault: LoadFault,
 ) -> io::Result<()>
-    ensures { OnOk result ((f : Option ℕ) × LiesIn bytes.now (load_offset fault) f
+    ensures { OnOk result ((f : Option ℕ) × LiesIn profile bytes.now (load_offset fault) f
         × (text.new.items ≡ text.old.items ++ refusal_text bytes.now fault f)) }
 {
-    let function = function_of(alloc, bytes, Fault::Module(fault).offset())?;
+    let function = function_of(alloc, bytes, profile, Fault::Module(fault).offset())?;
     add_fault_lines(text, fault, function)?;
     add_name(text, name_of(bytes, function))?;
     text.write_all(b"\n")

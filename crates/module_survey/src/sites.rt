@@ -2,7 +2,8 @@
 
 ghost use Rattle.std.specs.Prelude.{◌≡◌, ◌<◌, ◌++◌, List, ℕ, OnOk, IfSome, IsSome, Some, length, slice_get};
 ghost use Rattle.wasm_module.specs.declared.module.Body.{Body as BodyValue};
-ghost use Rattle.wasm_module.specs.Module.{Spells};
+ghost use Rattle.wasm_module.specs.Module.{SpellsWith};
+ghost use Rattle.wasm_module.specs.declared.profile.Profile.{Profile as ProfileValue};
 ghost use Rattle.module_survey.specs.Places.{IsInstructionAt, called};
 ghost use Rattle.module_survey.specs.Sites.{IsSite, function_of, offset_text, site_text};
 
@@ -13,11 +14,11 @@ use std::io::Write;
 use wasm_module::Module;
 
 /// Where the instruction of this index of the module's own function begins, in bytes from the first of the module. There is
-/// such a place wherever these bytes spell the module and the function is there.
+/// such a place wherever these bytes spell the module by some profile and the function is there.
 fn own_offset(bytes: &[u8], module: &Module<'_>, own: usize, index: usize) -> Option<usize>
     ensures stands { IfSome result (λ offset. (body : BodyValue) × (slice_get «module».now.bodies own ≡ Some body)
         × IsInstructionAt bytes.now own body index offset) }
-    ensures told { Spells bytes.now «module».now → own < length «module».now.bodies → IsSome result }
+    ensures told { (p : ProfileValue) → SpellsWith p bytes.now «module».now → own < length «module».now.bodies → IsSome result }
 {
     let body = module.bodies.as_slice().get(own)?;
     instruction_offset(bytes, own, body, index)

@@ -1,8 +1,8 @@
 //! What follows an instruction in a module's bytes, found by its opcode alone.
 
-ghost use Rattle.std.specs.Prelude.{◌≡◌};
+ghost use Rattle.std.specs.Prelude.{◌≡◌, drop};
 ghost use Rattle.wasm_valid.specs.internal.Skipping.{after_number, after_numbers};
-ghost use Rattle.module_survey.specs.internal.Skipping.{after_bulk, after_instruction, after_labels, after_locals, after_opcode, numbers_behind};
+ghost use Rattle.module_survey.specs.internal.Skipping.{after_bulk, after_bulk_number, after_instruction, after_labels, after_locals, after_opcode, numbers_behind};
 
 use crate::sections::number;
 
@@ -31,6 +31,13 @@ fn after_numbers(bytes: &[u8], count: usize) -> &[u8]
     left
 }
 
+/// What follows this many bytes.
+fn after_bytes(bytes: &[u8], count: usize) -> &[u8]
+    ensures { result.now ≡ drop count bytes.now }
+{
+    bytes.get(count..).unwrap_or(&[])
+}
+
 /// How many numbers and single bytes follow an opcode (section 5.4) that says so alone.
 fn numbers_behind(opcode: u8) -> usize
     ensures { result ≡ numbers_behind opcode }
@@ -52,24 +59,37 @@ fn after_labels(bytes: &[u8]) -> &[u8]
     }
 }
 
-/// What follows the number behind the opcode FC, and the bytes that it asks for: two of `memory.copy`, one of `memory.fill`.
+/// What follows the bytes that this number behind the opcode FC asks for: two of `memory.copy`, one of `memory.fill`, none of a
+/// saturating conversion.
+fn after_bulk_number(opcode: u32, bytes: &[u8]) -> &[u8]
+    ensures { result.now ≡ after_bulk_number opcode bytes.now }
+{
+    match opcode {
+        10 => after_numbers(bytes, 2),
+        11 => after_number(bytes),
+        _ => bytes,
+    }
+}
+
+/// What follows the number behind the opcode FC, and the bytes that it asks for.
 fn after_bulk(bytes: &[u8]) -> &[u8]
     ensures { result.now ≡ after_bulk bytes.now }
 {
     match number(bytes) {
-        Some((10, zeros)) => after_numbers(zeros, 2),
-        Some((_, zeros)) => after_number(zeros),
+        Some((opcode, rest)) => after_bulk_number(opcode, rest),
         None => bytes,
     }
 }
 
-/// What follows the numbers and single bytes behind an opcode.
+/// What follows the numbers and single bytes behind an opcode, or the bits of a float.
 fn after_opcode(opcode: u8, bytes: &[u8]) -> &[u8]
     ensures { result.now ≡ after_opcode opcode bytes.now }
 {
     match opcode {
         0x0E => after_labels(bytes),
         0xFC => after_bulk(bytes),
+        0x43 => after_bytes(bytes, 4),
+        0x44 => after_bytes(bytes, 8),
         _ => after_numbers(bytes, numbers_behind(opcode)),
     }
 }

@@ -21,6 +21,7 @@ trap_number trap.UndefinedElement = 4
 trap_number trap.UninitializedElement = 5
 trap_number trap.IndirectCallMismatch = 6
 trap_number trap.CallStackExhausted = 7
+trap_number trap.InvalidConversion = 8
 
 -- as the header numbers the ends of a run that began, and the register has a label for each
 abbrev pub outcome_number : Outcome → ℕ

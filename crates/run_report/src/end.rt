@@ -39,6 +39,7 @@ pub fn trap_number(trap: Trap) -> u32
         Trap::UninitializedElement => 5,
         Trap::IndirectCallMismatch => 6,
         Trap::CallStackExhausted => 7,
+        Trap::InvalidConversion => 8,
     }
 }
 

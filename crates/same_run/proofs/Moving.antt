@@ -1,22 +1,26 @@
 -- The steps once more, as a function: what a configuration does next, and that each step is that.
-use Rattle.std.proofs.Common.{◌≡◌, ◌≢◌, ℕ, zero, suc, ◌+◌, ◌/◌, ◌<◌, ◌≤◌, Bool, true, false, cond, List, [], ◌∷◌, ◌++◌, length, take, drop, reverse, Option, Some, None, slice_get, refl, sym, ◌∙◌, ap, subst, inl, inr, arith}
+use Rattle.std.proofs.Common.{◌≡◌, ◌≢◌, ℕ, zero, suc, ◌+◌, ◌/◌, ◌<◌, ◌≤◌, Bool, true, false, cond, List, [], ◌∷◌, ◌++◌, length, take, drop, reverse, Option, Some, None, Result, Ok, Err, slice_get, refl, sym, ◌∙◌, ap, subst, inl, inr, arith}
 use Rattle.std.specs.Prelude.{nat_eq, nat_le}
 use Rattle.std.proofs.Math.Seq.{drop-append_seam}
 use Rattle.std.proofs.lemmas.Option.{none-some, same_Some, slice_get_past}
 use Rattle.std.proofs.lemmas.Bool.{eq-eqb, ne_eqb, le-leb, lt-leb}
 use Rattle.wasm_module.specs.declared.instruction.ValueType.TheVariants.{I32}
+use Rattle.wasm_module.specs.declared.instruction.FloatOperator.{FloatOperator}
 use Rattle.wasm_module.specs.declared.instruction.Instruction.{Instruction}
 use Rattle.wasm_module.specs.declared.instruction.Instruction.TheVariants as op
 use Rattle.wasm_module.specs.declared.module.FuncType.{FuncType}
 use Rattle.wasm_module.specs.Instructions.{Instructions, done, plain, block, loop, if_then, if_else, invoke, append}
-use Rattle.wasm_valid.specs.Typing.{arity}
+use Rattle.wasm_valid.specs.Typing.{arity, float_takes, float_gives}
+use Rattle.wasm_num.specs.declared.trap.Trap.{Trap}
 use Rattle.wasm_num.specs.declared.trap.Trap.TheVariants as traps
 use Rattle.wasm_store.specs.declared.call.HostCall.{HostCall}
 use Rattle.wasm_store.specs.declared.call.Answer.{Answer}
 use Rattle.wasm_store.specs.declared.call.Answer.TheVariants.{Value as value, Exit as exit}
 use Rattle.wasm_store.specs.Instances.{outside}
-use Rattle.wasm_steps.specs.Configuration.{Val, val, numbers, zeros, Function, Callee, imported, own, signature_of, Instance, Store, trapped, exited, Code, code, label, frame, stopped, Configuration, at, code_of, used_by}
-use Rattle.wasm_steps.specs.Steps.{LoadOp, StoreOp, load_of, store_of, loaded, bytes_at, unreachable_traps, nop_step, block_step, loop_step, if_then_set, if_then_zero, if_else_set, if_else_zero, br_if_stays, branches, returns, call_step, call_indirect_step, call_undefined, call_uninitialized, call_mistyped, drop_step, select_first, select_second, local_get_step, local_set_step, local_tee_step, global_get_step, global_set_step, load_step, load_traps, store_step, store_traps, size_step, grows, grows_not, copy_step, copy_traps, fill_step, fill_traps, i32_const_step, i64_const_step, eqz_step, compare_step, unary_step, binary_step, binary_traps, wrap_step, extend_signed, extend_unsigned, Reduces, AdminStep, invokes, exhausted, leaves_label, leaves_frame, stops_label, stops_frame, tick, CallsOf, given, Event, silent, answers, Step, plain_step, free_step, host_answers, host_exits, in_label, in_frame}
+use Rattle.wasm_module.specs.Types.{integer}
+use Rattle.wasm_steps.specs.Configuration.{Val, val, numbers, types, zeros, Function, Callee, imported, own, signature_of, Instance, Store, trapped, exited, Code, code, label, frame, stopped, Configuration, at, code_of, used_by}
+use Rattle.wasm_steps.specs.FloatOperators.{float_number}
+use Rattle.wasm_steps.specs.Steps.{LoadOp, StoreOp, load_of, store_of, loaded, bytes_at, unreachable_traps, nop_step, block_step, loop_step, if_then_set, if_then_zero, if_else_set, if_else_zero, br_if_stays, branches, returns, call_step, call_indirect_step, call_undefined, call_uninitialized, call_mistyped, drop_step, select_first, select_second, local_get_step, local_set_step, local_tee_step, global_get_step, global_set_step, load_step, load_traps, store_step, store_traps, size_step, grows, grows_not, copy_step, copy_traps, fill_step, fill_traps, i32_const_step, i64_const_step, eqz_step, compare_step, unary_step, binary_step, binary_traps, wrap_step, extend_signed, extend_unsigned, f32_const_step, f64_const_step, float_step, float_traps, Reduces, AdminStep, invokes, exhausted, leaves_label, leaves_frame, stops_label, stops_frame, tick, CallsOf, given, Event, silent, answers, Step, plain_step, free_step, host_answers, host_exits, in_label, in_frame}
 use Rattle.same_run.specs.Growth.{RefusesGrowth, RefusesMemory}
 use Rattle.same_run.specs.NextStep.{AnswersOnce}
 use Rattle.same_run.proofs.Branching.{kept_of, kept_to, asked, jump_of, jumps, jumps_so_far, return_of, returns_so, jumps_not_returns}
@@ -101,6 +105,20 @@ next i n s f (stopped w) = None
 left_of : (n : ℕ) (first rest all : List Val) → all ≡ first ++ rest → length first ≡ n → drop n all ≡ rest
 left_of n first rest all is count =
     ap (λ (k : ℕ). drop k all) (sym count) ∙ (ap (λ (vs : List Val). drop (length first) vs) is ∙ drop-append_seam first rest)
+
+count_of_types : (vs : List Val) → length (types vs) ≡ length vs
+count_of_types [] = refl
+count_of_types (v ∷ vs) = ap suc (count_of_types vs)
+
+-- what an operator on floats makes of the values on top
+float_computed : (s : Store) (f all vs args : List Val) (o : FloatOperator) (rest : Instructions) (r : Result ℕ Trap)
+    → all ≡ args ++ vs → types args ≡ float_takes o → float_number o (numbers args) ≡ r
+    → computed s f (float_gives o) (drop (length (float_takes o)) all) rest (float_number o (numbers (take (length (float_takes o)) all))) ≡ computed s f (float_gives o) vs rest r
+float_computed s f all vs args o rest r is takes gives =
+    let count : length args ≡ length (float_takes o) = sym (count_of_types args) ∙ ap length takes in
+    ap (λ (ws : List Val). computed s f (float_gives o) ws rest (float_number o (numbers (take (length (float_takes o)) all)))) (left_of (length (float_takes o)) args vs all is count)
+    ∙ (ap (λ (ws : List Val). computed s f (float_gives o) vs rest (float_number o (numbers ws))) (kept_of (length (float_takes o)) args vs all is count)
+    ∙ ap (computed s f (float_gives o) vs rest) gives)
 
 either : {X : Type 0} (b : Bool) (x : X) → cond b x x ≡ x
 either true x = refl
@@ -197,11 +215,17 @@ module _ (i : Instance) where
   reduces eqz_step given n = refl
   reduces compare_step given n = refl
   reduces unary_step given n = refl
-  reduces (binary_step {s = s} {f = f} {vs = vs} {t = t} {rest = rest} is) given n = ap (λ r. Some (goes (ticked (computed s f t vs rest r)))) is
-  reduces (binary_traps {s = s} {f = f} {vs = vs} {t = t} {rest = rest} is) given n = ap (λ r. Some (goes (ticked (computed s f t vs rest r)))) is
+  reduces (binary_step {s = s} {f = f} {vs = vs} {t = t} {rest = rest} is) given n = ap (λ r. Some (goes (ticked (computed s f (integer t) vs rest r)))) is
+  reduces (binary_traps {s = s} {f = f} {vs = vs} {t = t} {rest = rest} is) given n = ap (λ r. Some (goes (ticked (computed s f (integer t) vs rest r)))) is
   reduces wrap_step given n = refl
   reduces extend_signed given n = refl
   reduces extend_unsigned given n = refl
+  reduces f32_const_step given n = refl
+  reduces f64_const_step given n = refl
+  reduces (float_step {s = s} {f = f} {all = all} {vs = vs} {o = o} {r = r} {rest = rest} args is takes gives) given n =
+      ap (λ z. Some (goes (ticked z))) (float_computed s f all vs args o rest (Ok r) is takes gives)
+  reduces (float_traps {s = s} {f = f} {all = all} {o = o} {e = e} {rest = rest} args vs is takes gives) given n =
+      ap (λ z. Some (goes (ticked z))) (float_computed s f all vs args o rest (Err e) is takes gives)
 
 -- ---- where steps are made, no branch and no return comes next
 

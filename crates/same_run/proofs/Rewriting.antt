@@ -1,20 +1,22 @@
 -- The rules of plain instructions once more, as a function: what the next one makes of values, locals and the store.
-use Rattle.std.proofs.Common.{◌≡◌, ◌≢◌, ℕ, ◌+◌, ◌-◌, ◌*◌, ◌/◌, ◌%◌, ◌^◌, Bool, true, false, ◌&&◌, cond, List, [], ◌∷◌, ◌++◌, length, replicate, Option, Some, None, Result, Ok, Err, slice_get, refl, ◌∙◌, ap}
+use Rattle.std.proofs.Common.{◌≡◌, ◌≢◌, ℕ, ◌+◌, ◌-◌, ◌*◌, ◌/◌, ◌%◌, ◌^◌, Bool, true, false, ◌&&◌, cond, List, [], ◌∷◌, ◌++◌, length, take, drop, replicate, Option, Some, None, Result, Ok, Err, slice_get, refl, ◌∙◌, ap}
 use Rattle.std.specs.Prelude.{nat_eq, nat_le, slice_set}
 use Rattle.std.proofs.lemmas.Option.{none-some}
 use Rattle.std.proofs.lemmas.Bool.{and_parts}
 use Rattle.wasm_module.specs.declared.instruction.ValueType.{ValueType}
-use Rattle.wasm_module.specs.declared.instruction.ValueType.TheVariants.{I32, I64}
+use Rattle.wasm_module.specs.declared.instruction.ValueType.TheVariants.{I32, I64, F32, F64}
 use Rattle.wasm_module.specs.declared.instruction.Instruction.{Instruction}
 use Rattle.wasm_module.specs.declared.instruction.Instruction.TheVariants as op
 use Rattle.wasm_module.specs.declared.module.FuncType.{FuncType}
 use Rattle.wasm_module.specs.Instructions.{Instructions, done, plain, block, loop, if_then, if_else, invoke}
-use Rattle.wasm_valid.specs.Typing.{arity}
+use Rattle.wasm_valid.specs.Typing.{arity, float_takes, float_gives}
 use Rattle.wasm_num.specs.declared.trap.Trap.{Trap}
 use Rattle.wasm_num.specs.declared.trap.Trap.TheVariants as traps
 use Rattle.wasm_num.specs.Numbers.{signed, wrapped, bool_number}
+use Rattle.wasm_module.specs.Types.{integer}
 use Rattle.wasm_steps.specs.Operators.{width, compare_test, unary_number, binary_number}
-use Rattle.wasm_steps.specs.Configuration.{Val, val, Callee, signature_of, Instance, Store, trapped, Code, code, label, stopped, Configuration, at}
+use Rattle.wasm_steps.specs.FloatOperators.{float_number}
+use Rattle.wasm_steps.specs.Configuration.{Val, val, numbers, Callee, signature_of, Instance, Store, trapped, Code, code, label, stopped, Configuration, at}
 use Rattle.wasm_steps.specs.Steps.{LoadOp, StoreOp, load_of, store_of, loaded, bytes_at, written, to_bytes}
 use Rattle.same_run.proofs.Branching.{top, below}
 
@@ -23,8 +25,9 @@ use Rattle.same_run.proofs.Branching.{top, below}
 abbrev pub same_type : ValueType → ValueType → Bool
 same_type I32 I32 = true
 same_type I64 I64 = true
-same_type I32 I64 = false
-same_type I64 I32 = false
+same_type F32 F32 = true
+same_type F64 F64 = true
+same_type t u = false
 
 abbrev pub same_types : List ValueType → List ValueType → Bool
 same_types [] [] = true
@@ -35,8 +38,9 @@ same_types (t ∷ ts) (u ∷ us) = same_type t u && same_types ts us
 type_is : (t u : ValueType) → same_type t u ≡ true → t ≡ u
 type_is I32 I32 is = refl
 type_is I64 I64 is = refl
-type_is I32 I64 is = cc
-type_is I64 I32 is = cc
+type_is F32 F32 is = refl
+type_is F64 F64 is = refl
+type_is t u is = cc
 
 types_are : (ts us : List ValueType) → same_types ts us ≡ true → ts ≡ us
 types_are [] [] is = refl
@@ -48,6 +52,8 @@ types_are (t ∷ ts) (u ∷ us) is = let parts = and_parts (same_type t u) (same
 type_itself : (t : ValueType) → same_type t t ≡ true
 type_itself I32 = refl
 type_itself I64 = refl
+type_itself F32 = refl
+type_itself F64 = refl
 
 types_itself : (ts : List ValueType) → same_types ts ts ≡ true
 types_itself [] = refl
@@ -155,12 +161,15 @@ performed i s f vs rest op.MemoryFill = Some (filled (nat_le (top (below (below 
 performed i s f vs rest (op.I32Const n) = Some (at s f (code (val I32 n ∷ vs) rest))
 performed i s f vs rest (op.I64Const n) = Some (at s f (code (val I64 n ∷ vs) rest))
 performed i s f vs rest (op.Eqz t) = Some (at s f (code (val I32 (bool_number (nat_eq (top vs) 0)) ∷ below vs) rest))
-performed i s f vs rest (op.Compare t o) = Some (at s f (code (val I32 (bool_number (compare_test (width t) o (top (below vs)) (top vs))) ∷ below (below vs)) rest))
-performed i s f vs rest (op.Unary t o) = Some (at s f (code (val t (unary_number (width t) o (top vs)) ∷ below vs) rest))
-performed i s f vs rest (op.Binary t o) = Some (computed s f t (below (below vs)) rest (binary_number (width t) o (top (below vs)) (top vs)))
+performed i s f vs rest (op.Compare t o) = Some (at s f (code (val I32 (bool_number (compare_test (width (integer t)) o (top (below vs)) (top vs))) ∷ below (below vs)) rest))
+performed i s f vs rest (op.Unary t o) = Some (at s f (code (val (integer t) (unary_number (width (integer t)) o (top vs)) ∷ below vs) rest))
+performed i s f vs rest (op.Binary t o) = Some (computed s f (integer t) (below (below vs)) rest (binary_number (width (integer t)) o (top (below vs)) (top vs)))
 performed i s f vs rest op.I32WrapI64 = Some (at s f (code (val I32 (top vs % 2 ^ 32) ∷ below vs) rest))
 performed i s f vs rest op.I64ExtendI32S = Some (at s f (code (val I64 (wrapped 64 (signed 32 (top vs))) ∷ below vs) rest))
 performed i s f vs rest op.I64ExtendI32U = Some (at s f (code (val I64 (top vs) ∷ below vs) rest))
+performed i s f vs rest (op.F32Const n) = Some (at s f (code (val F32 n ∷ vs) rest))
+performed i s f vs rest (op.F64Const n) = Some (at s f (code (val F64 n ∷ vs) rest))
+performed i s f vs rest (op.Float o) = Some (computed s f (float_gives o) (drop (length (float_takes o)) vs) rest (float_number o (numbers (take (length (float_takes o)) vs))))
 performed i s f vs rest other = None
 
 -- what is first in a list of instructions, where it is no call at work

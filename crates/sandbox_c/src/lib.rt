@@ -9,12 +9,12 @@ ghost use Rattle.vol_tree.specs.Fresh.{fresh, fresh_as};
 ghost use Rattle.vol_tree.specs.Stands.{StandsAs, empty_tree};
 ghost use Rattle.wasm_module.specs.declared.module.Module.{Module as ModuleValue};
 ghost use Rattle.sandbox_host.specs.Sessions.{running, finished, loaded, prepared, bytes_of, has_session, has_module, module_of, output, most_of, was_filled, sectors};
-ghost use Rattle.sandbox_host.specs.Sessions.{IsLoaded, IsShown, Begins, BeginsFrom, Paused, Finishes};
+ghost use Rattle.sandbox_host.specs.Sessions.{IsLoaded, IsLoadedWith, IsShown, Begins, BeginsFrom, Paused, Finishes};
 ghost use Rattle.sandbox_host.specs.Recording.{recorded, operation_of, told_operation};
-ghost use Rattle.sandbox_host.specs.Supplies.{most_pages};
+ghost use Rattle.sandbox_host.specs.Supplies.{most_pages, profile_of};
 ghost use Rattle.sandbox_host.specs.Frames.{TellsFrame, name_of};
 ghost use Rattle.sandbox_host.specs.Volumes.{origin_of};
-ghost use Rattle.sandbox_host.specs.Refusals.{NotLoaded, NotBegunOf, NotOpened, NotPrepared};
+ghost use Rattle.sandbox_host.specs.Refusals.{NotLoaded, NotLoadedWith, NotBegunOf, NotOpened, NotPrepared, NotPreparedWith};
 ghost use Rattle.sandbox_host.specs.Whole.{Ran, IsUnformatted};
 ghost use Rattle.sandbox_host.specs.Texts.{text_of};
 ghost use Rattle.sandbox_host.specs.declared.volumes.Origin.TheVariants.{Fresh};
@@ -109,6 +109,26 @@ pub extern "C" fn sandbox_load(
     sandbox_host::load_module(alloc, module, bytes, why)
 }
 
+/// Loads a module that may have floats, where that isn't 0, for many sessions.
+#[unsafe(no_mangle)]
+pub extern "C" fn sandbox_load_with(
+    alloc: Global,
+    module: &mut Handle,
+    bytes: &'static [u8],
+    floats: u32,
+    why: &mut Why,
+) -> u32
+    ensures misuse { is_none «module».old.held ≡ false
+        → (result ≡ 100) × («module».new ≡ «module».old) × (why.new ≡ why.old) }
+    ensures loaded { is_none «module».old.held ≡ true → result ≡ 0
+        → IsSomeAnd (loaded «module».new.held) (IsLoadedWith (profile_of floats) bytes.now) × (prepared «module».new.held ≡ None) × (why.new ≡ why.old) }
+    ensures refused { is_none «module».old.held ≡ true → result ≢ 0 → («module».new.held ≡ None)
+        × (((result ≡ why.new.fault) × NotLoadedWith (profile_of floats) bytes.now why.new) ⊎ ((result ≡ 40) × (why.new ≡ why.old))) }
+    ensures bytes { result ≡ 0 → bytes_of «module».new.held ≡ bytes.now }
+{
+    sandbox_host::load_module_with(alloc, module, bytes, floats, why)
+}
+
 /// Loads a module and makes all once that its sessions look up.
 #[unsafe(no_mangle)]
 pub extern "C" fn sandbox_prepare(
@@ -129,6 +149,29 @@ pub extern "C" fn sandbox_prepare(
     ensures bytes { result ≡ 0 → bytes_of «module».new.held ≡ bytes.now }
 {
     sandbox_host::prepare(alloc, module, bytes, limits, why)
+}
+
+/// The same of a module that may have floats, where that isn't 0.
+#[unsafe(no_mangle)]
+pub extern "C" fn sandbox_prepare_with(
+    alloc: Global,
+    module: &mut Handle,
+    bytes: &'static [u8],
+    limits: &Limits,
+    floats: u32,
+    why: &mut Why,
+) -> u32
+    ensures misuse { is_none «module».old.held ≡ false
+        → (result ≡ 100) × («module».new ≡ «module».old) × (why.new ≡ why.old) }
+    ensures loaded { is_none «module».old.held ≡ true → result ≡ 0
+        → IsSomeAnd (loaded «module».new.held) (IsLoadedWith (profile_of floats) bytes.now) × (why.new ≡ why.old) }
+    ensures prepared { is_none «module».old.held ≡ true → result ≡ 0
+        → IsSomeAnd (prepared «module».new.held) (λ ready. ready.pages ≡ most_pages limits.now) }
+    ensures refused { is_none «module».old.held ≡ true → result ≢ 0 → («module».new.held ≡ None)
+        × NotPreparedWith (profile_of floats) bytes.now limits.now result why.old why.new }
+    ensures bytes { result ≡ 0 → bytes_of «module».new.held ≡ bytes.now }
+{
+    sandbox_host::prepare_with(alloc, module, bytes, limits, floats, why)
 }
 
 /// Gives a second handle the same prepared module.

@@ -6,6 +6,7 @@ use Rattle.std.proofs.KnownBytes.{Appends-kept, Keeps-trans}
 use Rattle.vol_sector.specs.Disk.{Disk}
 use Rattle.vol_tree.specs.Tree.{Tree}
 use Rattle.wasm_module.specs.declared.fault.LoadFault.{LoadFault}
+use Rattle.wasm_module.specs.declared.profile.Profile.{Profile}
 use Rattle.wasm_store.specs.Instantiation.{LinksOf}
 use Rattle.module_survey.specs.Printing.{PrintsBeginning, Tells}
 use Rattle.wasi_calls.specs.host.Links.{link}
@@ -39,18 +40,18 @@ module _ {D : Type 0} (is_honest : D → Type 0) (disk : D → Disk) (sectors_on
 
 -- ---- what a module is
 
-pub tells_flushed : (links : LinksOf) (bytes : List ℕ) (before printed after : Option (List ℕ)) (outcome : Result (Unit {0}) LoadFault) → Tells links bytes before printed outcome → Keeps printed after
-    → Tells links bytes before after outcome
-tells_flushed links bytes before printed after outcome (text, survey, appends) kept = (text, survey, Appends-kept before printed after text appends kept)
+pub tells_flushed : (links : LinksOf) (p : Profile) (bytes : List ℕ) (before printed after : Option (List ℕ)) (outcome : Result (Unit {0}) LoadFault) → Tells links p bytes before printed outcome → Keeps printed after
+    → Tells links p bytes before after outcome
+tells_flushed links p bytes before printed after outcome (text, survey, appends) kept = (text, survey, Appends-kept before printed after text appends kept)
 
-pub begins_flushed : (links : LinksOf) (bytes : List ℕ) (before printed after : Option (List ℕ)) (kind : ErrorKind) → PrintsBeginning links bytes before printed kind → Keeps printed after
-    → PrintsBeginning links bytes before after kind
-begins_flushed links bytes before printed after kind (inl (memory, nothing)) kept = inl (memory, Keeps-trans before printed after nothing kept)
-begins_flushed links bytes before printed after kind (inr (outcome, text, survey, p)) kept =
-    inr (outcome, text, survey, record { part = p.part; rest = p.rest; parts = p.parts; appended = Appends-kept before printed after p.part p.appended kept })
+pub begins_flushed : (links : LinksOf) (p : Profile) (bytes : List ℕ) (before printed after : Option (List ℕ)) (kind : ErrorKind) → PrintsBeginning links p bytes before printed kind → Keeps printed after
+    → PrintsBeginning links p bytes before after kind
+begins_flushed links p bytes before printed after kind (inl (memory, nothing)) kept = inl (memory, Keeps-trans before printed after nothing kept)
+begins_flushed links p bytes before printed after kind (inr (outcome, text, survey, a)) kept =
+    inr (outcome, text, survey, record { part = a.part; rest = a.rest; parts = a.parts; appended = Appends-kept before printed after a.part a.appended kept })
 
-pub inspected : {E : Type 0} (kind_of : E → ErrorKind) (bytes : List ℕ) (before printed after : Option (List ℕ)) (surveyed : Result (Result (Unit {0}) LoadFault) E) (flushed : Bool) (status : ℕ)
-    → IfOk surveyed (Tells link bytes before printed) → IfErr surveyed (λ e. PrintsBeginning link bytes before printed (kind_of e)) → Keeps printed after → IfOk surveyed (λ outcome. status ≡ survey_status outcome flushed)
-    → IfErr surveyed (λ e. status ≡ refused_status (kind_of e)) → Inspects bytes before after flushed status
-inspected kind_of bytes before printed after (Ok outcome) flushed status tells begins kept told refused = inl (outcome, tells_flushed link bytes before printed after outcome tells kept, told)
-inspected kind_of bytes before printed after (Err e) flushed status tells begins kept told refused = inr (kind_of e, refused, begins_flushed link bytes before printed after (kind_of e) begins kept)
+pub inspected : {E : Type 0} (kind_of : E → ErrorKind) (p : Profile) (bytes : List ℕ) (before printed after : Option (List ℕ)) (surveyed : Result (Result (Unit {0}) LoadFault) E) (flushed : Bool) (status : ℕ)
+    → IfOk surveyed (Tells link p bytes before printed) → IfErr surveyed (λ e. PrintsBeginning link p bytes before printed (kind_of e)) → Keeps printed after → IfOk surveyed (λ outcome. status ≡ survey_status outcome flushed)
+    → IfErr surveyed (λ e. status ≡ refused_status (kind_of e)) → Inspects p bytes before after flushed status
+inspected kind_of p bytes before printed after (Ok outcome) flushed status tells begins kept told refused = inl (outcome, tells_flushed link p bytes before printed after outcome tells kept, told)
+inspected kind_of p bytes before printed after (Err e) flushed status tells begins kept told refused = inr (kind_of e, refused, begins_flushed link p bytes before printed after (kind_of e) begins kept)

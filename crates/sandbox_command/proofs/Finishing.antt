@@ -31,6 +31,7 @@ use Rattle.sandbox_command.specs.Files.{Clashes, IsPerformed, RunsNamed}
 use Rattle.sandbox_command.specs.Flushing.{RunAnswered}
 use Rattle.sandbox_command.specs.Sources.{own_of, sink_answered, sink_contents, source_remaining}
 use Rattle.sandbox_command.specs.Status.{file_status}
+use Rattle.sandbox_command.specs.Modules.{profile_for}
 use Rattle.sandbox_command.specs.Stopping.{TellsLines}
 use Rattle.sandbox_command.specs.Streams.{AppendsSome}
 use Rattle.sandbox_command.specs.Testing.{RunsLines}
@@ -57,7 +58,7 @@ module _ {P I O V R W1 W2 : Type 0} (on : Around P I O V R W1 W2) {D : Type 0} (
   pub runs_with : (bytes items random rest : List ℕ) → bytes ≡ items → random ≡ rest → (left : Executed D (Source I R) (Sink O W1) (Sink O W2)) → Ended bytes random left → Answered left
       → (own : Sink O W2) → AppendsSome (told_in (own_of left.err spare.err)) (told_in own) → (all : Left D I O R W1 W2) → all ≡ left_of left spare own
       → (last : Sink O W2) → AppendsSome (told_in all.own) (told_in last)
-      → (frames : Text) → TellsLines bytes run.frames left.stopped frames
+      → (frames : Text) → TellsLines (profile_for run.floats) bytes run.frames left.stopped frames
       → (handing : ℕ) (said : Option Summary) (before : ℕ) (summary : Option Summary) (p handed profiled told q : P) (status : ℕ) → HandsIt left.device left.status left.summary p handed handing said
       → IsProfiled on.places on.written bytes left.stopped run.profile profile handing said handed profiled before summary
       → IsTold on.places on.written run.report report summary frames before profiled told status → on.places.ended (record all { own = last }) told q
@@ -75,7 +76,7 @@ module _ {P I O V R W1 W2 : Type 0} (on : Around P I O V R W1 W2) {D : Type 0} (
     profiled = profiled;
     profiles = subst (λ (b : List ℕ). IsProfiled on.places on.written b left.stopped run.profile profile handing said handed profiled before summary) first profiles;
     lines_of_frames = frames;
-    are_lines = subst (λ (b : List ℕ). TellsLines b run.frames left.stopped frames) first are_lines;
+    are_lines = subst (λ (b : List ℕ). TellsLines (profile_for run.floats) b run.frames left.stopped frames) first are_lines;
     told = told;
     tells = tells;
     own = last;

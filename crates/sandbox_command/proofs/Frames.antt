@@ -2,7 +2,8 @@
 use Rattle.std.proofs.Common.{◌≡◌, ◌<◌, ◌≤◌, ◌+◌, ◌∷◌, ◌++◌, ℕ, zero, suc, List, [], Option, Some, None, length, take, slice_get, get_or, codes, append_assoc, append-nil, refl, sym, ◌∙◌, ap, subst, arith}
 use Rattle.std.proofs.lemmas.List.{length-take-le, take_more}
 use Rattle.wasm_module.specs.declared.module.Module.{Module}
-use Rattle.wasm_module.specs.Module.{Spells}
+use Rattle.wasm_module.specs.declared.profile.Profile.{Profile}
+use Rattle.wasm_module.specs.Module.{SpellsWith}
 use Rattle.wasm_interp.specs.declared.frames.Frame.{Frame}
 use Rattle.observed_run.specs.Telling.{TellsFrames}
 use Rattle.sandbox_words.specs.Request.{Text}
@@ -66,6 +67,6 @@ one_line_more bytes m frames i d start before after lines site within so_far beg
     )
 
 -- of the module that the bytes spell
-pub lines_told : (bytes : List ℕ) (m : Module) (most : ℕ) (stopped : Option Stopped) (text : Text) → Spells bytes m → AreLinesBy bytes m most stopped text → TellsLines bytes most stopped text
-lines_told bytes m most None text spells lines = lines
-lines_told bytes m most (Some stopped) text spells lines = (m, spells, lines)
+pub lines_told : (p : Profile) (bytes : List ℕ) (m : Module) (most : ℕ) (stopped : Option Stopped) (text : Text) → SpellsWith p bytes m → AreLinesBy bytes m most stopped text → TellsLines p bytes most stopped text
+lines_told p bytes m most None text spells lines = lines
+lines_told p bytes m most (Some stopped) text spells lines = (m, spells, lines)

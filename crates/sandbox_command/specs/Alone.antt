@@ -37,6 +37,7 @@ use Rattle.sandbox_command.specs.Profiling.{IsProfileOf, no_stacks}
 use Rattle.sandbox_command.specs.Flushing.{RunAnswered}
 use Rattle.sandbox_command.specs.Sources.{guest_of, own_of, sink_answered, sink_contents, sink_of, source_of, source_remaining, spare_of}
 use Rattle.sandbox_command.specs.Status.{file_status}
+use Rattle.sandbox_command.specs.Modules.{profile_for}
 use Rattle.sandbox_command.specs.Stopping.{AreLinesOfNone, TellsLines}
 use Rattle.sandbox_command.specs.Streams.{AppendsSome}
 
@@ -184,7 +185,7 @@ module _ {P I O V R W1 W2 : Type 0} (on : Around P I O V R W1 W2) where
     pub profiles : IsProfiled on.places on.written bytes left.stopped run.profile profile handing said handed profiled before summary
     -- its report tells where it stopped
     pub lines_of_frames : Text
-    pub are_lines : TellsLines bytes run.frames left.stopped lines_of_frames
+    pub are_lines : TellsLines (profile_for run.floats) bytes run.frames left.stopped lines_of_frames
     pub told : P
     pub tells : IsTold on.places on.written run.report report summary lines_of_frames before profiled told status
     pub own : Sink O W2

@@ -9,7 +9,7 @@ use Rattle.vol_tree.specs.Opened.{Opened}
 use Rattle.wasm_module.specs.declared.fault.LoadFault.{LoadFault}
 use Rattle.wasm_module.specs.declared.fault.LoadFault.TheVariants.{Memory}
 use Rattle.wasm_module.specs.declared.module.Module.{Module}
-use Rattle.wasm_module.specs.Module.{Spells}
+use Rattle.wasm_module.specs.Module.{SpellsWith}
 use Rattle.wasm_valid.specs.Validity.{IsValid}
 use Rattle.wasm_valid.specs.Refusal.{IsRefusal}
 use Rattle.wasi_calls.specs.declared.host.settings.Preopen.{Preopen}
@@ -28,6 +28,7 @@ use Rattle.run_report.specs.declared.summary.Kept.TheVariants as kept
 use Rattle.run_report.specs.declared.summary.Summary.{Summary}
 use Rattle.volume_tasks.specs.Going.{FormatsWithin, KeepsWithin}
 use Rattle.volume_tasks.specs.Formatting.{FormatsWhere}
+use Rattle.sandbox_command.specs.Modules.{profile_for}
 use Rattle.sandbox_command.specs.Reporting.{kept_where_refused, not_run, session_reason, volume_of}
 use Rattle.volume_tasks.specs.Doing.{Performs}
 use Rattle.sandbox_command.specs.declared.program.Executed.{Executed}
@@ -53,8 +54,8 @@ pub record NotLoaded (run : Run) (bytes : List ℕ) (status : ℕ) (summary : Op
   pub preopens : List Preopen
   pub are_cut : AreDirectories (directories_of run) preopens
   pub fault : LoadFault
-  pub refused : fault ≢ Memory → (m : Module) → Spells bytes m → IsValid m → ⊥
-  pub spells_none : ¬ IsRefusal fault → (m : Module) → Spells bytes m → ⊥
+  pub refused : fault ≢ Memory → (m : Module) → SpellsWith (profile_for run.floats) bytes m → IsValid m → ⊥
+  pub spells_none : ¬ IsRefusal fault → (m : Module) → SpellsWith (profile_for run.floats) bytes m → ⊥
   pub ends : status ≡ load_status fault
   pub summary_is : summary ≡ Some (not_run run (reason.Module fault) kept.None status)
 
@@ -98,7 +99,7 @@ module _ {D R W1 W2 : Type 0} (is_honest : D → Type 0) (disk : D → Disk) (se
   Runs run bytes random device input out err left =
       (NotSupplied run left.status left.summary × IsUntouched device input out err left)
       ⊎ ((NotLoaded run bytes left.status left.summary × IsUntouched device input out err left)
-      ⊎ ((m : Module) × Spells bytes m × IsValid m × RunsOn run m random device input out err left))
+      ⊎ ((m : Module) × SpellsWith (profile_for run.floats) bytes m × IsValid m × RunsOn run m random device input out err left))
 
   -- A device is formatted; a task is done with the volume on a device, a tar stream brought into it, or one of its directories
   -- printed as one. Then the output is flushed, which keeps what it has.

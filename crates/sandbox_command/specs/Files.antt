@@ -30,6 +30,7 @@ use Rattle.sandbox_command.specs.Around.{Around, EndsGiven, Flushes}
 use Rattle.sandbox_command.specs.Execution.{StaysWithin, Executes}
 use Rattle.sandbox_command.specs.Flushing.{Answered}
 use Rattle.sandbox_command.specs.Formatting.{room_for, version_for}
+use Rattle.sandbox_command.specs.Modules.{profile_for}
 use Rattle.sandbox_command.specs.Inspecting.{Inspects}
 use Rattle.sandbox_command.specs.Places.{Access, Gave, HasRoom, Locks, Reads, Took, WasEnded, WasHandedOut, WasRefused, lengthens}
 use Rattle.sandbox_command.specs.Status.{command_line_status, file_status, words_status}
@@ -81,19 +82,19 @@ module _ {P I O V R W1 W2 : Type 0} (on : Around P I O V R W1 W2) where
       ⊎ ((device : V) × IsNewDevice name HasIts device × HasExecuted does device given m q status))
 
   -- What these bytes are as a module was printed, nothing was read, and all was given up as it was then.
-  pub record HasInspected (bytes : Text) (given : Streams R W1 W2) (p q : P) (status : ℕ) : Type 0 where
+  pub record HasInspected (floats : Bool) (bytes : Text) (given : Streams R W1 W2) (p q : P) (status : ℕ) : Type 0 where
     pub left : Executed (Unit {0}) R W1 W2
-    pub inspects : Inspects bytes (on.out.contents given.out) (on.out.contents left.out) left.flushed status
+    pub inspects : Inspects (profile_for floats) bytes (on.out.contents given.out) (on.out.contents left.out) left.flushed status
     pub answered : Answered on.flushes.out_flushed on.flushes.out_refuses left.flushed left.out
     pub input_is : left.input ≡ given.input
     pub lines : AppendsSome (on.err.contents given.err) (on.err.contents left.err)
     pub ended : on.places.ended left p q
 
   -- The file of a module is read. It is refused, and nothing else is done; or its bytes were inspected.
-  abbrev pub DoesInspect : (name : Text) → Streams R W1 W2 → (p q : P) → (status : ℕ) → Type 0
-  DoesInspect name given p q status = (m : P) × on.places.asked (Reads name) p m
+  abbrev pub DoesInspect : (floats : Bool) → (name : Text) → Streams R W1 W2 → (p q : P) → (status : ℕ) → Type 0
+  DoesInspect floats name given p q status = (m : P) × on.places.asked (Reads name) p m
       × (((kind : InputKind) × on.places.refused (Reads name) kind p m × (status ≡ file_status kind) × EndsGiven on given m q)
-      ⊎ ((bytes : Text) × on.places.is_beginning name 67108865 bytes × HasInspected bytes given m q status))
+      ⊎ ((bytes : Text) × on.places.is_beginning name 67108865 bytes × HasInspected floats bytes given m q status))
 
   -- a list of tests where one is named, else one run
   abbrev pub RunsNamed : Option (Bor Text) → Run → Streams R W1 W2 → (p q : P) → (status : ℕ) → Type 0
@@ -116,7 +117,7 @@ module _ {P I O V R W1 W2 : Type 0} (on : Around P I O V R W1 W2) where
   IsPerformed (asked.Volume file task) given p q status = DoesOn (Locks file.now) file.now (λ d. Unit {0}) (work.Task task) given p q status
   IsPerformed (asked.Import file path) given p q status = DoesOn (Locks file.now) file.now (λ d. Unit {0}) (work.Import path) given p q status
   IsPerformed (asked.Export file path) given p q status = DoesOn (Locks file.now) file.now (λ d. Unit {0}) (work.Export path) given p q status
-  IsPerformed (asked.Inspect «module») given p q status = DoesInspect «module».now given p q status
+  IsPerformed (asked.Inspect «module» floats) given p q status = DoesInspect floats «module».now given p q status
 
 -- ---- the files of the system
 

@@ -4,6 +4,7 @@ use Rattle.std.specs.Prelude.{◌≡◌, ◌⊎◌, ℕ, List, Bool, Option, Res
 use Rattle.std.specs.declared.io.ErrorKind.{ErrorKind}
 use Rattle.std.specs.declared.io.ErrorKind.TheVariants.{OutOfMemory}
 use Rattle.wasm_module.specs.declared.fault.LoadFault.{LoadFault}
+use Rattle.wasm_module.specs.declared.profile.Profile.{Profile}
 use Rattle.wasi_calls.specs.host.Links.{link}
 use Rattle.module_survey.specs.Printing.{PrintsBeginning, Tells}
 
@@ -19,8 +20,8 @@ refused_status k = 124
 
 -- All that is told of the bytes was printed, with the calls that a guest is given. Or memory or the output was refused, after
 -- a beginning of it.
-abbrev pub Inspects : List ℕ → Option (List ℕ) → Option (List ℕ) → (flushed : Bool) → ℕ → Type 0
-Inspects bytes before after flushed status =
-    ((outcome : Result (Unit {0}) LoadFault) × Tells link bytes before after outcome × (status ≡ survey_status outcome flushed))
+abbrev pub Inspects : Profile → List ℕ → Option (List ℕ) → Option (List ℕ) → (flushed : Bool) → ℕ → Type 0
+Inspects p bytes before after flushed status =
+    ((outcome : Result (Unit {0}) LoadFault) × Tells link p bytes before after outcome × (status ≡ survey_status outcome flushed))
     ⊎ ((kind : ErrorKind) × (status ≡ refused_status kind)
-    × PrintsBeginning link bytes before after kind)
+    × PrintsBeginning link p bytes before after kind)

@@ -2,6 +2,7 @@
 -- the program does on any device and streams, and `Beginning` to `Files` what it does on the files that a command line
 -- or a list of tests names.
 pub mod Status
+pub mod Modules
 pub mod Stopping
 pub mod Profiling
 pub mod Streams

@@ -5,7 +5,8 @@ use Rattle.std.specs.Prelude.{◌≡◌, ◌⊎◌, ◌+◌, ◌-◌, ◌==◌, 
 use Rattle.std.specs.List.{concat}
 use Rattle.meanings.specs.Tables.{errno_text}
 use Rattle.wasm_module.specs.declared.module.Module.{Module}
-use Rattle.wasm_module.specs.Module.{Spells}
+use Rattle.wasm_module.specs.declared.profile.Profile.{Profile}
+use Rattle.wasm_module.specs.Module.{SpellsWith}
 use Rattle.wasm_interp.specs.declared.frames.Frame.{Frame}
 use Rattle.module_survey.specs.Sites.{IsSite}
 use Rattle.sandbox_words.specs.Request.{Text}
@@ -56,6 +57,6 @@ AreLinesBy bytes m most None text = AreLinesOfNone text
 AreLinesBy bytes m most (Some stopped) text = (text ≡ []) ⊎ HasLines bytes m most stopped text
 
 -- the same of the module that the bytes spell
-abbrev pub TellsLines : List ℕ → (most : ℕ) → Option Stopped → Text → Type 0
-TellsLines bytes most None text = AreLinesOfNone text
-TellsLines bytes most (Some stopped) text = (m : Module) × Spells bytes m × ((text ≡ []) ⊎ HasLines bytes m most stopped text)
+abbrev pub TellsLines : Profile → List ℕ → (most : ℕ) → Option Stopped → Text → Type 0
+TellsLines p bytes most None text = AreLinesOfNone text
+TellsLines p bytes most (Some stopped) text = (m : Module) × SpellsWith p bytes m × ((text ≡ []) ⊎ HasLines bytes m most stopped text)

@@ -10,7 +10,7 @@ use Rattle.std.specs.Io.KnownBytes.{Appends}
 use Rattle.std.specs.declared.io.Read.{Ghosts as Reader}
 use Rattle.std.specs.declared.io.Write.{Ghosts as Writer}
 use Rattle.wasm_module.specs.declared.module.Module.{Module}
-use Rattle.wasm_module.specs.Module.{Spells}
+use Rattle.wasm_module.specs.Module.{SpellsWith}
 use Rattle.wasm_valid.specs.Validity.{IsValid}
 use Rattle.wasm_steps.specs.declared.pause.Outcome.{Outcome}
 use Rattle.run_report.specs.declared.end.End.TheVariants.{Ran, Refused}
@@ -30,6 +30,7 @@ use Rattle.sandbox_command.specs.Execution.{NotLoaded, NotSupplied, RunsOn}
 use Rattle.sandbox_command.specs.Flushing.{RunAnswered}
 use Rattle.sandbox_command.specs.Places.{Access, Opens, Makes, Reads, Prints, Chain, ChainWithFailure, IsOfImage, IsOfRandom, IsRefusedAmong, file_accesses, reads_of}
 use Rattle.sandbox_command.specs.Status.{file_status}
+use Rattle.sandbox_command.specs.Modules.{profile_for}
 use Rattle.sandbox_command.specs.Stopping.{AreLinesBy, AreLinesOfNone}
 
 -- ---- the list
@@ -158,7 +159,7 @@ module _ {P I O V : Type 0} (places : Ghosts P I O V) (read : Reader I) (written
   RunsTests run bytes random tests p q status =
       ((summary : Option Summary) × NotSupplied run status summary × (q ≡ p))
       ⊎ (((summary : Option Summary) × NotLoaded run bytes status summary × (q ≡ p))
-      ⊎ ((m : Module) × Spells bytes m × IsValid m
+      ⊎ ((m : Module) × SpellsWith (profile_for run.floats) bytes m × IsValid m
       × (((status ≡ 0) × Chain (HasRun run bytes m random) tests p q)
       ⊎ ((status ≡ 124) × ChainWithFailure (HasRun run bytes m random) (HasFailed run bytes m random) tests p q))))
 

@@ -13,6 +13,7 @@ use crate::clashing::clashes;
 use crate::formatting::{room_for, version_for};
 use crate::host_places::HostPlaces;
 use crate::inspecting::inspect;
+use crate::modules::profile_for;
 use crate::opening::MODULE_READ;
 use crate::places::Places;
 use crate::program;
@@ -112,7 +113,9 @@ pub fn perform_in<P: Places, R: Inlet + Drop, W1: Outlet + Drop, W2: Outlet + Dr
             Some(list) => run_list(alloc, places, run, list, given),
             None => run_alone(alloc, places, run, given),
         },
-        Invocation::Inspect { module } => inspect_file(alloc, places, module, given),
+        Invocation::Inspect { module, floats } => {
+            inspect_file(alloc, places, module, *floats, given)
+        },
         Invocation::Format {
             file,
             sectors,
@@ -217,16 +220,17 @@ fn inspect_file<P: Places, R: Inlet + Drop, W1: Outlet + Drop, W2: Outlet + Drop
     alloc: Global,
     places: &mut P,
     path: &str,
+    floats: bool,
     given: Streams<R, W1, W2>,
 ) -> u8
     ensures tells { DoesInspect (around P.Places P.Input.Read P.Output.Write P.Volume.Device R.Read W1.Write W2.Write
         (flushing P.Output.flushed P.Output.refuses W1.flushed W1.refuses W2.flushed W2.refuses))
-        path.now given places.old places.new result }
+        floats path.now given places.old places.new result }
     ensures within { result ≤ 124 }
 {
     match places.bytes(path, MODULE_READ) {
         Ok(module) => {
-            let left = inspect(alloc, module.as_slice(), given);
+            let left = inspect(alloc, module.as_slice(), profile_for(floats), given);
             let status = left.status;
             places.end(left);
             status

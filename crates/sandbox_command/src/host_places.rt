@@ -81,7 +81,7 @@ impl<'a> HostPlaces<'a> {
         }
         match invocation {
             Invocation::Run(run) => self.look_ahead_of(run),
-            Invocation::Inspect { module } => refuse_errors(self.rt, module),
+            Invocation::Inspect { module, .. } => refuse_errors(self.rt, module),
             Invocation::Format { file, .. } => refuse_errors(self.rt, file),
             Invocation::Volume { file, .. } => refuse_errors(self.rt, file),
             Invocation::Import { file, .. } => refuse_errors(self.rt, file),

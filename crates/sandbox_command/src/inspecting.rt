@@ -14,7 +14,7 @@ use std::io;
 use std::io::{ErrorKind, Write};
 use stream_answers::Outlet;
 use wasi_calls::call_of;
-use wasm_module::{FuncType, LoadFault};
+use wasm_module::{FuncType, LoadFault, Profile};
 use wasm_store::HostCall;
 
 /// The calls that a guest is given.
@@ -60,19 +60,20 @@ fn survey_ended<W: Write>(
     }
 }
 
-/// Prints what the bytes of a module are, or why they are refused, and gives the status with the streams.
+/// Prints what the bytes of a module are, with what the profile takes, or why they are refused, and gives the status with the streams.
 pub(crate) fn inspect<R: Drop, W1: Outlet + Drop, W2: Write + Drop>(
     alloc: Global,
     bytes: &[u8],
+    profile: Profile,
     given: Streams<R, W1, W2>,
 ) -> Executed<(), R, W1, W2>
-    ensures tells { Inspects bytes.now (W1.contents given.out) (W1.contents result.out) result.flushed result.status }
+    ensures tells { Inspects profile bytes.now (W1.contents given.out) (W1.contents result.out) result.flushed result.status }
     ensures input { result.input ≡ given.input }
     ensures err { AppendsSome (W2.contents given.err) (W2.contents result.err) }
     ensures answered { Answered W1.flushed W1.refuses result.flushed result.out }
 {
     let mut given = given;
-    let surveyed = survey(alloc, &Served, bytes, &mut given.out);
+    let surveyed = survey(alloc, &Served, bytes, profile, &mut given.out);
     let flushed = given.out.try_flush();
     let status = survey_ended(surveyed, flushed, &mut given.err);
     left_with(status, None, flushed, (), given)

@@ -13,6 +13,7 @@ mod host_places;
 mod host_volume;
 mod inspecting;
 pub mod laws;
+mod modules;
 mod opening;
 mod output;
 mod places;

@@ -10,6 +10,7 @@ ghost use Rattle.sandbox_command.specs.Flushing.{Answered, BothAnswered, RunAnsw
 ghost use Rattle.sandbox_command.specs.Status.{status_of, EndsWith, load_status, session_status};
 ghost use Rattle.sandbox_command.specs.Status.{volume_status, words_status, command_line_status};
 ghost use Rattle.sandbox_command.specs.Profiling.{TellsUse, no_stacks};
+ghost use Rattle.sandbox_command.specs.Modules.{profile_for};
 ghost use Rattle.sandbox_command.specs.Stopping.{TellsLines};
 ghost use Rattle.sandbox_command.specs.Streams.{AppendsSome};
 ghost use Rattle.sandbox_command.specs.Reporting.{broken_in, kept_where_not_begun, kept_where_refused, not_run, run_summary, session_reason, volume_of};
@@ -22,6 +23,7 @@ ghost use Rattle.sandbox_command.specs.Execution.{RunsOn, Runs, Executes, StaysW
 use crate::checking::ended_task;
 use crate::ending::ended;
 use crate::explaining::About;
+use crate::modules::profile_for;
 use crate::output::{GREATEST, NOT_COMMITTED, tell, tell_after, tell_fault, tell_outcome};
 use crate::reporting::{
     kept_after_run, kept_where_not_begun, kept_where_refused, not_run, session_reason,
@@ -34,7 +36,7 @@ use crate::supplies::{Supplies, settings, supplied};
 use crate::work::VolumeWork;
 use run_profile::Profile;
 use run_report::{Counted, Cut, End, Fault, Kept, Summary};
-use sandbox_core::{HostParts, LoadFault, Outcome, Report, SessionFault, Tally, Volume};
+use sandbox_core::{HostParts, LoadFault, Outcome, Report, SessionFault, Tally, Volume, load_with};
 use sandbox_words::Run;
 use std::alloc::Global;
 use std::io;
@@ -484,10 +486,10 @@ pub(crate) fn run<D: Device + Drop, R: Inlet + Drop, W1: Outlet + Drop, W2: Outl
     ensures runs { Runs D.honest D.disk D.size D.failures D.goes_on R.remaining W1.contents W2.contents
         run.now «module».now random.now device streams.input streams.out streams.err result.0 }
     ensures answered { RunAnswered W1.flushed W1.refuses W2.flushed W2.refuses result.0 }
-    ensures lines { TellsLines «module».now run.now.frames result.0.stopped result.1.items }
+    ensures lines { TellsLines (profile_for run.now.floats) «module».now run.now.frames result.0.stopped result.1.items }
 {
     let (status, fault) = match supplied(alloc, run) {
-        Ok(supplies) => match sandbox_core::load(alloc, module) {
+        Ok(supplies) => match load_with(alloc, module, profile_for(run.floats)) {
             Ok(valid) => {
                 let once = Runnable::Bare(valid);
                 let (ran, left) = run_valid(

@@ -4,6 +4,7 @@ ghost use Rattle.sandbox_command.specs.Streams.{AppendsSome};
 
 use crate::explaining::{say_meaning, say_part, tell_of_fault, tell_words};
 use crate::inspecting::Served;
+use crate::modules::profile_for;
 use crate::output::{say, say_name, tell};
 use arrayvec::ArrayVec;
 use meanings::{fault_cure, fault_text};
@@ -14,7 +15,7 @@ use sandbox_words::{Invocation, Run};
 use std::alloc::Global;
 use std::io;
 use std::io::Write;
-use wasm_module::{Module, decode};
+use wasm_module::{Module, Profile, decode_with};
 use wasm_store::InstanceFault;
 
 /// What a wrong setting is.
@@ -34,13 +35,13 @@ fn tell_of_part<W: Write>(err: &mut W, name: &str, part: &[u8], meaning: &str, c
 }
 
 /// The part of a module that is to blame for a fault, as `inspect` shows names; nothing where it isn't known.
-fn culprit(alloc: Global, bytes: &[u8], fault: Fault) -> io::Result<Vec<u8>> {
+fn culprit(alloc: Global, bytes: &[u8], profile: Profile, fault: Fault) -> io::Result<Vec<u8>> {
     let mut text = Vec::new(alloc);
     if let Some(offset) = fault.offset() {
-        add_function_at(alloc, &mut text, bytes, offset)?;
+        add_function_at(alloc, &mut text, bytes, profile, offset)?;
     }
     if let Fault::Instance(InstanceFault::Import) = fault {
-        if let Ok(module) = decode(alloc, bytes) {
+        if let Ok(module) = decode_with(alloc, bytes, profile) {
             add_refused_import(&mut text, &Served, &module)?;
         }
     }
@@ -48,10 +49,17 @@ fn culprit(alloc: Global, bytes: &[u8], fault: Fault) -> io::Result<Vec<u8>> {
 }
 
 /// Prints what a fault of a module means, and which part of it is to blame.
-fn tell_of_module<W: Write>(alloc: Global, err: &mut W, name: &str, bytes: &[u8], fault: Fault)
+fn tell_of_module<W: Write>(
+    alloc: Global,
+    err: &mut W,
+    name: &str,
+    bytes: &[u8],
+    profile: Profile,
+    fault: Fault,
+)
     ensures { AppendsSome (W.contents err.old) (W.contents err.new) }
 {
-    match (fault.number(), culprit(alloc, bytes, fault)) {
+    match (fault.number(), culprit(alloc, bytes, profile, fault)) {
         (Some(number), Ok(part)) => tell_of_part(
             err,
             name,
@@ -168,7 +176,14 @@ pub(crate) fn tell_of_refusal<W: Write>(
         Fault::Setting => tell_of_setting(err, run),
         Fault::Preopen => tell_of_fault(err, "--dir", fault),
         Fault::Module(_) | Fault::Instance(_) | Fault::Memory => {
-            tell_of_module(alloc, err, run.module, module, fault);
+            tell_of_module(
+                alloc,
+                err,
+                run.module,
+                module,
+                profile_for(run.floats),
+                fault,
+            );
         }
         Fault::File => {}
     }

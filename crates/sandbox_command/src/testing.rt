@@ -14,6 +14,7 @@ ghost use Rattle.sandbox_command.specs.Streams.{AppendsSome};
 
 use crate::closing::{refuse, unread};
 use crate::explaining::{tell_of_fault, tell_words};
+use crate::modules::profile_for;
 use crate::opening::{memory_of, read_files};
 use crate::output::tell_fault;
 use crate::places::Places;
@@ -25,7 +26,7 @@ use crate::stopping::{lines_of, no_lines};
 use crate::streams::Streams;
 use crate::supplies::{Supplies, supplied};
 use run_report::{End, Fault, Summary};
-use sandbox_core::SessionFault;
+use sandbox_core::{SessionFault, load_with};
 use sandbox_device::RamDevice;
 use sandbox_words::Run;
 use std::alloc::Global;
@@ -323,7 +324,7 @@ fn run_tests<P: Places, W: Write>(
             return session_status(fault);
         }
     };
-    match sandbox_core::load(alloc, module) {
+    match load_with(alloc, module, profile_for(run.floats)) {
         Ok(valid) => {
             let files = Files { module, random };
             let runnable = Runnable::new(alloc, run, valid);

@@ -13,7 +13,7 @@ mod slice;
 mod tally;
 
 pub use fault::SessionFault;
-pub use loading::load;
+pub use loading::{load, load_with};
 pub use report::{Report, run, run_counted, run_counted_with_module};
 pub use resumable::Resumable;
 pub use session::{Finished, RefusedSession, Session};

@@ -4,7 +4,8 @@
 use Rattle.std.specs.Prelude.{◌≡◌, ◌+◌, ◌-◌, ◌^◌, ◌==◌, ℕ, List, ◌++◌, length, min, Option, Some, None, IfSome, if◌then◌else◌, slice_get, codes, decimal}
 use Rattle.wasm_module.specs.declared.module.Body.{Body}
 use Rattle.wasm_module.specs.declared.module.Module.{Module}
-use Rattle.wasm_module.specs.Module.{Spells}
+use Rattle.wasm_module.specs.declared.profile.Profile.{Profile}
+use Rattle.wasm_module.specs.Module.{SpellsWith}
 use Rattle.wasm_interp.specs.declared.frames.Frame.{Frame}
 use Rattle.module_survey.specs.Places.{IsInstructionAt, called}
 use Rattle.sandbox_host.specs.declared.frames.FunctionFrame.{FunctionFrame}
@@ -21,7 +22,7 @@ IsOffset bytes own index told body = (offset : ℕ) × IsInstructionAt bytes own
 -- module.
 pub record TellsFrame (bytes : List ℕ) (m : Module) (number : ℕ) (frame : Frame) (told : FunctionFrame) : Type 0 where
   pub function : told.function ≡ min (length m.imports + frame.own) (2 ^ 32 - 1)
-  pub offset : Spells bytes m → IfSome (slice_get m.bodies frame.own) (IsOffset bytes frame.own (instruction_of number frame.next) told.offset)
+  pub offset : (p : Profile) → SpellsWith p bytes m → IfSome (slice_get m.bodies frame.own) (IsOffset bytes frame.own (instruction_of number frame.next) told.offset)
 
 abbrev pub number_name : ℕ → List ℕ
 number_name function = codes "function[" ++ decimal function ++ codes "]"

@@ -6,7 +6,9 @@ use Rattle.vol_sector.specs.declared.fault.VolumeFault.{VolumeFault}
 use Rattle.wasm_module.specs.declared.module.Module.{Module}
 use Rattle.wasm_module.specs.declared.fault.LoadFault.{LoadFault}
 use Rattle.wasm_module.specs.declared.fault.LoadFault.TheVariants.{Memory}
-use Rattle.wasm_module.specs.Module.{Spells}
+use Rattle.wasm_module.specs.declared.profile.Profile.{Profile}
+use Rattle.wasm_module.specs.declared.profile.Profile.TheVariants.{Integers}
+use Rattle.wasm_module.specs.Module.{SpellsWith}
 use Rattle.wasm_valid.specs.Validity.{IsValid}
 use Rattle.wasm_valid.specs.Refusal.{IsRefusal}
 use Rattle.wasm_store.specs.declared.fault.InstanceFault.{InstanceFault}
@@ -24,18 +26,22 @@ use Rattle.sandbox_host.specs.Numbers.{why_of, instance_number, session_number, 
 use Rattle.sandbox_host.specs.Supplies.{most_pages, is_known, settings_of}
 use Rattle.sandbox_host.specs.Host.{Bytes, HostVolume, IsHonest}
 use Rattle.sandbox_host.specs.Volumes.{IsVolume, RefusesVolume}
-use Rattle.sandbox_host.specs.Sessions.{IsLoaded}
+use Rattle.sandbox_host.specs.Sessions.{IsLoaded, IsLoadedWith}
 
 -- The bytes spell no valid module, but where memory was refused; and no module at all, but where what they spell isn't valid.
-pub record RefusesModule (bytes : List ℕ) (why : LoadFault) : Type 0 where
-  pub no : why ≢ Memory → (m : Module) → Spells bytes m → IsValid m → ⊥
-  pub none : ¬ IsRefusal why → (m : Module) → Spells bytes m → ⊥
+pub record RefusesModule (p : Profile) (bytes : List ℕ) (why : LoadFault) : Type 0 where
+  pub no : why ≢ Memory → (m : Module) → SpellsWith p bytes m → IsValid m → ⊥
+  pub none : ¬ IsRefusal why → (m : Module) → SpellsWith p bytes m → ⊥
 
 -- the module isn't loaded, for this reason
-pub record NotLoaded (bytes : List ℕ) (told : Why) : Type 0 where
+pub record NotLoadedWith (p : Profile) (bytes : List ℕ) (told : Why) : Type 0 where
   pub fault : LoadFault
-  pub refuses : RefusesModule bytes fault
+  pub refuses : RefusesModule p bytes fault
   pub tells : told ≡ why_of fault
+
+-- the same without floats
+abbrev pub NotLoaded : List ℕ → Why → Type 0
+NotLoaded bytes = NotLoadedWith Integers bytes
 
 -- the volume isn't opened, for a reason with this number
 pub record NoVolume (origin : Origin) (number : ℕ) : Type 0 where
@@ -85,15 +91,19 @@ abbrev pub NotReady : Module → Limits → ℕ → Type 0
 NotReady m limits number = (((is_known limits ≡ false) ⊎ (65536 < most_pages limits)) × (number ≡ 15)) ⊎ (NoInstance m limits number ⊎ (number ≡ 40))
 
 -- the module was loaded, and isn't prepared for these limits
-pub record NotReadyFrom (bytes : List ℕ) (limits : Limits) (number : ℕ) : Type 0 where
+pub record NotReadyFrom (p : Profile) (bytes : List ℕ) (limits : Limits) (number : ℕ) : Type 0 where
   pub m : Module
-  pub is_loaded : IsLoaded bytes m
+  pub is_loaded : IsLoadedWith p bytes m
   pub why : NotReady m limits number
 
 -- A module isn't loaded and prepared: it is refused, which is told, or its limits are.
+abbrev pub NotPreparedWith : Profile → List ℕ → Limits → ℕ → Why → Why → Type 0
+NotPreparedWith p bytes limits number before after =
+    ((number ≡ after.fault) × NotLoadedWith p bytes after) ⊎ (NotReadyFrom p bytes limits number × (after ≡ before))
+
+-- the same without floats
 abbrev pub NotPrepared : List ℕ → Limits → ℕ → Why → Why → Type 0
-NotPrepared bytes limits number before after =
-    ((number ≡ after.fault) × NotLoaded bytes after) ⊎ (NotReadyFrom bytes limits number × (after ≡ before))
+NotPrepared bytes = NotPreparedWith Integers bytes
 
 -- the module was loaded, and no session of it begins, or memory for it was refused
 pub record NotBegunFrom (bytes : List ℕ) (supplies : Supplies) (origin : Origin) (number : ℕ) : Type 0 where

@@ -4,7 +4,9 @@
 use Rattle.std.specs.Prelude.{◌≡◌, ◌-◌, ◌^◌, ◌==◌, ℕ, Bool, true, false, List, [], length, take, drop, ◌++◌, min, max, Option, Some, None, Result, Ok, Err, if◌then◌else◌}
 use Rattle.vol_sector.specs.declared.fault.Refused.{Refused}
 use Rattle.wasm_module.specs.declared.module.Module.{Module}
-use Rattle.wasm_module.specs.Module.{Spells}
+use Rattle.wasm_module.specs.declared.profile.Profile.{Profile}
+use Rattle.wasm_module.specs.declared.profile.Profile.TheVariants.{Integers}
+use Rattle.wasm_module.specs.Module.{SpellsWith}
 use Rattle.wasm_valid.specs.Validity.{IsValid}
 use Rattle.wasm_steps.specs.declared.pause.Pause.{Pause}
 use Rattle.sandbox_core.specs.Session.{given, used_by}
@@ -195,10 +197,14 @@ pub record Begins (m : Module) (supplies : Supplies) (origin : Origin) (s : Stat
   pub opens : Opens m (given (settings_of supplies) volume supplies.input out err) s
   pub shares : Shares (given (settings_of supplies) volume supplies.input out err) s
 
--- the module that the bytes spell, which is valid
-pub record IsLoaded (bytes : List ℕ) (m : Module) : Type 0 where
-  pub spells : Spells bytes m
+-- the module that the bytes spell, with what the profile takes, which is valid
+pub record IsLoadedWith (p : Profile) (bytes : List ℕ) (m : Module) : Type 0 where
+  pub spells : SpellsWith p bytes m
   pub valid : IsValid m
+
+-- the same without floats
+abbrev pub IsLoaded : List ℕ → Module → Type 0
+IsLoaded bytes = IsLoadedWith Integers bytes
 
 -- a session that begins, of the module that the bytes spell
 pub record BeginsFrom (bytes : List ℕ) (supplies : Supplies) (origin : Origin) (s : State) : Type 0 where

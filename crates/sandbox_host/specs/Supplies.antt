@@ -2,9 +2,15 @@
 -- the input is left out of `settings_of`: a session takes it beside its settings.
 use Rattle.std.specs.Prelude.{◌==◌, ℕ, Bool, if◌then◌else◌}
 use Rattle.std.specs.List.{list_all}
+use Rattle.wasm_module.specs.declared.profile.Profile.{Profile}
+use Rattle.wasm_module.specs.declared.profile.Profile.TheVariants.{Integers, Floats}
 use Rattle.wasi_calls.specs.declared.host.settings.Settings.{Settings}
 use Rattle.sandbox_host.specs.declared.supplies.Limits.{Limits}
 use Rattle.sandbox_host.specs.declared.supplies.Supplies.{Supplies}
+
+-- what a module may hold: 0 takes none with floats
+abbrev pub profile_of : ℕ → Profile
+profile_of floats = if floats == 0 then Integers else Floats
 
 -- a limit, or its default where it is 0
 abbrev pub limit_or : ℕ → ℕ → ℕ

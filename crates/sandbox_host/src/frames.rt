@@ -2,7 +2,8 @@
 
 ghost use Rattle.std.specs.Prelude.{◌≡◌, ◌-◌, ◌^◌, min, None, IfSome, is_none, true, length, slice_get};
 ghost use Rattle.wasm_interp.specs.Frames.{frames_of};
-ghost use Rattle.wasm_module.specs.Module.{Spells};
+ghost use Rattle.wasm_module.specs.declared.profile.Profile.{Profile as ProfileValue};
+ghost use Rattle.wasm_module.specs.Module.{SpellsWith};
 ghost use Rattle.sandbox_host.specs.Sessions.{running, state_of, bytes_of, IsShown};
 ghost use Rattle.sandbox_host.specs.Frames.{instruction_of, IsOffset, TellsFrame, name_of, number_name};
 
@@ -56,7 +57,7 @@ fn offset_of(
     own: usize,
     instruction: usize,
 ) -> u32
-    ensures told { Spells bytes.old «module».now → IfSome (slice_get «module».now.bodies own) (IsOffset bytes.old own instruction result) }
+    ensures told { (p : ProfileValue) → SpellsWith p bytes.old «module».now → IfSome (slice_get «module».now.bodies own) (IsOffset bytes.old own instruction result) }
     ensures kept { bytes.new ≡ bytes.old }
 {
     let Some(body) = module.module().bodies.as_slice().get(own) else {

@@ -1,9 +1,10 @@
 //! Modules that are loaded, and sessions that begin.
 
 ghost use Rattle.std.specs.Prelude.{◌≡◌, ◌≢◌, ◌⊎◌, None, Some, IfOk, IfErr, IfSome, IsSomeAnd, is_none, true, false};
-ghost use Rattle.sandbox_host.specs.Sessions.{running, running_in, loaded, loaded_in, prepared, prepared_in, bytes_of, bytes_in, module_of, ready_of, state_of, ready_with, IsLoaded, Begins, BeginsFrom};
+ghost use Rattle.sandbox_host.specs.Sessions.{running, running_in, loaded, loaded_in, prepared, prepared_in, bytes_of, bytes_in, module_of, ready_of, state_of, ready_with, IsLoaded, IsLoadedWith, Begins, BeginsFrom};
 ghost use Rattle.sandbox_host.specs.Volumes.{origin_of};
-ghost use Rattle.sandbox_host.specs.Refusals.{NotLoaded, NotBegun, NotBegunOf, NotOpened};
+ghost use Rattle.sandbox_host.specs.Supplies.{profile_of};
+ghost use Rattle.sandbox_host.specs.Refusals.{NotLoaded, NotLoadedWith, NotBegun, NotBegunOf, NotOpened};
 
 use crate::handle::Handle;
 use crate::held::{Begun, Held};
@@ -14,7 +15,7 @@ use crate::numbers::{
 };
 use crate::session::{HostSession, OwnSession};
 use crate::sharing::{SharedHostSession, Sharing};
-use crate::supplies::Supplies;
+use crate::supplies::{Supplies, profile_of};
 use crate::volumes::{Origin, VolumeSource, open_volume};
 use module_survey::ModuleBytes;
 use sandbox_core::{RefusedParts, RefusedSession, Session, SharedModule, SharedSession, Valid};
@@ -33,7 +34,16 @@ pub(crate) fn load<'a>(alloc: Global, bytes: &'a [u8]) -> Result<Valid<'a>, Why>
     ensures refused { IfErr result (NotLoaded bytes.now) }
     ensures some { IfErr result (λ why. why.fault ≢ 0) }
 {
-    match sandbox_core::load(alloc, bytes) {
+    load_with(alloc, bytes, 0)
+}
+
+/// The same of a module that may have floats, where that isn't 0.
+pub(crate) fn load_with<'a>(alloc: Global, bytes: &'a [u8], floats: u32) -> Result<Valid<'a>, Why>
+    ensures loaded { IfOk result (IsLoadedWith (profile_of floats) bytes.now) }
+    ensures refused { IfErr result (NotLoadedWith (profile_of floats) bytes.now) }
+    ensures some { IfErr result (λ why. why.fault ≢ 0) }
+{
+    match sandbox_core::load_with(alloc, bytes, profile_of(floats)) {
         Ok(valid) => Ok(valid),
         Err(fault) => Err(why_of(fault)),
     }
@@ -238,10 +248,29 @@ pub fn load_module(alloc: Global, module: &mut Handle, bytes: &'static [u8], why
         × (((result ≡ why.new.fault) × NotLoaded bytes.now why.new) ⊎ ((result ≡ 40) × (why.new ≡ why.old))) }
     ensures bytes { result ≡ 0 → bytes_of «module».new.held ≡ bytes.now }
 {
+    load_module_with(alloc, module, bytes, 0, why)
+}
+
+/// The same of a module that may have floats, where that isn't 0.
+pub fn load_module_with(
+    alloc: Global,
+    module: &mut Handle,
+    bytes: &'static [u8],
+    floats: u32,
+    why: &mut Why,
+) -> u32
+    ensures misuse { is_none «module».old.held ≡ false
+        → (result ≡ MISUSE) × («module».new ≡ «module».old) × (why.new ≡ why.old) }
+    ensures loaded { is_none «module».old.held ≡ true → result ≡ 0
+        → IsSomeAnd (loaded «module».new.held) (IsLoadedWith (profile_of floats) bytes.now) × (prepared «module».new.held ≡ None) × (why.new ≡ why.old) }
+    ensures refused { is_none «module».old.held ≡ true → result ≢ 0 → («module».new.held ≡ None)
+        × (((result ≡ why.new.fault) × NotLoadedWith (profile_of floats) bytes.now why.new) ⊎ ((result ≡ 40) × (why.new ≡ why.old))) }
+    ensures bytes { result ≡ 0 → bytes_of «module».new.held ≡ bytes.now }
+{
     if !module.is_closed() {
         return MISUSE;
     }
-    match load(alloc, bytes) {
+    match load_with(alloc, bytes, floats) {
         Ok(valid) => {
             let loaded = LoadedModule::Plain(valid);
             keep(alloc, module, Held::Loaded(loaded, ModuleBytes::new(bytes)))

@@ -1,15 +1,15 @@
 //! Modules that are prepared once, for any number of sessions.
 
 ghost use Rattle.std.specs.Prelude.{◌≡◌, ◌≢◌, ◌⊎◌, None, Some, IfOk, IfErr, IfSome, IsSomeAnd, is_none, false, true};
-ghost use Rattle.sandbox_host.specs.Sessions.{loaded, prepared, bytes_of, has_module, IsLoaded};
-ghost use Rattle.sandbox_host.specs.Supplies.{most_pages};
-ghost use Rattle.sandbox_host.specs.Refusals.{NotReady, NotPrepared};
+ghost use Rattle.sandbox_host.specs.Sessions.{loaded, prepared, bytes_of, has_module, IsLoaded, IsLoadedWith};
+ghost use Rattle.sandbox_host.specs.Supplies.{most_pages, profile_of};
+ghost use Rattle.sandbox_host.specs.Refusals.{NotReady, NotPrepared, NotPreparedWith};
 
 use crate::handle::Handle;
 use crate::held::Held;
 use crate::modules::LoadedModule;
 use crate::numbers::{MISUSE, OUT_OF_MEMORY, SETTING, Why, session_number};
-use crate::opening::{keep, load};
+use crate::opening::{keep, load_with};
 use crate::supplies::Limits;
 use module_survey::ModuleBytes;
 use sandbox_core::{SessionFault, SharedModule, Valid};
@@ -58,10 +58,32 @@ pub fn prepare(
         × NotPrepared bytes.now limits.now result why.old why.new }
     ensures bytes { result ≡ 0 → bytes_of «module».new.held ≡ bytes.now }
 {
+    prepare_with(alloc, module, bytes, limits, 0, why)
+}
+
+/// The same of a module that may have floats, where that isn't 0.
+pub fn prepare_with(
+    alloc: Global,
+    module: &mut Handle,
+    bytes: &'static [u8],
+    limits: &Limits,
+    floats: u32,
+    why: &mut Why,
+) -> u32
+    ensures misuse { is_none «module».old.held ≡ false
+        → (result ≡ MISUSE) × («module».new ≡ «module».old) × (why.new ≡ why.old) }
+    ensures loaded { is_none «module».old.held ≡ true → result ≡ 0
+        → IsSomeAnd (loaded «module».new.held) (IsLoadedWith (profile_of floats) bytes.now) × (why.new ≡ why.old) }
+    ensures prepared { is_none «module».old.held ≡ true → result ≡ 0
+        → IsSomeAnd (prepared «module».new.held) (λ ready. ready.pages ≡ most_pages limits.now) }
+    ensures refused { is_none «module».old.held ≡ true → result ≢ 0 → («module».new.held ≡ None)
+        × NotPreparedWith (profile_of floats) bytes.now limits.now result why.old why.new }
+    ensures bytes { result ≡ 0 → bytes_of «module».new.held ≡ bytes.now }
+{
     if !module.is_closed() {
         return MISUSE;
     }
-    let valid = match load(alloc, bytes) {
+    let valid = match load_with(alloc, bytes, floats) {
         Ok(valid) => valid,
         Err(told) => {
             *why = told;

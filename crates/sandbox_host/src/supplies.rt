@@ -1,8 +1,10 @@
 //! What a host hands in of a guest.
 
 ghost use Rattle.std.specs.Prelude.{◌≡◌};
+ghost use Rattle.sandbox_host.specs.Supplies.{profile_of};
 
 use sandbox_core::{Preopen, Settings};
+use wasm_module::Profile;
 
 /// The pages of memory that a guest may have where its host names no number.
 const PAGES: u32 = 1_024;
@@ -12,6 +14,17 @@ const VALUES: u32 = 1_048_576;
 
 /// And the bytes on each of its streams.
 const OUTPUT: u64 = 16_777_216;
+
+/// What a module may hold: floats, where that isn't 0.
+pub(crate) fn profile_of(floats: u32) -> Profile
+    ensures { result ≡ profile_of floats }
+{
+    if floats == 0 {
+        Profile::Integers
+    } else {
+        Profile::Floats
+    }
+}
 
 /// The most that a guest may have. 0 stands for the default of each.
 #[repr(C)]

@@ -92,6 +92,7 @@ run_rules = text_rule (codes "volume") ∷ text_rule (codes "image") ∷ text_ru
     ∷ texts_rule (codes "dir") ∷ texts_rule (codes "env") ∷ number_rule (codes "moment") u64_numbers
     ∷ text_rule (codes "random") ∷ number_rule (codes "seed") u64_numbers
     ∷ text_rule (codes "stdin") ∷ text_rule (codes "stdout") ∷ text_rule (codes "stderr") ∷ flag_rule (codes "interactive")
+    ∷ flag_rule (codes "floats")
     ∷ text_rule (codes "name") ∷ text_rule (codes "report") ∷ number_rule (codes "frames") u32_numbers
     ∷ text_rule (codes "profile") ∷ number_rule (codes "profile-every") u64_numbers ∷ text_rule (codes "tests")
     ∷ word_rule (codes "MODULE") ∷ words_rule (codes "WORD") ∷ []
@@ -102,7 +103,7 @@ run_app = app_with (codes "run") run_rules
 
 -- `inspect`, of a module
 abbrev pub inspect_app : App
-inspect_app = app_with (codes "inspect") (word_rule (codes "MODULE") ∷ [])
+inspect_app = app_with (codes "inspect") (word_rule (codes "MODULE") ∷ flag_rule (codes "floats") ∷ [])
 
 -- a command on the volume in a file
 abbrev pub file_app : Text → App
@@ -204,6 +205,7 @@ pub record AsksRun (rows : List Row) (run : Run) : Type 0 where
   pub stdout : text_in run.stdout ≡ first_of (codes "stdout") rows
   pub stderr : text_in run.stderr ≡ first_of (codes "stderr") rows
   pub interactive : IsTrue run.interactive ↔ IsFlagged (codes "interactive") rows
+  pub floats : IsTrue run.floats ↔ IsFlagged (codes "floats") rows
   pub name : text_in run.name ≡ first_of (codes "name") rows
   pub report : text_in run.report ≡ first_of (codes "report") rows
   pub frames : run.frames ≡ number_or 16 32 (codes "frames") rows
@@ -255,4 +257,5 @@ AsksFor name rows (asked.Format file sectors slots large huge new) = (name ≡ c
 AsksFor name rows (asked.Volume file task) = (file.now ≡ word_of (codes "FILE") rows) × AsksTask name rows task
 AsksFor name rows (asked.Import file path) = (name ≡ codes "import") × (file.now ≡ word_of (codes "FILE") rows) × (path.now ≡ word_of (codes "PATH") rows)
 AsksFor name rows (asked.Export file path) = (name ≡ codes "export") × (file.now ≡ word_of (codes "FILE") rows) × (path.now ≡ word_of (codes "PATH") rows)
-AsksFor name rows (asked.Inspect «module») = (name ≡ codes "inspect") × («module».now ≡ word_of (codes "MODULE") rows)
+AsksFor name rows (asked.Inspect «module» floats) = (name ≡ codes "inspect") × («module».now ≡ word_of (codes "MODULE") rows)
+    × (IsTrue floats ↔ IsFlagged (codes "floats") rows)

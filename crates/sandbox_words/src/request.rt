@@ -58,6 +58,8 @@ pub struct Run<'a> {
     pub stderr: Option<&'a str>,
     /// A read of its standard input gives what is there, and it is told which of its streams are terminals.
     pub interactive: bool,
+    /// The module may have floats.
+    pub floats: bool,
     /// Which of its streams are terminals. No word says it: who has the streams notes it.
     pub terminals: Terminals,
     /// The guest's argument 0; where there is none, it gets the word that names the module.
@@ -154,9 +156,10 @@ pub enum Invocation<'a> {
         file: &'a str,
         path: &'a str,
     },
-    /// Print what a module needs and offers, or why it is refused.
+    /// Print what a module needs and offers, or why it is refused; it may have floats, where they are asked for.
     Inspect {
         module: &'a str,
+        floats: bool,
     },
 }
 

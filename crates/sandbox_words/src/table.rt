@@ -92,8 +92,14 @@ const HUGE: Argument = Argument {
     help: "Make it one of version 4, whose files have up to 1082225664 bytes",
 };
 
-/// The one argument of a command on a module.
-static INSPECT: [Argument; 1] = [MODULE];
+const FLOATS: Argument = Argument {
+    name: "floats",
+    takes: Takes::Flag,
+    help: "Take a module with floats, f32 and f64, too",
+};
+
+/// The arguments of `inspect`.
+static INSPECT: [Argument; 2] = [MODULE, FLOATS];
 
 /// The one argument of a command on a whole volume.
 static ON_VOLUME: [Argument; 1] = [VOLUME];
@@ -132,7 +138,7 @@ static PUT: [Argument; 3] = [
 ];
 
 /// The arguments of `run`.
-static RUN: [Argument; 24] = [
+static RUN: [Argument; 25] = [
     Argument {
         name: "volume",
         takes: Takes::Text("FILE"),
@@ -213,6 +219,7 @@ static RUN: [Argument; 24] = [
         takes: Takes::Flag,
         help: "A read of its standard input gives what is there; it is told which streams are terminals",
     },
+    FLOATS,
     Argument {
         name: "name",
         takes: Takes::Text("WORD"),

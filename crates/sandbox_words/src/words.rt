@@ -244,6 +244,7 @@ fn run_with<'a>(
         stdout: option_text(matches, "stdout"),
         stderr: option_text(matches, "stderr"),
         interactive: is_flagged(matches, "interactive"),
+        floats: is_flagged(matches, "floats"),
         terminals: NO_TERMINALS,
         name: option_text(matches, "name"),
         report: option_text(matches, "report"),
@@ -340,7 +341,10 @@ fn other_given<'a>(name: &str, matches: &ArgMatches<'a>) -> Option<Invocation<'a
         }),
         "import" => Some(Invocation::Import { file, path }),
         "export" => Some(Invocation::Export { file, path }),
-        "inspect" => Some(Invocation::Inspect { module }),
+        "inspect" => Some(Invocation::Inspect {
+            module,
+            floats: is_flagged(matches, "floats"),
+        }),
         _ => match task_given(name, matches) {
             Some(task) => Some(Invocation::Volume { file, task }),
             None => None,

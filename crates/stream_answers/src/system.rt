@@ -18,7 +18,7 @@ impl Inlet for File {
     }
 }
 
-impl Inlet for StdinLock<'_> {
+impl Inlet for StdinLock<'static> {
     ghost gave = { λ before bytes after. WasGiven before bytes after };
 
     ghost refused = { λ before after. HasRefused before after };

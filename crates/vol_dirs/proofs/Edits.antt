@@ -13,69 +13,8 @@ use Rattle.vol_dirs.specs.internal.Rising.{Rises}
 use Rattle.vol_dirs.specs.internal.Rising.{TiesAreEqual, AddsItem, Drops}
 use Rattle.vol_dirs.proofs.Search.{less_back, not_itself}
 
--- the items of a list with one in front
-in_front : {X : Type 0} (x y : X) (xs : List X) → Contains (x ∷ xs) y → Contains xs y ⊎ (x ≡ y)
-in_front x y xs has = elim (Contains-append_cases (x ∷ []) xs y has) [
-  | inl first ↦ elim (Contains-push_cases [] x y first) [
-    | inl none ↦ absurd (omega (arith, none.1))
-    | inr same ↦ inr same
-  ]
-  | inr rest ↦ inl rest
-]
-
-pub insert_adds : {X : Type 0} (xs : List X) (at : ℕ) (x : X) → AddsItem xs (insert xs at x) x
-insert_adds xs at x =
-    let new = insert xs at x in
-    let moved : IsPermutation (x ∷ xs) new = IsPermutation-insert xs at x in
-    record {
-      kept = λ y has. Contains-permutation (x ∷ xs) new y moved (Contains-append_right (x ∷ []) xs y has);
-      there = Contains-permutation (x ∷ xs) new x moved (Contains-append_left (x ∷ []) xs x (Contains-push [] x));
-      only = λ y has. in_front x y xs (Contains-permutation new (x ∷ xs) y (IsPermutation-sym (x ∷ xs) new moved) has);
-    }
-
 module _ {X : Type 0} {order : X → X → Ordering} (o : IsTotalOrder order) (ties : TiesAreEqual order) (xs : List X) (rises : Rises order xs) (x : X) (at : ℕ) where
-  -- an item that is there already
-  pub adds_nothing : at < length xs → HoldsAt (λ y. order y x ≡ Equal) xs at → AddsItem xs xs x
-  adds_nothing there tied = record {
-    kept = λ y has. has;
-    there = (at, there, ties (get_or xs at x) x (tied x));
-    only = λ y has. inl has;
-  }
-
-  pub remove_drops : at < length xs → HoldsAt (λ y. order y x ≡ Equal) xs at → Drops xs (remove xs at) x
-  remove_drops there tied =
-      let new = remove xs at in
-      let is : get_or xs at x ≡ x = ties (get_or xs at x) x (tied x) in
-      let moved : IsPermutation xs (x ∷ new) = IsPermutation-remove xs at x there (sym is) in
-      let shorter : length new + 1 ≡ length xs = length-remove xs at there in
-      record {
-        kept = λ y has. in_front x y new (Contains-permutation xs (x ∷ new) y moved has);
-        gone = λ has.
-            let k = has.0 in
-            let inside : k < length new = has.1 in
-            elim (cases_lt k at) [
-              | inl lt ↦
-                  let here = get_or-remove_below xs at x k lt there in
-                  not_itself o (get_or xs k x) (get_or xs at x) (sym here ∙ (has.2 ∙ sym is)) (rises k at x lt there)
-              | inr le ↦
-                  let here = get_or-remove_above xs at x k le there in
-                  not_itself o (get_or xs at x) (get_or xs (k + 1) x) (is ∙ (sym has.2 ∙ here)) (rises at (k + 1) x (omega arith) (omega arith))
-            ];
-        only = λ y has. Contains-permutation (x ∷ new) xs y (IsPermutation-sym xs (x ∷ new) moved) (Contains-append_right (x ∷ []) new y has);
-      }
-
   module _ (within : at ≤ length xs) (parted : IsPartitionPoint (λ y. order y x ≡ Less) (λ y. order y x ≡ Greater) xs at) where
-    -- an item that isn't there
-    pub drops_nothing : Drops xs xs x
-    drops_nothing = record {
-      kept = λ y has. inl has;
-      gone = λ has. elim (cases_lt has.0 at) [
-        | inl lt ↦ not_itself o (get_or xs has.0 x) x has.2 (parted.0 has.0 x (omega arith) lt)
-        | inr le ↦ not_itself o x (get_or xs has.0 x) (sym has.2) (less_back o (get_or xs has.0 x) x (parted.1 has.0 x le has.1))
-      ];
-      only = λ y has. has;
-    }
-
     longer : length (insert xs at x) ≡ length xs + 1
     longer = length-insert xs at x within
 

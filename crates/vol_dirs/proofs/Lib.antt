@@ -1,7 +1,10 @@
 pub mod Search
 pub mod Edits
 pub mod Orders
+pub mod Apart
 pub mod Places
+pub mod Merging
+pub mod Late
 pub mod Spelled
 pub mod Room
 pub mod Listings

@@ -1,27 +1,35 @@
 -- What an entry more or less does to the keys and the children.
-use Rattle.std.proofs.Common.{◌≡◌, ◌≢◌, ◌⊎◌, ◌↔◌, inl, inr, ℕ, ◌≤◌, ◌<◌, ◌^◌, List, [], sym, ◌∙◌, ap, subst, arith}
+use Rattle.std.proofs.Common.{◌≡◌, ◌≢◌, ◌⊎◌, ◌↔◌, inl, inr, ℕ, ◌≤◌, ◌<◌, ◌^◌, Bool, true, false, List, [], take, refl, sym, ◌∙◌, ap, subst, arith}
 use Rattle.std.specs.List.{Contains}
-use Rattle.vol_dirs.specs.internal.Rising.{Rises}
+use Rattle.std.specs.Prelude.{bytes_eq}
+use Rattle.std.proofs.lemmas.Bool.{false≢true}
+use Rattle.std.proofs.lemmas.Slice.Eq.{bytes_eq-Decides}
+use Rattle.byteorder.specs.Endian.{big_bytes}
 use Rattle.vol_dirs.specs.internal.Rising.{AddsItem, Drops}
 use Rattle.vol_dirs.specs.Key.{key_of, IsPlain}
 use Rattle.vol_dirs.specs.internal.Key.{parent_in, name_in, IsKey}
 use Rattle.vol_dirs.specs.Listing.{HoldsEntry}
-use Rattle.vol_dirs.specs.internal.Listing.{IsListing, key_order, child_order}
-use Rattle.vol_dirs.proofs.Spelled.{parent_of_key, key_is, plain_in_key, same_key}
+use Rattle.vol_dirs.specs.internal.Listing.{IsListing}
+use Rattle.vol_dirs.proofs.Spelled.{child_of_key, key_is, plain_in_key, same_key}
+
+equal_or_not : (a b : List ℕ) → (a ≡ b) ⊎ (a ≢ b)
+equal_or_not a b = by (bytes_eq a b) refl
+  where
+    by : (r : Bool) → bytes_eq a b ≡ r → (a ≡ b) ⊎ (a ≢ b)
+    by true is = inl ((bytes_eq-Decides a b).0 is)
+    by false is = inr (λ same. false≢true (sym is ∙ (bytes_eq-Decides a b).1 same))
 
 -- nothing is held
 pub no_listing : (slots : ℕ) → IsListing slots [] []
 no_listing slots = record {
-  keys_rise = λ i j d lt there. absurd (omega arith);
-  children_rise = λ i j d lt there. absurd (omega arith);
   numbered = λ key s has. absurd (omega (arith, has.1));
   formed = λ key s has. absurd (omega (arith, has.1));
   one_each = λ key other s has also. absurd (omega (arith, has.1));
-  no_more = λ p s has none. omega (arith, has.1);
+  no_more = λ child s has none. omega (arith, has.1);
   no_fewer = λ key s has none. omega (arith, has.1);
 }
 
-module _ (slots : ℕ) (keys : List (List ℕ × ℕ)) (children : List (ℕ × ℕ)) (is : IsListing slots keys children) where
+module _ (slots : ℕ) (keys : List (List ℕ × ℕ)) (children : List (List ℕ × ℕ)) (is : IsListing slots keys children) where
   -- each key that is held is that of a name
   pub name_held : (key : List ℕ) (s : ℕ) → Contains keys (key, s) → HoldsEntry keys (parent_in key) (name_in key) s
   name_held key s has =
@@ -35,15 +43,23 @@ module _ (slots : ℕ) (keys : List (List ℕ × ℕ)) (children : List (ℕ × 
   pub key_free : (s : ℕ) → ((p : ℕ) (n : List ℕ) → HoldsEntry keys p n s → ⊥) → (key : List ℕ) → Contains keys (key, s) → ⊥
   key_free s free key has = free (parent_in key) (name_in key) (name_held key s has)
 
+  -- and a serial that isn't held is no child's
+  pub child_free : (s : ℕ) → ((key : List ℕ) → Contains keys (key, s) → ⊥) → (child : List ℕ) → Contains children (child, s) → ⊥
+  child_free s free child has = is.no_more child s has (λ key held parent. free key held)
+
+  -- a serial that is held has one child, of its entry's directory
+  pub only_child : (p : ℕ) (n : List ℕ) (s : ℕ) → HoldsEntry keys p n s → (child : List ℕ) → Contains children (child, s) → child ≡ big_bytes 4 p
+  only_child p n s h child has = elim (equal_or_not child (big_bytes 4 p)) [
+    | inl same ↦ same
+    | inr differ ↦ absurd (is.no_more child s has (λ key held parent. differ (sym parent ∙ ap (λ (l : List ℕ). take 4 l) (is.one_each key (key_of p n) s held h.held) ∙ child_of_key p n)))
+  ]
+
   pub one_name : (p q : ℕ) (n m : List ℕ) (s : ℕ) → HoldsEntry keys p n s → HoldsEntry keys q m s → (p ≡ q) × (n ≡ m)
   one_name p q n m s one other = same_key p q n m one.narrow other.narrow one.plain other.plain (is.one_each (key_of p n) (key_of q m) s one.held other.held)
 
-  module _ (p s : ℕ) (n : List ℕ) (narrow : p < 2 ^ 32) (plain : IsPlain n) (new_keys : List (List ℕ × ℕ)) (new_children : List (ℕ × ℕ)) where
-    pub listing_more : 1 ≤ s → s ≤ slots → ((key : List ℕ) → Contains keys (key, s) → ⊥) → AddsItem keys new_keys (key_of p n, s) → AddsItem children new_children (p, s)
-        → Rises key_order new_keys → Rises child_order new_children → IsListing slots new_keys new_children
-    listing_more first last free more more_children keys_rise children_rise = record {
-      keys_rise = keys_rise;
-      children_rise = children_rise;
+  module _ (p s : ℕ) (n : List ℕ) (narrow : p < 2 ^ 32) (plain : IsPlain n) (new_keys : List (List ℕ × ℕ)) (new_children : List (List ℕ × ℕ)) where
+    pub listing_more : 1 ≤ s → s ≤ slots → ((key : List ℕ) → Contains keys (key, s) → ⊥) → AddsItem keys new_keys (key_of p n, s) → AddsItem children new_children (big_bytes 4 p, s) → IsListing slots new_keys new_children
+    listing_more first last free more more_children = record {
       numbered = λ key t has. elim (more.only (key, t) has) [
         | inl old ↦ is.numbered key t old
         | inr this ↦ let serial = ap (λ (x : List ℕ × ℕ). x.1) this in (omega (arith, serial), omega (arith, serial))
@@ -62,38 +78,35 @@ module _ (slots : ℕ) (keys : List (List ℕ × ℕ)) (children : List (ℕ × 
           | inr this2 ↦ sym (ap (λ (x : List ℕ × ℕ). x.0) this) ∙ ap (λ (x : List ℕ × ℕ). x.0) this2
         ]
       ];
-      no_more = λ q t has none. elim (more_children.only (q, t) has) [
-        | inl old ↦ is.no_more q t old (λ key held parent. none key (more.kept (key, t) held) parent)
-        | inr this ↦ none (key_of p n) (subst (λ (u : ℕ). Contains new_keys (key_of p n, u)) (ap (λ (x : ℕ × ℕ). x.1) this) more.there) (parent_of_key p n narrow plain ∙ ap (λ (x : ℕ × ℕ). x.0) this)
+      no_more = λ child t has none. elim (more_children.only (child, t) has) [
+        | inl old ↦ is.no_more child t old (λ key held parent. none key (more.kept (key, t) held) parent)
+        | inr this ↦ none (key_of p n) (subst (λ (u : ℕ). Contains new_keys (key_of p n, u)) (ap (λ (x : List ℕ × ℕ). x.1) this) more.there) (child_of_key p n ∙ ap (λ (x : List ℕ × ℕ). x.0) this)
       ];
       no_fewer = λ key t has none. elim (more.only (key, t) has) [
-        | inl old ↦ is.no_fewer key t old (λ child. none (more_children.kept (parent_in key, t) child))
+        | inl old ↦ is.no_fewer key t old (λ child. none (more_children.kept (take 4 key, t) child))
         | inr this ↦
-            let parent : p ≡ parent_in key = sym (parent_of_key p n narrow plain) ∙ ap (λ (x : List ℕ × ℕ). parent_in x.0) this in
+            let parent : big_bytes 4 p ≡ take 4 key = sym (child_of_key p n) ∙ ap (λ (x : List ℕ × ℕ). take 4 x.0) this in
             let serial : s ≡ t = ap (λ (x : List ℕ × ℕ). x.1) this in
-            none (subst (λ (x : ℕ × ℕ). Contains new_children x) (λ i. (parent i, serial i)) more_children.there)
+            none (subst (λ (x : List ℕ × ℕ). Contains new_children x) (λ i. (parent i, serial i)) more_children.there)
       ];
     }
 
-    pub listing_less : Contains keys (key_of p n, s) → Drops keys new_keys (key_of p n, s) → Drops children new_children (p, s)
-        → Rises key_order new_keys → Rises child_order new_children → IsListing slots new_keys new_children
-    listing_less held less less_children keys_rise children_rise = record {
-      keys_rise = keys_rise;
-      children_rise = children_rise;
+    pub listing_less : Contains keys (key_of p n, s) → Drops keys new_keys (key_of p n, s) → Drops children new_children (big_bytes 4 p, s) → IsListing slots new_keys new_children
+    listing_less held less less_children = record {
       numbered = λ key t has. is.numbered key t (less.only (key, t) has);
       formed = λ key t has. is.formed key t (less.only (key, t) has);
       one_each = λ key other t has also. is.one_each key other t (less.only (key, t) has) (less.only (other, t) also);
-      no_more = λ q t has none. is.no_more q t (less_children.only (q, t) has) (λ key old parent. elim (less.kept (key, t) old) [
+      no_more = λ child t has none. is.no_more child t (less_children.only (child, t) has) (λ key old parent. elim (less.kept (key, t) old) [
         | inl still ↦ none key still parent
         | inr this ↦
-            let same_parent : q ≡ p = sym parent ∙ sym (ap (λ (x : List ℕ × ℕ). parent_in x.0) this) ∙ parent_of_key p n narrow plain in
+            let same_parent : child ≡ big_bytes 4 p = sym parent ∙ sym (ap (λ (x : List ℕ × ℕ). take 4 x.0) this) ∙ child_of_key p n in
             let same_serial : t ≡ s = sym (ap (λ (x : List ℕ × ℕ). x.1) this) in
-            less_children.gone (subst (λ (x : ℕ × ℕ). Contains new_children x) (λ i. (same_parent i, same_serial i)) has)
+            less_children.gone (subst (λ (x : List ℕ × ℕ). Contains new_children x) (λ i. (same_parent i, same_serial i)) has)
       ]);
-      no_fewer = λ key t has none. is.no_fewer key t (less.only (key, t) has) (λ child. elim (less_children.kept (parent_in key, t) child) [
+      no_fewer = λ key t has none. is.no_fewer key t (less.only (key, t) has) (λ child. elim (less_children.kept (take 4 key, t) child) [
         | inl still ↦ none still
         | inr this ↦
-            let serial : t ≡ s = sym (ap (λ (x : ℕ × ℕ). x.1) this) in
+            let serial : t ≡ s = sym (ap (λ (x : List ℕ × ℕ). x.1) this) in
             let at_s : Contains new_keys (key, s) = subst (λ (u : ℕ). Contains new_keys (key, u)) serial has in
             let bytes : key ≡ key_of p n = is.one_each key (key_of p n) s (less.only (key, s) at_s) held in
             less.gone (subst (λ (k : List ℕ). Contains new_keys (k, s)) bytes at_s)

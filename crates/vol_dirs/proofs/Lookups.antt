@@ -1,5 +1,5 @@
 -- What the least key or child over a bound says of names.
-use Rattle.std.proofs.Common.{◌≡◌, ◌≢◌, ◌⊎◌, inl, inr, ℕ, ◌≤◌, ◌<◌, Bool, true, false, ◌&&◌, ◌==◌, List, Option, None, MatchOption, get_or, refl, sym, ◌∙◌, ap, subst, arith}
+use Rattle.std.proofs.Common.{◌≡◌, ◌≢◌, ◌⊎◌, inl, inr, ℕ, ◌≤◌, ◌<◌, ◌^◌, Bool, true, false, ◌&&◌, ◌==◌, List, Option, None, MatchOption, get_or, refl, sym, ◌∙◌, ap, subst, arith}
 use Rattle.std.specs.List.{Contains, list_any}
 use Rattle.std.specs.Cmp.Lexicographic.{slice_cmp}
 use Rattle.std.specs.Ordering.{ordering_then, nat_cmp}
@@ -10,16 +10,17 @@ use Rattle.std.proofs.lemmas.Bool.{cases_lt}
 use Rattle.std.proofs.lemmas.Bool.Decides.{nat_tests}
 use Rattle.std.proofs.lemmas.Cmp.{tied_itself, nat_list_cmp_total}
 use Rattle.std.proofs.lemmas.List.Folds.{Any-from_list_any, list_any_at}
-use Rattle.vol_dirs.specs.NameOrder.{keys_of}
+use Rattle.byteorder.specs.Endian.{big_bytes}
+use Rattle.vol_dirs.specs.SerialOrder.{keys_of}
 use Rattle.vol_dirs.specs.internal.Rising.{IsLeastOver, NoneIsOver}
 use Rattle.vol_dirs.specs.Key.{key_of}
 use Rattle.vol_dirs.specs.internal.Key.{parent_in, name_in}
 use Rattle.vol_dirs.specs.Listing.{HoldsEntry}
-use Rattle.vol_dirs.specs.internal.Listing.{IsListing, key_order, child_order}
+use Rattle.vol_dirs.specs.internal.Listing.{IsListing, key_order}
 use Rattle.vol_dirs.specs.Names.{NoChildOver, IsNextChild}
 use Rattle.vol_dirs.specs.declared.dirs.Dirs.{Dirs}
 use Rattle.vol_dirs.proofs.Orders.{key_ties}
-use Rattle.vol_dirs.proofs.Spelled.{parent_of_key}
+use Rattle.vol_dirs.proofs.Spelled.{child_of_key, parent_by_child}
 use Rattle.vol_dirs.proofs.Listings.{name_held}
 
 -- what a test that gives a value or none has to show
@@ -57,12 +58,6 @@ list_ties a b tied = ap (λ (x : List ℕ × ℕ). x.0) (key_ties (a, 0) (b, 0) 
 number_less : (a b : ℕ) → nat_cmp a b ≡ Less → a < b
 number_less a b less = grind (arith, nat_tests)
 
-number_ties : (a b : ℕ) → nat_cmp a b ≡ Equal → a ≡ b
-number_ties a b tied = grind (arith, nat_tests)
-
-number_tied : (a b : ℕ) → a ≡ b → nat_cmp a b ≡ Equal
-number_tied a b same = grind (arith, nat_tests)
-
 pub equal : (a b : ℕ) → (a == b) ≡ true → a ≡ b
 equal a b test = grind (arith, nat_tests)
 
@@ -91,7 +86,7 @@ least_key keys key s t least first has = elim (cases_lt t s) [
   | inr le ↦ le
 ]
 
-module _ (slots : ℕ) (keys : List (List ℕ × ℕ)) (children : List (ℕ × ℕ)) (is : IsListing slots keys children) (p : ℕ) where
+module _ (slots : ℕ) (keys children : List (List ℕ × ℕ)) (is : IsListing slots keys children) (p : ℕ) (narrow : p < 2 ^ 32) where
   abbrev has_serial : ℕ → List ℕ × ℕ → Bool
   has_serial s x = (parent_in x.0 == p) && (x.1 == s)
 
@@ -108,7 +103,7 @@ module _ (slots : ℕ) (keys : List (List ℕ × ℕ)) (children : List (ℕ × 
       join a b one other = grind (arith, nat_tests)
 
   -- the name of a child
-  pub child_name : (s : ℕ) → Contains children (p, s) → (name : List ℕ) × HoldsEntry keys p name s
+  pub child_name : (s : ℕ) → Contains children (big_bytes 4 p, s) → (name : List ℕ) × HoldsEntry keys p name s
   child_name s has = by (list_any (has_serial s) keys) refl
     where
       by : (b : Bool) → list_any (has_serial s) keys ≡ b → (name : List ℕ) × HoldsEntry keys p name s
@@ -118,61 +113,62 @@ module _ (slots : ℕ) (keys : List (List ℕ × ℕ)) (children : List (ℕ × 
           let parts = both_are s x at.4 in
           let there : Contains keys (x.0, s) = subst (λ (t : ℕ). Contains keys (x.0, t)) parts.1 (at.0, at.2, at.3) in
           (name_in x.0, subst (λ (q : ℕ). HoldsEntry keys q (name_in x.0) s) parts.0 (name_held slots keys children is x.0 s there))
-      by false none = absurd (is.no_more p s has (λ key held parent.
+      by false none = absurd (is.no_more (big_bytes 4 p) s has (λ key held child.
           let d : List ℕ × ℕ = (key, s) in
+          let parent : parent_in key ≡ p = parent_by_child p key narrow child (is.formed key s held) in
           let here : has_serial s (get_or keys held.0 d) ≡ true = ap (has_serial s) held.2 ∙ are_both s d parent refl in
           let found = list_any_at (has_serial s) keys held.0 d held.1 here in
           cc))
 
   -- a child has its pair
-  pub child_there : (s : ℕ) (name : List ℕ) → HoldsEntry keys p name s → (Contains children (p, s) → ⊥) → ⊥
-  child_there s name h none = is.no_fewer (key_of p name) s h.held (λ has. none (subst (λ (q : ℕ). Contains children (q, s)) (parent_of_key p name h.narrow h.plain) has))
+  pub child_there : (s : ℕ) (name : List ℕ) → HoldsEntry keys p name s → (Contains children (big_bytes 4 p, s) → ⊥) → ⊥
+  child_there s name h none = is.no_fewer (key_of p name) s h.held (λ has. none (subst (λ (q : List ℕ). Contains children (q, s)) (child_of_key p name) has))
 
   -- children of one directory go by their serials
-  same_parent : (a b : ℕ) → a < b → child_order (p, a) (p, b) ≡ Less
-  same_parent a b lt = then_less (nat_cmp p p) (nat_cmp a b) (number_tied p p refl) (below a b lt)
+  same_parent : (a b : ℕ) → a < b → key_order (big_bytes 4 p, a) (big_bytes 4 p, b) ≡ Less
+  same_parent a b lt = then_less (slice_cmp nat_cmp (big_bytes 4 p) (big_bytes 4 p)) (nat_cmp a b) (tied_itself nat_list_cmp_total (big_bytes 4 p)) (below a b lt)
 
-  pub none_over : (after s : ℕ) (name : List ℕ) → NoneIsOver child_order children (p, after) → HoldsEntry keys p name s → s ≤ after
+  pub none_over : (after s : ℕ) (name : List ℕ) → NoneIsOver key_order children (big_bytes 4 p, after) → HoldsEntry keys p name s → s ≤ after
   none_over after s name none h = elim (cases_lt after s) [
-    | inl more ↦ absurd (child_there s name h (λ has. none (p, s) has (same_parent after s more)))
+    | inl more ↦ absurd (child_there s name h (λ has. none (big_bytes 4 p, s) has (same_parent after s more)))
     | inr le ↦ le
   ]
 
-  pub none_before : (after q t s : ℕ) (name : List ℕ) → IsLeastOver child_order children (p, after) (q, t) → q ≢ p → HoldsEntry keys p name s → s ≤ after
-  none_before after q t s name least differ h = elim (cases_lt after s) [
+  pub none_before : (after t s : ℕ) (other name : List ℕ) → IsLeastOver key_order children (big_bytes 4 p, after) (other, t) → other ≢ big_bytes 4 p → HoldsEntry keys p name s → s ≤ after
+  none_before after t s other name least differ h = elim (cases_lt after s) [
     | inl more ↦ absurd (child_there s name h (λ has.
-        let less : p < q = elim (less_parts (nat_cmp p q) (nat_cmp after t) least.over) [
-          | inl parent ↦ number_less p q parent
-          | inr (tied, serial) ↦ absurd (differ (sym (number_ties p q tied)))
+        let less : slice_cmp nat_cmp (big_bytes 4 p) other ≡ Less = elim (less_parts (slice_cmp nat_cmp (big_bytes 4 p) other) (nat_cmp after t) least.over) [
+          | inl bytes ↦ bytes
+          | inr (tied, serial) ↦ absurd (differ (sym (list_ties (big_bytes 4 p) other tied)))
         ] in
-        least.least (p, s) has (same_parent after s more) (first_less (nat_cmp p q) (nat_cmp s t) (below p q less))))
+        least.least (big_bytes 4 p, s) has (same_parent after s more) (first_less (slice_cmp nat_cmp (big_bytes 4 p) other) (nat_cmp s t) less)))
     | inr le ↦ le
   ]
 
-  pub over_after : (after s : ℕ) → IsLeastOver child_order children (p, after) (p, s) → after < s
-  over_after after s least = elim (less_parts (nat_cmp p p) (nat_cmp after s) least.over) [
-    | inl parent ↦ absurd (omega (arith, number_less p p parent))
+  pub over_after : (after s : ℕ) → IsLeastOver key_order children (big_bytes 4 p, after) (big_bytes 4 p, s) → after < s
+  over_after after s least = elim (less_parts (slice_cmp nat_cmp (big_bytes 4 p) (big_bytes 4 p)) (nat_cmp after s) least.over) [
+    | inl bytes ↦ let tied = tied_itself nat_list_cmp_total (big_bytes 4 p) in cc
     | inr (tied, serial) ↦ number_less after s serial
   ]
 
-  pub least_after : (after s t : ℕ) (name : List ℕ) → IsLeastOver child_order children (p, after) (p, s) → HoldsEntry keys p name t → after < t → s ≤ t
+  pub least_after : (after s t : ℕ) (name : List ℕ) → IsLeastOver key_order children (big_bytes 4 p, after) (big_bytes 4 p, s) → HoldsEntry keys p name t → after < t → s ≤ t
   least_after after s t name least h more = elim (cases_lt t s) [
-    | inl less ↦ absurd (child_there t name h (λ has. least.least (p, t) has (same_parent after t more) (same_parent t s less)))
+    | inl less ↦ absurd (child_there t name h (λ has. least.least (big_bytes 4 p, t) has (same_parent after t more) (same_parent t s less)))
     | inr le ↦ le
   ]
 
--- the next child is the least pair over the bound, where that is the directory's
-pub next_child_is : (dirs : Dirs) (p after q s : ℕ) → IsLeastOver child_order dirs.children.items (p, after) (q, s) → q ≡ p → IsNextChild dirs p after s
-next_child_is dirs p after q s least same =
-    let own : IsLeastOver child_order dirs.children.items (p, after) (p, s) = subst (λ (x : ℕ). IsLeastOver child_order dirs.children.items (p, after) (x, s)) same least in
+-- the next child is the least over the bound, where that is the directory's
+pub next_child_is : (dirs : Dirs) (p after s : ℕ) (found : List ℕ) → p < 2 ^ 32 → IsLeastOver key_order (keys_of dirs.children) (big_bytes 4 p, after) (found, s) → found ≡ big_bytes 4 p → IsNextChild dirs p after s
+next_child_is dirs p after s found narrow least same =
+    let own : IsLeastOver key_order (keys_of dirs.children) (big_bytes 4 p, after) (big_bytes 4 p, s) = subst (λ (x : List ℕ). IsLeastOver key_order (keys_of dirs.children) (big_bytes 4 p, after) (x, s)) same least in
     record {
-      over = over_after dirs.slots (keys_of dirs.keys) dirs.children.items dirs.listing p after s own;
-      child = child_name dirs.slots (keys_of dirs.keys) dirs.children.items dirs.listing p s own.there;
-      least = λ t child more. least_after dirs.slots (keys_of dirs.keys) dirs.children.items dirs.listing p after s t child.0 own child.1 more;
+      over = over_after dirs.slots (keys_of dirs.keys) (keys_of dirs.children) dirs.listing p narrow after s own;
+      child = child_name dirs.slots (keys_of dirs.keys) (keys_of dirs.children) dirs.listing p narrow s own.there;
+      least = λ t child more. least_after dirs.slots (keys_of dirs.keys) (keys_of dirs.children) dirs.listing p narrow after s t child.0 own child.1 more;
     }
 
-pub no_child_is : (dirs : Dirs) (p after q s : ℕ) → IsLeastOver child_order dirs.children.items (p, after) (q, s) → q ≢ p → NoChildOver dirs p after
-no_child_is dirs p after q s least differ t child = none_before dirs.slots (keys_of dirs.keys) dirs.children.items dirs.listing p after q s t child.0 least differ child.1
+pub no_child_is : (dirs : Dirs) (p after s : ℕ) (found : List ℕ) → p < 2 ^ 32 → IsLeastOver key_order (keys_of dirs.children) (big_bytes 4 p, after) (found, s) → found ≢ big_bytes 4 p → NoChildOver dirs p after
+no_child_is dirs p after s found narrow least differ t child = none_before dirs.slots (keys_of dirs.keys) (keys_of dirs.children) dirs.listing p narrow after s t found child.0 least differ child.1
 
-pub no_child_over : (dirs : Dirs) (p after : ℕ) → NoneIsOver child_order dirs.children.items (p, after) → NoChildOver dirs p after
-no_child_over dirs p after none t child = none_over dirs.slots (keys_of dirs.keys) dirs.children.items dirs.listing p after t child.0 none child.1
+pub no_child_over : (dirs : Dirs) (p after : ℕ) → p < 2 ^ 32 → NoneIsOver key_order (keys_of dirs.children) (big_bytes 4 p, after) → NoChildOver dirs p after
+no_child_over dirs p after narrow none t child = none_over dirs.slots (keys_of dirs.keys) (keys_of dirs.children) dirs.listing p narrow after t child.0 none child.1

@@ -1,4 +1,4 @@
--- The orders of keys and of children: that they are total, and tell all items apart.
+-- The order of keys: that it is total, and tells all items apart.
 use Rattle.std.proofs.Common.{◌≡◌, ℕ, List, [], ◌∷◌, refl, sym}
 use Rattle.std.specs.Cmp.{IsTotalOrder}
 use Rattle.std.specs.Cmp.Lexicographic.{slice_cmp}
@@ -7,7 +7,7 @@ use Rattle.std.specs.declared.cmp.Ordering.{Ordering}
 use Rattle.std.specs.declared.cmp.Ordering.TheVariants.{Less, Equal, Greater}
 use Rattle.std.proofs.lemmas.Cmp.{ranked, on_total, then_total, nat_cmp_total, nat_list_cmp_total}
 use Rattle.vol_dirs.specs.internal.Rising.{TiesAreEqual}
-use Rattle.vol_dirs.specs.internal.Listing.{key_order, child_order}
+use Rattle.vol_dirs.specs.internal.Listing.{key_order}
 
 then_ties : (a b : Ordering) → ordering_then a b ≡ Equal → (a ≡ Equal) × (b ≡ Equal)
 then_ties Less b tied = cc
@@ -34,15 +34,5 @@ key_ties a b tied =
     let serial = nat_ties a.1 b.1 both.1 in
     λ i. (bytes i, serial i)
 
-pub child_ties : TiesAreEqual child_order
-child_ties a b tied =
-    let both = then_ties (nat_cmp a.0 b.0) (nat_cmp a.1 b.1) tied in
-    let parent = nat_ties a.0 b.0 both.0 in
-    let serial = nat_ties a.1 b.1 both.1 in
-    λ i. (parent i, serial i)
-
 pub key_total : IsTotalOrder key_order
 key_total = then_total (on_total (λ (t : List ℕ × ℕ). t.0) nat_list_cmp_total) (on_total (λ (t : List ℕ × ℕ). t.1) nat_cmp_total)
-
-pub child_total : IsTotalOrder child_order
-child_total = then_total (on_total (λ (t : ℕ × ℕ). t.0) nat_cmp_total) (on_total (λ (t : ℕ × ℕ). t.1) nat_cmp_total)

@@ -1,20 +1,20 @@
--- Names by their serials: what a search among them finds, and what one more or less does.
-use Rattle.std.proofs.Common.{◌≡◌, ◌≢◌, inl, inr, ℕ, ◌+◌, ◌-◌, ◌≤◌, ◌<◌, true, false, List, [], ◌∷◌, ◌++◌, suc, length, take, drop, map, set, get_or, refl, sym, ◌∙◌, ap, ap₂, subst, arith}
+-- Keys by their serials: what a search among them finds, and what one more or less does.
+use Rattle.std.proofs.Common.{◌≡◌, ◌≢◌, ◌⊎◌, inl, inr, ℕ, zero, suc, ◌+◌, ◌-◌, ◌≤◌, ◌<◌, true, false, List, [], ◌∷◌, ◌++◌, length, take, drop, map, set, get_or, refl, sym, ◌∙◌, ap, ap₂, subst, arith}
 use Rattle.std.specs.List.{Contains, insert, remove}
-use Rattle.std.specs.List.Sorted.{IsPartitionPoint}
+use Rattle.std.specs.List.Sorted.{IsPartitionPoint, IsPermutation}
 use Rattle.std.specs.Cmp.{IsTotalOrder}
 use Rattle.std.specs.Ordering.{is_lt}
 use Rattle.std.specs.declared.cmp.Ordering.{Ordering}
 use Rattle.std.specs.declared.cmp.Ordering.TheVariants.{Less, Equal, Greater}
 use Rattle.std.proofs.lemmas.Bool.{cases_lt, cases_eq}
-use Rattle.std.proofs.lemmas.Cmp.{tied_itself}
 use Rattle.std.proofs.lemmas.List.Edits.{get_or-remove_below, get_or-remove_above, length-remove}
+use Rattle.std.proofs.lemmas.List.Elements.{Contains-get_or, Contains-append_cases, Contains-push_cases}
+use Rattle.std.proofs.lemmas.List.Sorted.{IsPermutation-sym, Contains-permutation}
 use Rattle.std.proofs.lemmas.List.{length-map, get_or-map, get_or_default, get_or-set_same, get_or-set_other, map-append, take-map, drop-map, ext_get_or}
-use Rattle.vol_dirs.specs.internal.Rising.{Rises, IsFirstOver, Drops}
+use Rattle.vol_dirs.specs.internal.Rising.{Rises, IsFirstOver}
 use Rattle.vol_dirs.specs.internal.Listing.{key_order}
 use Rattle.vol_dirs.specs.Serials.{key_at, keys_in, AreSerials, IsAbsentIn}
 use Rattle.vol_dirs.proofs.Orders.{key_ties}
-use Rattle.vol_dirs.proofs.Edits.{remove_drops}
 use Rattle.vol_dirs.proofs.Search.{greater_back, less_back, not_itself}
 use Rattle.vol_dirs.proofs.Orders.{key_total}
 
@@ -58,14 +58,16 @@ module _ (names : List (List ℕ)) (order : List ℕ) (serials : AreSerials (len
   changed = set names (serial - 1) key
 
   -- the keys that are held don't change where a serial that isn't held gets a key
-  same_keys : keys_in changed order ≡ keys_in names order
+  pub same_keys : keys_in changed order ≡ keys_in names order
   same_keys = ext_get_or ([], 0) (keys_in changed order) (keys_in names order) (as_many changed order ∙ sym (as_many names order)) (λ k lt.
       let inside : k < length order = omega (arith, as_many changed order) in
       let s = get_or order k 0 in
-      let other : s - 1 ≢ serial - 1 = λ is. absent k inside (omega (arith, serials k inside)) in
+      let other : s - 1 ≢ serial - 1 = λ is.
+      let same : s ≡ serial = omega (arith, serials k inside) in
+      absent (subst (λ (q : ℕ). Contains order q) same (Contains-get_or order k 0 inside)) in
       key_there changed order k ([], 0) inside ∙ ap (λ (name : List ℕ). (name, s)) (get_or-set_other names (serial - 1) (s - 1) key [] other) ∙ sym (key_there names order k ([], 0) inside))
 
-  own_key : key_at changed serial ≡ (key, serial)
+  pub own_key : key_at changed serial ≡ (key, serial)
   own_key = ap (λ (name : List ℕ). (name, serial)) (get_or-set_same names (serial - 1) key [] (omega arith))
 
   pub inserted : (at : ℕ) → keys_in changed (insert order at serial) ≡ insert (keys_in names order) at (key, serial)
@@ -75,7 +77,8 @@ module _ (names : List (List ℕ)) (order : List ℕ) (serials : AreSerials (len
   apart : (k : ℕ) (d : List ℕ × ℕ) → k < length order → key_order (key, serial) (get_or (keys_in names order) k d) ≡ Equal → ⊥
   apart k d lt tied =
       let same : (key, serial) ≡ get_or (keys_in names order) k d = key_ties (key, serial) (get_or (keys_in names order) k d) tied in
-      absent k lt (sym (ap (λ (x : List ℕ × ℕ). x.1) (same ∙ key_there names order k d lt)))
+      let is : serial ≡ get_or order k 0 = ap (λ (x : List ℕ × ℕ). x.1) (same ∙ key_there names order k d lt) in
+      absent (subst (λ (q : ℕ). Contains order q) (sym is) (Contains-get_or order k 0 lt))
 
   pub in_gap : (at : ℕ) → at ≤ length order → IsFirstOver key_order (keys_in names order) (key, serial) at
       → IsPartitionPoint (λ y. key_order y (key, serial) ≡ Less) (λ y. key_order y (key, serial) ≡ Greater) (keys_in names order) at
@@ -114,10 +117,6 @@ module _ (names : List (List ℕ)) (order : List ℕ) (rises : Rises key_order (
         | inr le ↦ absurd (not_itself key_total x (get_or (keys_in names order) k x) (sym here) (found.from k x le (omega (arith, as_many names order))))
       ]
 
-  pub removed : (k : ℕ) → k < length order → get_or order k 0 ≡ serial → Drops (keys_in names order) (keys_in names (remove order k)) x
-  removed k lt is = subst (λ (xs : List (List ℕ × ℕ)). Drops (keys_in names order) xs x) (sym (map_remove (key_at names) order k))
-      (remove_drops key_total key_ties (keys_in names order) rises x k (omega (arith, as_many names order)) (λ d. ap (λ (y : List ℕ × ℕ). key_order y x) (key_here k d lt is) ∙ tied_itself key_total x))
-
 pub remove_rises : {X : Type 0} (order : X → X → Ordering) (xs : List X) → Rises order xs → (at : ℕ) → at < length xs → Rises order (remove xs at)
 remove_rises {X} order xs rises at there i j d lt inside =
     let shorter : length (remove xs at) + 1 ≡ length xs = length-remove xs at there in
@@ -150,12 +149,61 @@ lengthened names longer order serials kept = ext_get_or ([], 0) (keys_in longer 
 
 -- ---- keys and serials
 
--- a key that is held has its serial in the order
-pub held_at : (names : List (List ℕ)) (order : List ℕ) (key : List ℕ) (s : ℕ) → Contains (keys_in names order) (key, s) → (k : ℕ) × (k < length order) × (get_or order k 0 ≡ s)
+-- a key that is held has its serial in the list
+pub held_at : (names : List (List ℕ)) (order : List ℕ) (key : List ℕ) (s : ℕ) → Contains (keys_in names order) (key, s) → Contains order s
 held_at names order key s has =
     let inside : has.0 < length order = omega (arith, has.1, as_many names order) in
-    (has.0, inside, ap (λ (x : List ℕ × ℕ). x.1) (sym (key_there names order has.0 (key, s) inside) ∙ has.2))
+    (has.0, inside, get_or_default order has.0 s 0 inside ∙ ap (λ (x : List ℕ × ℕ). x.1) (sym (key_there names order has.0 (key, s) inside) ∙ has.2))
 
--- and a serial in the order has its key held
-pub key_held : (names : List (List ℕ)) (order : List ℕ) (s k : ℕ) → k < length order → get_or order k 0 ≡ s → Contains (keys_in names order) (key_at names s)
-key_held names order s k lt is = (k, omega (arith, lt, as_many names order), key_there names order k (key_at names s) lt ∙ ap (key_at names) is)
+-- and a serial in the list has its key held
+pub key_held : (names : List (List ℕ)) (order : List ℕ) (s : ℕ) → Contains order s → Contains (keys_in names order) (key_at names s)
+key_held names order s has =
+    let is : get_or order has.0 0 ≡ s = get_or_default order has.0 0 s has.1 ∙ has.2 in
+    (has.0, omega (arith, has.1, as_many names order), key_there names order has.0 (key_at names s) has.1 ∙ ap (key_at names) is)
+
+-- ---- lists of serials
+
+-- a serial is in a list, or it isn't
+pub held_or_not : (order : List ℕ) (s : ℕ) → Contains order s ⊎ (Contains order s → ⊥)
+held_or_not [] s = inr (λ has. omega (arith, has.1))
+held_or_not (x ∷ order) s = elim (cases_eq x s) [
+  | inl same ↦ inl (0, omega arith, same)
+  | inr differ ↦ elim (held_or_not order s) [
+    | inl there ↦ inl (suc there.0, omega (arith, there.1), there.2)
+    | inr absent ↦ inr (λ has. elim (Contains-append_cases (x ∷ []) order s has) [
+      | inl first ↦ elim (Contains-push_cases [] x s first) [
+        | inl none ↦ omega (arith, none.1)
+        | inr same ↦ differ same
+      ]
+      | inr rest ↦ absent rest
+    ])
+  ]
+]
+
+pub serial_in : (slots : ℕ) (order : List ℕ) (s : ℕ) → AreSerials slots order → Contains order s → (1 ≤ s) × (s ≤ slots)
+serial_in slots order s serials has =
+    let is : get_or order has.0 0 ≡ s = get_or_default order has.0 0 s has.1 ∙ has.2 in
+    let bounds = serials has.0 has.1 in
+    (omega (arith, bounds.0, is), omega (arith, bounds.1, is))
+
+pub serials_by : (slots : ℕ) (order : List ℕ) → ((s : ℕ) → Contains order s → (1 ≤ s) × (s ≤ slots)) → AreSerials slots order
+serials_by slots order each k lt = each (get_or order k 0) (Contains-get_or order k 0 lt)
+
+pub serials_joined : (slots : ℕ) (one other : List ℕ) → AreSerials slots one → AreSerials slots other → AreSerials slots (one ++ other)
+serials_joined slots one other first second = serials_by slots (one ++ other) (λ s has. elim (Contains-append_cases one other s has) [
+  | inl early ↦ serial_in slots one s first early
+  | inr late ↦ serial_in slots other s second late
+])
+
+pub more_serials : (slots more : ℕ) (order : List ℕ) → slots ≤ more → AreSerials slots order → AreSerials more order
+more_serials slots more order le serials k lt = let bounds = serials k lt in (bounds.0, omega (arith, bounds.1))
+
+pub serials_moved : (slots : ℕ) (old new : List ℕ) → IsPermutation old new → AreSerials slots old → AreSerials slots new
+serials_moved slots old new moved serials = serials_by slots new (λ s has. serial_in slots old s serials (Contains-permutation new old s (IsPermutation-sym old new moved) has))
+
+pub serials_front : (slots : ℕ) (order : List ℕ) (s : ℕ) → 1 ≤ s → s ≤ slots → AreSerials slots order → AreSerials slots (s ∷ order)
+serials_front slots order s first last serials zero lt = (first, last)
+serials_front slots order s first last serials (suc k) lt = serials k (omega arith)
+
+pub serials_rest : (slots : ℕ) (order : List ℕ) (s : ℕ) → AreSerials slots (s ∷ order) → AreSerials slots order
+serials_rest slots order s serials k lt = serials (suc k) (omega arith)

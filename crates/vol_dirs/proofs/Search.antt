@@ -28,33 +28,6 @@ module _ {X : Type 0} {order : X → X → Ordering} (o : IsTotalOrder order) wh
   not_itself a b same less = not_both a b less (ap (λ (x : X). order x a) (sym same) ∙ (ap (order a) same ∙ less))
 
   module _ (xs : List X) (rises : Rises order xs) (x : X) where
-    in_order : IsSortedBy (λ a b. is_lt (order a b)) xs
-    in_order k d low high = ap is_lt (greater_back (get_or xs k d) (get_or xs (k + 1) d) (rises k (k + 1) d (omega arith) high))
-
-    -- the comparisons with the item rise, as a binary search asks
-    pub comparisons_rise : IsNonDecreasingBy (λ y. ordering_index (order y x)) xs
-    comparisons_rise = searchable_from_sorted o (λ y. y) xs x in_order
-
-    pub first_after : (at : ℕ) → at < length xs → HoldsAt (λ y. order y x ≡ Equal) xs at → IsFirstOver order xs x (at + 1)
-    first_after at there tied = record {
-      before = λ k d lt over. elim (cases_eq k at) [
-        | inl same ↦ let e = tied_back o (get_or xs at d) x (tied d) in let f = ap (λ (q : ℕ). order x (get_or xs q d)) same in cc
-        | inr other ↦
-            let e = alike_right o (get_or xs at d) x (get_or xs k d) (tied d) in
-            let less = rises k at d (omega arith) there in
-            not_both x (get_or xs k d) over (sym e ∙ less)
-      ];
-      from = λ k d le lt.
-          let e = o.congr (get_or xs at d) x (get_or xs k d) (tied d) in
-          sym e ∙ rises at k d (omega arith) lt;
-    }
-
-    pub first_in_gap : (at : ℕ) → IsPartitionPoint (λ y. order y x ≡ Less) (λ y. order y x ≡ Greater) xs at → IsFirstOver order xs x at
-    first_in_gap at parted = record {
-      before = λ k d lt over. not_both x (get_or xs k d) over (parted.0 k d (omega arith) lt);
-      from = λ k d le lt. less_back (get_or xs k d) x (parted.1 k d le lt);
-    }
-
     pub least_of_first : (at : ℕ) (item : X) → IsFirstOver order xs x at → at < length xs → item ≡ get_or xs at item → IsLeastOver order xs x item
     least_of_first at item first there is = record {
       there = (at, there, sym is);

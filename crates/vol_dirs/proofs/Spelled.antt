@@ -4,6 +4,7 @@ use Rattle.std.proofs.lemmas.List.{drop-replicate}
 use Rattle.std.proofs.lemmas.Bool.{cases_eq}
 use Rattle.std.specs.List.{Contains}
 use Rattle.byteorder.specs.Numbers.{big_number-reads_back}
+use Rattle.byteorder.specs.Endian.{big_bytes, big_number}
 use borrow.Rule.Slice.PartMut.{put_mid}
 use Rattle.vol_inode.specs.declared.entry.Entry.{Entry}
 use Rattle.vol_inode.specs.Name.{IsName}
@@ -48,6 +49,17 @@ module _ (p : ℕ) (n : List ℕ) (narrow : p < 2 ^ 32) (plain : IsPlain n) wher
     short = subst (λ (m : List ℕ). length m ≤ 255) (sym name_of_key) plain.short;
     spelled = λ i. key_of (parent_of_key i) (name_of_key i);
   }
+
+-- the directory's bytes come first
+pub child_of_key : (p : ℕ) (n : List ℕ) → take 4 (key_of p n) ≡ big_bytes 4 p
+child_of_key p n = refl
+
+-- and they tell the directory
+pub parent_by_child : (p : ℕ) (key : List ℕ) → p < 2 ^ 32 → take 4 key ≡ big_bytes 4 p → IsKey key → parent_in key ≡ p
+parent_by_child p key narrow is formed =
+    let own : take 4 key ≡ big_bytes 4 (parent_in key) = ap (λ (l : List ℕ). take 4 l) (sym formed.spelled) ∙ child_of_key (parent_in key) (name_in key) in
+    let same : big_bytes 4 (parent_in key) ≡ big_bytes 4 p = sym own ∙ is in
+    sym (big_number-reads_back 4 (parent_in key) [] formed.narrow) ∙ ap (λ (l : List ℕ). big_number 4 (l ++ [])) same ∙ big_number-reads_back 4 p [] narrow
 
 pub plain_in_key : (key : List ℕ) → IsKey key → IsPlain (name_in key)
 plain_in_key key is = record { short = is.short; no_zero = no_zero_before (drop 4 key) }

@@ -9,7 +9,7 @@ use Rattle.vol_inode.specs.Entry.{IsEntry, name_of}
 use Rattle.vol_inode.specs.Spelling.{spelling}
 use Rattle.vol_dirs.specs.Slots.{slot_sector}
 use Rattle.vol_dirs.specs.Listing.{HoldsEntry}
-use Rattle.vol_dirs.specs.NameOrder.{keys_of}
+use Rattle.vol_dirs.specs.SerialOrder.{keys_of}
 use Rattle.vol_dirs.specs.Seats.{seat_of, seat_at}
 use Rattle.vol_dirs.specs.declared.dirs.Dirs.{Dirs}
 

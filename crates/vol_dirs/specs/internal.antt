@@ -1,4 +1,4 @@
--- How `Dirs` keeps names in sorted lists, for its invariant, private contracts and proofs, in reading order. `Rising`
+-- How `Dirs` keeps names in lists of serials, for its invariant, private contracts and proofs, in reading order. `Rising`
 -- is on sorted lists of any items, `Key` reads a key back, and `Listing` puts both into the invariant. `Blocks` is for
 -- the flags of used slots.
 pub mod Rising

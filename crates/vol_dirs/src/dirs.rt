@@ -10,15 +10,14 @@ ghost use Rattle.vol_inode.specs.Spelling.{spelling, unused};
 ghost use Rattle.vol_inode.specs.declared.version.Version.{Version};
 ghost use Rattle.vol_dirs.specs.Slots.{CanStageSlot, StagesSlot};
 ghost use Rattle.vol_dirs.specs.internal.Listing.{IsListing, AreMarked};
-ghost use Rattle.vol_dirs.specs.NameOrder.{keys_of, room_of};
+ghost use Rattle.vol_dirs.specs.SerialOrder.{keys_of, room_of};
 ghost use Rattle.vol_dirs.specs.SlotMarks.{flags_of};
 
-use crate::keys::key_of;
-use crate::name_order::NameOrder;
+use crate::keys::{child_key_of, key_of};
 use crate::seat::{Seat, seat_of};
+use crate::serial_order::SerialOrder;
 use crate::slot_marks::SlotMarks;
 use crate::slots::slot_sector;
-use crate::sorted::{insert, least_over, remove};
 use std::alloc::{AllocError, Global};
 use vol_inode::{Entry, Serial, Version, read_entry, write_entry};
 use vol_log::{FIRST_AFTER_LOG, Log};
@@ -31,19 +30,19 @@ const MOST_SLOTS: u32 = u32::MAX - FIRST_AFTER_LOG;
 ///
 /// The slot of an entry is the sector that `slot_sector` gives for its serial: it holds the entry, or
 /// zeros where it isn't used. What the slots hold is kept in memory too, with room for all slots: the
-/// keys of the names with their serials, in order, and a sorted vector of the parents with their
-/// serials. A mark for each slot says whether it is used, and its seat what else a walk needs.
+/// keys of the names with their serials, in order, and so the parents with their serials. A mark for
+/// each slot says whether it is used, and its seat what else a walk needs.
 #[derive(Drop)]
 pub struct Dirs {
     slots: u32,
-    keys: NameOrder,
-    children: Vec<(u32, u32)>,
+    keys: SerialOrder<259>,
+    children: SerialOrder<4>,
     used: SlotMarks,
     seats: Vec<Seat>,
     ghost few: { slots ≤ 4294967173 },
-    ghost listing: { IsListing slots (keys_of keys) children.items },
+    ghost listing: { IsListing slots (keys_of keys) (keys_of children) },
     ghost keys_room: { slots ≡ room_of keys },
-    ghost children_room: { slots ≤ vec_capacity children },
+    ghost children_room: { slots ≡ room_of children },
     ghost marked: { AreMarked slots (keys_of keys) (flags_of used) },
     ghost seated: { vec_len seats ≡ slots },
 }
@@ -230,8 +229,9 @@ impl Dirs {
         ensures { MatchOption result (NoChildOver self.now parent after)
             (λ s. IsNextChild self.now parent after s) }
     {
-        let (found, serial) = least_over(&self.children, &(parent.number(), after))?;
-        (*found == parent.number()).then_some(Serial::new(*serial))
+        let key = child_key_of(parent.number());
+        let serial = self.children.least_over(&key, after)?;
+        (*self.children.key(serial) == key).then_some(Serial::new(serial))
     }
 
     /// No names, with the memory for those of all slots. It is refused where there is none.
@@ -244,8 +244,8 @@ impl Dirs {
         }
         Ok(Dirs {
             slots,
-            keys: NameOrder::reserve(alloc, slots)?,
-            children: Vec::with_capacity(alloc, slots as usize)?,
+            keys: SerialOrder::reserve(alloc, slots)?,
+            children: SerialOrder::reserve(alloc, slots)?,
             used: SlotMarks::reserve(alloc, slots)?,
             seats: vec![in alloc; Seat {
                 parent: 0,
@@ -287,7 +287,7 @@ impl Dirs {
         let key = key_of(entry.parent, &entry.name[..entry.name_length as usize]);
         let number = serial.number();
         self.keys.insert(&key, number);
-        insert(&mut self.children, (entry.parent, number));
+        self.children.insert(&child_key_of(entry.parent), number);
         self.used.mark((number - 1) as usize);
         self.seats[(number - 1) as usize] = seat_of(entry);
     }
@@ -302,7 +302,7 @@ impl Dirs {
     {
         let number = serial.number();
         self.keys.remove(number);
-        remove(&mut self.children, &(entry.parent, number));
+        self.children.remove(number);
         self.used.unmark((number - 1) as usize);
     }
 }

@@ -4,12 +4,12 @@
 mod dirs;
 mod keys;
 mod laws;
-mod name_order;
 mod rooted;
 mod seat;
+mod serial_order;
+mod serials;
 mod slot_marks;
 mod slots;
-mod sorted;
 
 pub use dirs::Dirs;
 pub use laws::{

@@ -22,3 +22,4 @@ mod Replaced
 mod Removed
 mod RemovedMap
 mod Brought
+mod Blamed

@@ -96,6 +96,18 @@ PrintsNothing (Upgrade huge) = Unit {0}
 PrintsNothing (Stat path) = ⊥
 PrintsNothing (Changing change) = Unit {0}
 
+-- a task that puts the input into a file
+abbrev pub reads_input : Task → Bool
+reads_input (Ls path) = false
+reads_input (LsAs path form) = false
+reads_input (Get path) = false
+reads_input (Put path) = true
+reads_input (PutWhole path) = true
+reads_input Check = false
+reads_input (Upgrade huge) = false
+reads_input (Stat path) = false
+reads_input (Changing change) = false
+
 -- the tasks that read nothing of the input
 abbrev pub ReadsNothing : Task → Type 0
 ReadsNothing (Ls path) = Unit {0}

@@ -26,6 +26,13 @@ blames_import (Err (Volume fault)) = is_device fault
 blames_import (Err (Path e)) = is_io {X = Unit {0}} (Err e)
 blames_import (Err (Halted halted)) = archive.blames_device {X = Unit {0}} (Err halted.refusal.why)
 
+-- the input is blamed where the import is
+abbrev pub blames_input : Result ℕ ImportFailure → Bool
+blames_input (Ok count) = false
+blames_input (Err (Volume fault)) = false
+blames_input (Err (Path e)) = false
+blames_input (Err (Halted halted)) = archive.is_stream halted.refusal.why
+
 -- The members of the stream are in the directory that the path names. Or the path is refused with its errno, and then
 -- nothing is read and the tree stays; or the import came so far, and the member that it names is refused.
 abbrev pub Brings : Superblock → Tree → Text → Option (List ℕ) → Option (List ℕ) → Tree → Result ℕ ImportFailure → Type 0

@@ -1,6 +1,6 @@
 //! Changing the tree of a volume: a directory is made, an entry moved, a file, an empty directory or a whole tree removed.
 
-ghost use Rattle.std.specs.Prelude.{OnOk};
+ghost use Rattle.std.specs.Prelude.{◌≡◌, OnOk, false};
 ghost use Rattle.vol_sector.specs.Disk.{Image, Leaves};
 ghost use Rattle.vol_tree.specs.Stands.{StandsAs};
 ghost use Rattle.vol_inode.specs.Name.{IsName};
@@ -12,7 +12,7 @@ ghost use Rattle.path_walk.specs.Walk.{IsEntryOf, IsReached, reached_as};
 ghost use Rattle.volume_tasks.specs.Tasks.{ReflectsAny};
 ghost use Rattle.volume_tasks.specs.Changes.{Changes, IsPartOfChange, directory_made};
 ghost use Rattle.volume_tasks.specs.Changes.{entry_moved, entry_removed, meant, moved_to};
-ghost use Rattle.volume_tasks.specs.Blame.{blames_device};
+ghost use Rattle.volume_tasks.specs.Blame.{blames_device, blames_stream};
 ghost use Rattle.volume_tasks.specs.internal.Changing.{Applied, Changed, IsPlace};
 ghost use Rattle.volume_tasks.specs.internal.Working.{IsWorking};
 
@@ -175,6 +175,7 @@ pub(crate) fn change_tree<D: Device>(
     requires { IsWorking volume.old }
     ensures kept { Keeps D.honest D.size D.failures volume.old volume.new (blames_device result) }
     ensures goes_on { GoesOn D.goes_on volume.old volume.new }
+    ensures unblamed { blames_stream result ≡ false }
     ensures changes { D.honest volume.old.device
         → Changes volume.old.tree change.entry volume.new.tree result }
     ensures crash { D.honest volume.old.device

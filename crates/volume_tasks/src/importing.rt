@@ -1,12 +1,13 @@
 //! A tar stream brought into a directory of the volume on a device.
 
 ghost use Rattle.std.specs.Prelude.{◌≡◌, OnErr, OnOk};
+ghost use Rattle.stream_answers.specs.Hearing.{Hears, Moves};
 ghost use Rattle.vol_sector.specs.Disk.{Image, Leaves};
 ghost use Rattle.vol_tree.specs.Opened.{Keeps, GoesOn};
 ghost use Rattle.vol_tree.specs.Stands.{StandsAs};
 ghost use Rattle.volume_tasks.specs.declared.importing.ImportFailure.TheVariants.{Path, Halted};
 ghost use Rattle.volume_tasks.specs.Going.{KeepsWithin};
-ghost use Rattle.volume_tasks.specs.Importing.{Brings, IsPartOfBringing, PerformsImport, blames_import};
+ghost use Rattle.volume_tasks.specs.Importing.{Brings, IsPartOfBringing, PerformsImport, blames_import, blames_input};
 ghost use Rattle.volume_tasks.specs.Tasks.{ReflectsAny};
 ghost use Rattle.volume_tasks.specs.internal.Working.{IsWorking};
 
@@ -54,6 +55,7 @@ fn bring<D: Device, R: Inlet>(
     requires { IsWorking volume.old }
     ensures kept { Keeps D.honest D.size D.failures volume.old volume.new (blames_import result) }
     ensures goes_on { GoesOn D.goes_on volume.old volume.new }
+    ensures heard { Hears (Moves R.gave) R.refused (blames_input result) input.old input.new }
     ensures brings { D.honest volume.old.device
         → Brings volume.old.numbers volume.old.tree path.now (R.remaining input.old)
         (R.remaining input.new) volume.new.tree result }
@@ -82,6 +84,7 @@ pub fn import_into<D: Device, R: Inlet>(
     ensures performs { PerformsImport D.honest D.disk D.size D.failures path.now device
         (R.remaining input.old) (R.remaining input.new) result.1 result.0 }
     ensures goes_on { KeepsWithin D.honest D.disk D.size D.goes_on device result.1 }
+    ensures heard { Hears (Moves R.gave) R.refused (blames_input result.0) input.old input.new }
 {
     match Volume::open(alloc, device) {
         Ok(mut volume) => {

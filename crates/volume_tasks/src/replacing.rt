@@ -1,11 +1,12 @@
 //! Putting the input into a file of a volume whole: beside the old one first, whose place it then takes.
 
-ghost use Rattle.std.specs.Prelude.{◌≡◌, ◌++◌, Err, IfErr, IfOk, OnOk, codes, false, string_bytes};
+ghost use Rattle.std.specs.Prelude.{◌≡◌, ◌++◌, Err, IfErr, IfOk, OnOk, codes, false, string_bytes, true};
+ghost use Rattle.stream_answers.specs.Hearing.{Moves};
 ghost use Rattle.vol_sector.specs.Disk.{Image, Leaves};
 ghost use Rattle.vol_tree.specs.Stands.{StandsAs};
 ghost use Rattle.vol_tree.specs.Opened.{Keeps, GoesOn, is_io};
 ghost use Rattle.path_walk.specs.Walk.{Asked};
-ghost use Rattle.volume_tasks.specs.Blame.{blames_device};
+ghost use Rattle.volume_tasks.specs.Blame.{IsCause, blames_device, is_stream};
 ghost use Rattle.volume_tasks.specs.Changes.{entry_removed};
 ghost use Rattle.volume_tasks.specs.Replacing.{IsFilesPlace, IsPartOfWhole, IsRemovalPart, PutsWhole, RefusesPlace, TakesBack, WritesBeside, path_beside};
 ghost use Rattle.volume_tasks.specs.Tasks.{ReflectsAny};
@@ -56,6 +57,7 @@ fn take_back<D: Device>(volume: &mut Volume<D>, beside: &str, failure: Failure) 
     requires blameless { blames_device (Err failure) ≡ false }
     ensures kept { Keeps D.honest D.size D.failures volume.old volume.new (blames_device (Err result)) }
     ensures goes_on { GoesOn D.goes_on volume.old volume.new }
+    ensures unblamed { is_stream result ≡ true → is_stream failure ≡ true }
     ensures back { D.honest volume.old.device
         → TakesBack volume.old.tree beside.now volume.new.tree failure result }
     ensures crash { D.honest volume.old.device
@@ -81,6 +83,7 @@ fn write_beside<D: Device, R: Inlet>(
     requires { IsWorking volume.old }
     ensures kept { Keeps D.honest D.size D.failures volume.old volume.new (blames_device result) }
     ensures goes_on { GoesOn D.goes_on volume.old volume.new }
+    ensures heard { IsCause (Moves R.gave) R.refused result input.old input.new }
     ensures writes { D.honest volume.old.device
         → WritesBeside volume.old.numbers volume.old.tree beside.now path.now
         (R.remaining input.old) (R.remaining input.new) volume.new.tree result }
@@ -116,6 +119,7 @@ pub(crate) fn put_whole<D: Device, R: Inlet>(
     requires { IsWorking volume.old }
     ensures kept { Keeps D.honest D.size D.failures volume.old volume.new (blames_device result) }
     ensures goes_on { GoesOn D.goes_on volume.old volume.new }
+    ensures heard { IsCause (Moves R.gave) R.refused result input.old input.new }
     ensures puts { D.honest volume.old.device
         → PutsWhole volume.old.numbers volume.old.tree path.now (R.remaining input.old)
         (R.remaining input.new) volume.new.tree result }

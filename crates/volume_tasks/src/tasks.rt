@@ -1,14 +1,15 @@
 //! What is done with the volume on a device.
 
-ghost use Rattle.std.specs.Prelude.{◌⊎◌, ◌≡◌, ◌↔◌, OnOk};
+ghost use Rattle.std.specs.Prelude.{◌⊎◌, ◌≡◌, ◌↔◌, OnOk, true};
 ghost use Rattle.std.specs.Io.KnownBytes.{Keeps};
 ghost use Rattle.vol_sector.specs.Disk.{Leaves, counted};
-ghost use Rattle.volume_tasks.specs.Blame.{blames_device};
+ghost use Rattle.stream_answers.specs.Hearing.{Moves};
+ghost use Rattle.volume_tasks.specs.Blame.{IsCause, blames_device};
 ghost use Rattle.volume_tasks.specs.Tasks.{ReflectsAny};
 ghost use Rattle.vol_tree.specs.Opened.{GoesOn};
 ghost use Rattle.volume_tasks.specs.Going.{KeepsWithin};
 ghost use Rattle.volume_tasks.specs.Doing.{Does, IsPartOf, Lasts, Performs, IsRaised, version_after};
-ghost use Rattle.volume_tasks.specs.Doing.{PrintsNothing, ReadsNothing};
+ghost use Rattle.volume_tasks.specs.Doing.{PrintsNothing, ReadsNothing, reads_input};
 ghost use Rattle.volume_tasks.specs.internal.Working.{IsWorking};
 
 use crate::changing::change_tree;
@@ -60,6 +61,8 @@ fn done_with<D: Device, R: Inlet, W: Outlet>(
     ensures failures { D.failures volume.new.device
         ≡ counted (blames_device result) (D.failures volume.old.device) }
     ensures goes_on { GoesOn D.goes_on volume.old volume.new }
+    ensures heard { reads_input task.entry ≡ true
+        → IsCause (Moves R.gave) R.refused result input.old input.new }
     ensures reads_nothing { ReadsNothing task.entry
         → R.remaining input.new ≡ R.remaining input.old }
     ensures prints_nothing { PrintsNothing task.entry
@@ -90,6 +93,8 @@ pub fn perform<D: Device, R: Inlet, W: Outlet>(
     ensures performs { Performs D.honest D.disk D.size D.failures task.entry device (R.remaining input.old)
         (R.remaining input.new) (W.contents out.old) (W.contents out.new) result.1 result.0 }
     ensures goes_on { KeepsWithin D.honest D.disk D.size D.goes_on device result.1 }
+    ensures heard { reads_input task.entry ≡ true
+        → IsCause (Moves R.gave) R.refused result.0 input.old input.new }
 {
     match Volume::open(alloc, device) {
         Ok(mut volume) => {

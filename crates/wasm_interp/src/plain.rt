@@ -1,10 +1,12 @@
 //! The plain machine: one step of the standard after the other, of every instruction.
 //!
 //! `perform` has the step of each instruction that stays in its function (`work`, `operands`, `operators`, `accesses` do
-//! what it does to the stack and to memory), `calls` the steps that lead out of it, and `run_plain` goes on by such steps.
+//! what it does to the stack and to memory, `float_operands` and `floats` those on floats), `calls` the steps that lead out of it, and `run_plain` goes on by such steps.
 
 pub mod accesses;
 pub mod calls;
+pub mod float_operands;
+pub mod floats;
 pub mod halt;
 pub mod operands;
 pub mod operators;

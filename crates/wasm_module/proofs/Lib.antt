@@ -12,8 +12,11 @@ pub mod Texts
 pub mod Steps
 pub mod TypeLaws
 pub mod OperatorLaws
+pub mod FloatLaws
 pub mod InstructionLaws
 pub mod Nesting
 pub mod PartLaws
 pub mod Sections
 pub mod Modules
+pub mod Widening
+pub mod Floatlessness

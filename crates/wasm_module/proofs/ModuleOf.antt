@@ -1,5 +1,6 @@
 -- The module of sections, by its parts.
 use Rattle.std.proofs.Common.{◌≡◌, ◌∙◌, ℕ, List, [], Option, Some, None, unwrap_or, refl, sym, ap}
+use Rattle.wasm_module.specs.declared.profile.Profile.{Profile}
 use Rattle.wasm_module.specs.declared.module.FuncType.{FuncType}
 use Rattle.wasm_module.specs.declared.module.Limits.{Limits}
 use Rattle.wasm_module.specs.declared.module.Import.{Import}
@@ -59,60 +60,61 @@ both {X} {Y} {U} {V} {f} {g} {a} {c} {b} {d} first second = record { at = λ byt
 abbrev pub HeldInOrder : Type 0
 HeldInOrder = Option (List FuncType) × (Option (List Import) × (Option (List ℕ) × (Option (List Limits) × (Option (List Limits) × (Option (List GlobalEntry) × (Option (List Export) × (Option ℕ × (Option (List ElementSegment) × (Option ℕ × (Option (List Body) × (Option (List DataSegment))))))))))))
 
--- their reader
-abbrev pub in_order : Reader HeldInOrder
-in_order =
-    then_at (section_at 1 (whole (vector_at func_type_at))) (
-    then_at (section_at 2 (whole (vector_at import_at))) (
-    then_at (section_at 3 (whole (vector_at u32_at))) (
-    then_at (section_at 4 (whole (vector_at table_at))) (
-    then_at (section_at 5 (whole (vector_at limits_at))) (
-    then_at (section_at 6 (whole (vector_at global_at))) (
-    then_at (section_at 7 (whole (vector_at export_at))) (
-    then_at (section_at 8 (whole u32_at)) (
-    then_at (section_at 9 (whole (vector_at elements_at))) (
-    then_at (section_at 12 (whole u32_at)) (
-    then_at (section_at 10 (whole (vector_at body_at)))
-    (section_at 11 (whole (vector_at data_at)))))))))))))
-
--- the reader of all sections
-abbrev pub held_at : Reader Held
-held_at = then_at customs_at in_order
-
 -- what the sections hold; one that is absent is empty
 abbrev parts_of : Held → Parts
 parts_of p = (p.0, (unwrap_or p.1.0 [], (unwrap_or p.1.1.0 [], (unwrap_or p.1.1.1.0 [], (unwrap_or p.1.1.1.1.0 [], (unwrap_or p.1.1.1.1.1.0 [], (unwrap_or p.1.1.1.1.1.1.0 [], (unwrap_or p.1.1.1.1.1.1.1.0 [], (p.1.1.1.1.1.1.1.1.0, (unwrap_or p.1.1.1.1.1.1.1.1.1.0 [], (p.1.1.1.1.1.1.1.1.1.1.0, (unwrap_or p.1.1.1.1.1.1.1.1.1.1.1.0 [], unwrap_or p.1.1.1.1.1.1.1.1.1.1.1.1 []))))))))))))
 
--- the parts are what the sections hold
-parts_are : Sees parts_of held_at parts_at
-unfolding parts_at storage_parts_at link_parts_at start_parts_at code_parts_at
-parts_are =
-    both (kept customs_at) (
-    both (list 1 func_type_at) (
-    both (list 2 import_at) (
-    both (list 3 u32_at) (
-    both (list 4 table_at) (
-    both (list 5 limits_at) (
-    both (list 6 global_at) (
-    both (list 7 export_at) (
-    both (kept (section_at 8 (whole u32_at))) (
-    both (list 9 elements_at) (
-    both (kept (section_at 12 (whole u32_at))) (
-    both (list 10 body_at)
-    (list 11 data_at))))))))))))
+module _ (profile : Profile) where
+  -- their reader
+  abbrev pub in_order : Reader HeldInOrder
+  in_order =
+      then_at (section_at 1 (whole (vector_at (func_type_at profile)))) (
+      then_at (section_at 2 (whole (vector_at (import_at profile)))) (
+      then_at (section_at 3 (whole (vector_at u32_at))) (
+      then_at (section_at 4 (whole (vector_at table_at))) (
+      then_at (section_at 5 (whole (vector_at limits_at))) (
+      then_at (section_at 6 (whole (vector_at (global_at profile)))) (
+      then_at (section_at 7 (whole (vector_at export_at))) (
+      then_at (section_at 8 (whole u32_at)) (
+      then_at (section_at 9 (whole (vector_at (elements_at profile)))) (
+      then_at (section_at 12 (whole u32_at)) (
+      then_at (section_at 10 (whole (vector_at (body_at profile))))
+      (section_at 11 (whole (vector_at (data_at profile))))))))))))))
 
--- where the parts are read, their module is
-pub parts_read : (bytes rest : List ℕ) (q : Parts) → parts_at bytes ≡ Some (q, rest) → map_at module_and_count sections_at bytes ≡ Some (decoded_of q, rest)
-unfolding sections_at module_of
-parts_read bytes rest q e = by_held (held_at bytes) (sym (parts_are.at bytes) ∙ e) where
-  by_held : (o : Option (Held × List ℕ)) → seen parts_of o ≡ Some (q, rest) → seen module_and_count (seen sections_of o) ≡ Some (decoded_of q, rest)
-  by_held None e = absurd cc
-  by_held (Some h) e = ap (λ (p : Parts × List ℕ). Some (decoded_of p.0, p.1)) (some_is (parts_of h.0, h.1) (q, rest) e)
+  -- the reader of all sections
+  abbrev pub held_at : Reader Held
+  held_at = then_at customs_at in_order
 
--- where the parts can't be read, no module can
-pub parts_refused : (bytes : List ℕ) → parts_at bytes ≡ None → map_at module_and_count sections_at bytes ≡ None
-unfolding sections_at
-parts_refused bytes e = by_held (held_at bytes) (sym (parts_are.at bytes) ∙ e) where
-  by_held : (o : Option (Held × List ℕ)) → seen parts_of o ≡ None → seen module_and_count (seen sections_of o) ≡ None
-  by_held None e = refl
-  by_held (Some h) e = absurd cc
+  -- the parts are what the sections hold
+  parts_are : Sees parts_of held_at (parts_at profile)
+  unfolding parts_at storage_parts_at link_parts_at start_parts_at code_parts_at
+  parts_are =
+      both (kept customs_at) (
+      both (list 1 (func_type_at profile)) (
+      both (list 2 (import_at profile)) (
+      both (list 3 u32_at) (
+      both (list 4 table_at) (
+      both (list 5 limits_at) (
+      both (list 6 (global_at profile)) (
+      both (list 7 export_at) (
+      both (kept (section_at 8 (whole u32_at))) (
+      both (list 9 (elements_at profile)) (
+      both (kept (section_at 12 (whole u32_at))) (
+      both (list 10 (body_at profile))
+      (list 11 (data_at profile)))))))))))))
+
+  -- where the parts are read, their module is
+  pub parts_read : (bytes rest : List ℕ) (q : Parts) → parts_at profile bytes ≡ Some (q, rest) → map_at module_and_count (sections_at profile) bytes ≡ Some (decoded_of q, rest)
+  unfolding sections_at module_of
+  parts_read bytes rest q e = by_held (held_at bytes) (sym (parts_are.at bytes) ∙ e) where
+    by_held : (o : Option (Held × List ℕ)) → seen parts_of o ≡ Some (q, rest) → seen module_and_count (seen sections_of o) ≡ Some (decoded_of q, rest)
+    by_held None e = absurd cc
+    by_held (Some h) e = ap (λ (p : Parts × List ℕ). Some (decoded_of p.0, p.1)) (some_is (parts_of h.0, h.1) (q, rest) e)
+
+  -- where the parts can't be read, no module can
+  pub parts_refused : (bytes : List ℕ) → parts_at profile bytes ≡ None → map_at module_and_count (sections_at profile) bytes ≡ None
+  unfolding sections_at
+  parts_refused bytes e = by_held (held_at bytes) (sym (parts_are.at bytes) ∙ e) where
+    by_held : (o : Option (Held × List ℕ)) → seen parts_of o ≡ None → seen module_and_count (seen sections_of o) ≡ None
+    by_held None e = refl
+    by_held (Some h) e = absurd cc

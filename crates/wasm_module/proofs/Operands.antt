@@ -1,11 +1,12 @@
 -- Opcodes whose operand is read before they are told apart.
 use Rattle.std.proofs.Common.{Bool, true, false, ◌≡◌, ℕ, ◌<◌, ◌≤◌, cond, eqb, List, Option, Some, None, Result, Ok, Err, refl, sym, subst, ◌∙◌, arith}
-use Rattle.std.proofs.lemmas.Bool.{eqb-true, eqb-false}
+use Rattle.std.proofs.lemmas.Bool.{eqb-true, eqb-false, ne_eqb}
+use Rattle.wasm_module.specs.declared.profile.Profile.{Profile}
 use Rattle.wasm_module.specs.declared.fault.LoadFault.{LoadFault}
 use Rattle.wasm_module.specs.declared.instruction.BlockType.{BlockType}
 use Rattle.wasm_module.specs.declared.instruction.Instruction.{Instruction}
 use Rattle.wasm_module.specs.declared.instruction.Instruction.TheVariants as op
-use Rattle.wasm_module.specs.internal.CodeReading.{control_after, block_with, branch_with, variable_after, variable_with}
+use Rattle.wasm_module.specs.internal.CodeReading.{saturated, bulk_after, control_after, block_with, branch_with, variable_after, variable_with}
 use Rattle.wasm_module.specs.internal.TypesReading.{block_type_at}
 use Rattle.wasm_module.specs.Reading.{◌>>=◌, Gives, Reader, map_at, u32_at}
 
@@ -55,35 +56,42 @@ variables_given b bytes rest x r low is made_is = subst (λ (o : Option (Instruc
 pub variables_none : (b : ℕ) (bytes : List ℕ) → 0x20 ≤ b → u32_at bytes ≡ None → variable_after b bytes ≡ None
 variables_none b bytes low none_is = variables b bytes low ∙ rw none_is refl
 
--- the beginnings of blocks
-blocks : (b : ℕ) (bytes : List ℕ) → 0x02 ≤ b → b ≤ 0x04 → control_after b bytes ≡ made_with block_type_at (block_with b) bytes
-unfolding control_after block_with
-blocks b bytes low high = by_code (eqb b 0x02) refl (eqb b 0x03) refl where
-  by_code : (t : Bool) → eqb b 0x02 ≡ t → (u : Bool) → eqb b 0x03 ≡ u → control_after b bytes ≡ made_with block_type_at (block_with b) bytes
-  by_code true is u other = rw (eqb-true b 0x02 is) refl
-  by_code false is true other = rw (eqb-true b 0x03 other) refl
-  by_code false is false other = let last : b ≡ 0x04 = omega (arith, eqb-false b 0x02 is, eqb-false b 0x03 other) in rw last refl
+module _ (profile : Profile) where
+  -- the beginnings of blocks
+  blocks : (b : ℕ) (bytes : List ℕ) → 0x02 ≤ b → b ≤ 0x04 → control_after profile b bytes ≡ made_with (block_type_at profile) (block_with b) bytes
+  unfolding control_after block_with
+  blocks b bytes low high = by_code (eqb b 0x02) refl (eqb b 0x03) refl where
+    by_code : (t : Bool) → eqb b 0x02 ≡ t → (u : Bool) → eqb b 0x03 ≡ u → control_after profile b bytes ≡ made_with (block_type_at profile) (block_with b) bytes
+    by_code true is u other = rw (eqb-true b 0x02 is) refl
+    by_code false is true other = rw (eqb-true b 0x03 other) refl
+    by_code false is false other = let last : b ≡ 0x04 = omega (arith, eqb-false b 0x02 is, eqb-false b 0x03 other) in rw last refl
 
--- what is made of the type of a block is what is read
-pub blocks_given : (b : ℕ) (bytes rest : List ℕ) (x : BlockType) (r : Result Instruction LoadFault) → 0x02 ≤ b → b ≤ 0x04 → block_type_at bytes ≡ Some (x, rest) → Gives (λ i. i) r (block_with b x) → Gives (λ i. (i, rest)) r (control_after b bytes)
-blocks_given b bytes rest x r low high is made_is = subst (λ (o : Option (Instruction × List ℕ)). Gives (λ i. (i, rest)) r o) (sym (blocks b bytes low high)) (given block_type_at (block_with b) bytes rest x r is made_is)
+  -- what is made of the type of a block is what is read
+  pub blocks_given : (b : ℕ) (bytes rest : List ℕ) (x : BlockType) (r : Result Instruction LoadFault) → 0x02 ≤ b → b ≤ 0x04 → block_type_at profile bytes ≡ Some (x, rest) → Gives (λ i. i) r (block_with b x) → Gives (λ i. (i, rest)) r (control_after profile b bytes)
+  blocks_given b bytes rest x r low high is made_is = subst (λ (o : Option (Instruction × List ℕ)). Gives (λ i. (i, rest)) r o) (sym (blocks b bytes low high)) (given (block_type_at profile) (block_with b) bytes rest x r is made_is)
 
--- where the type of a block can't be read, nothing can
-pub blocks_none : (b : ℕ) (bytes : List ℕ) → 0x02 ≤ b → b ≤ 0x04 → block_type_at bytes ≡ None → control_after b bytes ≡ None
-blocks_none b bytes low high none_is = blocks b bytes low high ∙ rw none_is refl
+  -- where the type of a block can't be read, nothing can
+  pub blocks_none : (b : ℕ) (bytes : List ℕ) → 0x02 ≤ b → b ≤ 0x04 → block_type_at profile bytes ≡ None → control_after profile b bytes ≡ None
+  blocks_none b bytes low high none_is = blocks b bytes low high ∙ rw none_is refl
 
--- the branches
-branches : (b : ℕ) (bytes : List ℕ) → 0x0C ≤ b → b ≤ 0x0D → control_after b bytes ≡ made_with u32_at (branch_with b) bytes
-unfolding control_after branch_with
-branches b bytes low high = by_code (eqb b 0x0C) refl where
-  by_code : (t : Bool) → eqb b 0x0C ≡ t → control_after b bytes ≡ made_with u32_at (branch_with b) bytes
-  by_code true is = rw (eqb-true b 0x0C is) refl
-  by_code false is = let last : b ≡ 0x0D = omega (arith, eqb-false b 0x0C is) in rw last refl
+  -- the branches
+  branches : (b : ℕ) (bytes : List ℕ) → 0x0C ≤ b → b ≤ 0x0D → control_after profile b bytes ≡ made_with u32_at (branch_with b) bytes
+  unfolding control_after branch_with
+  branches b bytes low high = by_code (eqb b 0x0C) refl where
+    by_code : (t : Bool) → eqb b 0x0C ≡ t → control_after profile b bytes ≡ made_with u32_at (branch_with b) bytes
+    by_code true is = rw (eqb-true b 0x0C is) refl
+    by_code false is = let last : b ≡ 0x0D = omega (arith, eqb-false b 0x0C is) in rw last refl
 
--- what is made of the label of a branch is what is read
-pub branches_given : (b : ℕ) (bytes rest : List ℕ) (x : ℕ) (r : Result Instruction LoadFault) → 0x0C ≤ b → b ≤ 0x0D → u32_at bytes ≡ Some (x, rest) → Gives (λ i. i) r (branch_with b x) → Gives (λ i. (i, rest)) r (control_after b bytes)
-branches_given b bytes rest x r low high is made_is = subst (λ (o : Option (Instruction × List ℕ)). Gives (λ i. (i, rest)) r o) (sym (branches b bytes low high)) (given u32_at (branch_with b) bytes rest x r is made_is)
+  -- what is made of the label of a branch is what is read
+  pub branches_given : (b : ℕ) (bytes rest : List ℕ) (x : ℕ) (r : Result Instruction LoadFault) → 0x0C ≤ b → b ≤ 0x0D → u32_at bytes ≡ Some (x, rest) → Gives (λ i. i) r (branch_with b x) → Gives (λ i. (i, rest)) r (control_after profile b bytes)
+  branches_given b bytes rest x r low high is made_is = subst (λ (o : Option (Instruction × List ℕ)). Gives (λ i. (i, rest)) r o) (sym (branches b bytes low high)) (given u32_at (branch_with b) bytes rest x r is made_is)
 
--- where the label of a branch can't be read, nothing can
-pub branches_none : (b : ℕ) (bytes : List ℕ) → 0x0C ≤ b → b ≤ 0x0D → u32_at bytes ≡ None → control_after b bytes ≡ None
-branches_none b bytes low high none_is = branches b bytes low high ∙ rw none_is refl
+  -- where the label of a branch can't be read, nothing can
+  pub branches_none : (b : ℕ) (bytes : List ℕ) → 0x0C ≤ b → b ≤ 0x0D → u32_at bytes ≡ None → control_after profile b bytes ≡ None
+  branches_none b bytes low high none_is = branches b bytes low high ∙ rw none_is refl
+
+  -- the saturating conversions stand behind the other numbers
+  pub saturations_given : (n : ℕ) (bytes : List ℕ) (r : Result Instruction LoadFault) → (n ≡ 10 → ⊥) → (n ≡ 11 → ⊥) → Gives (λ i. i) r (saturated profile n) → Gives (λ i. (i, bytes)) r (bulk_after profile n bytes)
+  unfolding bulk_after
+  saturations_given n bytes (Ok i) not_copy not_fill is = rw (ne_eqb n 10 not_copy, ne_eqb n 11 not_fill, is) refl
+  saturations_given n bytes (Err e) not_copy not_fill is = λ other. rw (ne_eqb n 10 not_copy, ne_eqb n 11 not_fill, is other) refl

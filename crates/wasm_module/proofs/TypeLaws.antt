@@ -1,8 +1,9 @@
 -- The laws of types.
 use Rattle.std.proofs.Common.{◌≡◌, ℕ, Bool, true, false, cond, eqb, leb, List, [], ◌∷◌, ◌++◌, Option, Some, None, refl, sym, ap, subst, ◌∙◌, append_assoc, inl, inr}
 use Rattle.std.proofs.lemmas.Bool.{eqb-true, leb-true, le-leb}
+use Rattle.wasm_module.specs.declared.profile.Profile.{Profile}
 use Rattle.wasm_module.specs.declared.instruction.ValueType.{ValueType}
-use Rattle.wasm_module.specs.declared.instruction.ValueType.TheVariants.{I32, I64}
+use Rattle.wasm_module.specs.declared.instruction.ValueType.TheVariants.{I32, I64, F32, F64}
 use Rattle.wasm_module.specs.declared.instruction.BlockType.{BlockType}
 use Rattle.wasm_module.specs.declared.instruction.BlockType.TheVariants.{Empty, Value}
 use Rattle.wasm_module.specs.declared.module.FuncType.{FuncType}
@@ -12,63 +13,69 @@ use Rattle.wasm_module.specs.Grammar.{Then, U32}
 use Rattle.wasm_module.specs.Types.{SpellsValueType, SpellsBlockType, SpellsFuncType, SpellsBounds, SpellsLimits, SpellsTable, SpellsMutability, SpellsGlobalType}
 use Rattle.wasm_module.specs.internal.TypesReading.{value_type_of, value_type_at, block_type_at, func_type_at, bounds_after, limits_at, table_at, mutability_of, mutability_at, global_type_at}
 use Rattle.wasm_module.specs.Reading.{◌>>=◌, byte_at, u32_at, then_at}
-use Rattle.wasm_module.proofs.Laws.{bind_some, guard_some, chosen, some_is, Front, Reads}
+use Rattle.wasm_module.proofs.Laws.{bind_some, guard_some, chosen, some_is, picked, picked_with, ended, Front, Reads}
 use Rattle.wasm_module.proofs.Combine.{reads_byte, reads_then, reads_as, reads_u32, reads_vector, operand_then, reread, tagged, untagged}
 
--- ---- value types
+module _ (profile : Profile) where
+  -- ---- value types
 
--- a value type has its byte
-pub value_type_takes : (b : ℕ) (t : ValueType) → value_type_of b ≡ Some t → SpellsValueType (b ∷ []) t
-value_type_takes b t e =
-    elim (chosen (eqb b 0x7F) (Some I32) (cond (eqb b 0x7E) (Some I64) None) (Some t) e) [
-      | inl h ↦ subst (SpellsValueType (b ∷ [])) (some_is I32 t h.1) (ap (λ (c : ℕ). c ∷ []) (eqb-true _ _ h.0))
-      | inr h ↦ let g = guard_some (eqb b 0x7E) I64 t h.1 in subst (SpellsValueType (b ∷ [])) g.1 (ap (λ (c : ℕ). c ∷ []) (eqb-true _ _ g.0))
-    ]
+  -- a value type has its byte
+  pub value_type_takes : (b : ℕ) (t : ValueType) → value_type_of profile b ≡ Some t → SpellsValueType profile (b ∷ []) t
+  value_type_takes b t =
+      picked (SpellsValueType profile (b ∷ [])) b 0x7F I32 t _ (λ is. ap (λ (c : ℕ). c ∷ []) is) (
+      picked (SpellsValueType profile (b ∷ [])) b 0x7E I64 t _ (λ is. ap (λ (c : ℕ). c ∷ []) is) (
+      picked_with (SpellsValueType profile (b ∷ [])) profile b 0x7D F32 t _ (λ is taken. (taken, ap (λ (c : ℕ). c ∷ []) is)) (
+      picked_with (SpellsValueType profile (b ∷ [])) profile b 0x7C F64 t _ (λ is taken. (taken, ap (λ (c : ℕ). c ∷ []) is)) (
+      ended))))
 
--- value types
-pub reads_value_type : Reads ValueType SpellsValueType value_type_at
-unfolding value_type_at
-reads_value_type = record { takes = takes; again = again } where
-  takes : (bytes : List ℕ) (t : ValueType) (rest : List ℕ) → value_type_at bytes ≡ Some (t, rest) → Front ValueType SpellsValueType bytes t rest
-  takes [] t rest e = absurd cc
-  takes (b ∷ bs) t rest e =
-      let s = bind_some (value_type_of b) (λ t. Some (t, bs)) (t, rest) e in
-      let p = some_is (s.0, bs) (t, rest) s.2 in
-      subst (λ (q : ValueType × List ℕ). Front ValueType SpellsValueType (b ∷ bs) q.0 q.1) p (record { text = b ∷ []; spells = value_type_takes b s.0 s.1; parts = refl })
+  -- value types
+  pub reads_value_type : Reads ValueType (SpellsValueType profile) (value_type_at profile)
+  unfolding value_type_at
+  reads_value_type = record { takes = takes; again = again } where
+    takes : (bytes : List ℕ) (t : ValueType) (rest : List ℕ) → value_type_at profile bytes ≡ Some (t, rest) → Front ValueType (SpellsValueType profile) bytes t rest
+    takes [] t rest e = absurd cc
+    takes (b ∷ bs) t rest e =
+        let s = bind_some (value_type_of profile b) (λ t. Some (t, bs)) (t, rest) e in
+        let p = some_is (s.0, bs) (t, rest) s.2 in
+        subst (λ (q : ValueType × List ℕ). Front ValueType (SpellsValueType profile) (b ∷ bs) q.0 q.1) p (record { text = b ∷ []; spells = value_type_takes b s.0 s.1; parts = refl })
 
-  again : (text : List ℕ) (t : ValueType) (rest : List ℕ) → SpellsValueType text t → value_type_at (text ++ rest) ≡ Some (t, rest)
-  again text I32 rest h = rw h refl
-  again text I64 rest h = rw h refl
+    again : (text : List ℕ) (t : ValueType) (rest : List ℕ) → SpellsValueType profile text t → value_type_at profile (text ++ rest) ≡ Some (t, rest)
+    again text I32 rest h = rw h refl
+    again text I64 rest h = rw h refl
+    again text F32 rest h = rw (h.0, h.1) refl
+    again text F64 rest h = rw (h.0, h.1) refl
 
--- ---- block types
+  -- ---- block types
 
--- block types
-pub reads_block_type : Reads BlockType SpellsBlockType block_type_at
-unfolding block_type_at
-reads_block_type = record { takes = takes; again = again } where
-  takes : (bytes : List ℕ) (t : BlockType) (rest : List ℕ) → block_type_at bytes ≡ Some (t, rest) → Front BlockType SpellsBlockType bytes t rest
-  takes [] t rest e = absurd cc
-  takes (b ∷ bs) t rest e =
-      elim (chosen (eqb b 0x40) (Some (Empty, bs)) (value_type_of b >>= λ t. Some (Value t, bs)) (Some (t, rest)) e) [
-        | inl h ↦ subst (λ (q : BlockType × List ℕ). Front BlockType SpellsBlockType (b ∷ bs) q.0 q.1) (some_is (Empty, bs) (t, rest) h.1) (record { text = b ∷ []; spells = ap (λ (c : ℕ). c ∷ []) (eqb-true _ _ h.0); parts = refl })
-        | inr h ↦
-            let s = bind_some (value_type_of b) (λ t. Some (Value t, bs)) (t, rest) h.1 in
-            subst (λ (q : BlockType × List ℕ). Front BlockType SpellsBlockType (b ∷ bs) q.0 q.1) (some_is (Value s.0, bs) (t, rest) s.2) (record { text = b ∷ []; spells = value_type_takes b s.0 s.1; parts = refl })
-      ]
+  -- block types
+  pub reads_block_type : Reads BlockType (SpellsBlockType profile) (block_type_at profile)
+  unfolding block_type_at
+  reads_block_type = record { takes = takes; again = again } where
+    takes : (bytes : List ℕ) (t : BlockType) (rest : List ℕ) → block_type_at profile bytes ≡ Some (t, rest) → Front BlockType (SpellsBlockType profile) bytes t rest
+    takes [] t rest e = absurd cc
+    takes (b ∷ bs) t rest e =
+        elim (chosen (eqb b 0x40) (Some (Empty, bs)) (value_type_of profile b >>= λ t. Some (Value t, bs)) (Some (t, rest)) e) [
+          | inl h ↦ subst (λ (q : BlockType × List ℕ). Front BlockType (SpellsBlockType profile) (b ∷ bs) q.0 q.1) (some_is (Empty, bs) (t, rest) h.1) (record { text = b ∷ []; spells = ap (λ (c : ℕ). c ∷ []) (eqb-true _ _ h.0); parts = refl })
+          | inr h ↦
+              let s = bind_some (value_type_of profile b) (λ t. Some (Value t, bs)) (t, rest) h.1 in
+              subst (λ (q : BlockType × List ℕ). Front BlockType (SpellsBlockType profile) (b ∷ bs) q.0 q.1) (some_is (Value s.0, bs) (t, rest) s.2) (record { text = b ∷ []; spells = value_type_takes b s.0 s.1; parts = refl })
+        ]
 
-  again : (text : List ℕ) (t : BlockType) (rest : List ℕ) → SpellsBlockType text t → block_type_at (text ++ rest) ≡ Some (t, rest)
-  again text Empty rest h = rw h refl
-  again text (Value I32) rest h = rw h refl
-  again text (Value I64) rest h = rw h refl
+    again : (text : List ℕ) (t : BlockType) (rest : List ℕ) → SpellsBlockType profile text t → block_type_at profile (text ++ rest) ≡ Some (t, rest)
+    again text Empty rest h = rw h refl
+    again text (Value I32) rest h = rw h refl
+    again text (Value I64) rest h = rw h refl
+    again text (Value F32) rest h = rw (h.0, h.1) refl
+    again text (Value F64) rest h = rw (h.0, h.1) refl
 
--- ---- function types
+  -- ---- function types
 
--- function types
-pub reads_func_type : Reads FuncType SpellsFuncType func_type_at
-unfolding func_type_at
-reads_func_type =
-    let types = reads_vector reads_value_type in
-    reads_as (reads_then (reads_byte 0x60) (reads_then types types)) (λ p. record { params = p.1.0; results = p.1.1 }) (λ t. (tt, (t.params, t.results))) (λ p. refl) (λ t. refl)
+  -- function types
+  pub reads_func_type : Reads FuncType (SpellsFuncType profile) (func_type_at profile)
+  unfolding func_type_at
+  reads_func_type =
+      let types = reads_vector reads_value_type in
+      reads_as (reads_then (reads_byte 0x60) (reads_then types types)) (λ p. record { params = p.1.0; results = p.1.1 }) (λ t. (tt, (t.params, t.results))) (λ p. refl) (λ t. refl)
 
 -- ---- limits
 
@@ -158,7 +165,8 @@ reads_mutability = record { takes = takes; again = again } where
   again text false rest h = rw h refl
   again text true rest h = rw h refl
 
--- types of globals
-pub reads_global_type : Reads GlobalType SpellsGlobalType global_type_at
-unfolding global_type_at
-reads_global_type = reads_as (reads_then reads_value_type reads_mutability) (λ p. record { value_type = p.0; mutable = p.1 }) (λ g. (g.value_type, g.mutable)) (λ p. refl) (λ g. refl)
+module _ (profile : Profile) where
+  -- types of globals
+  pub reads_global_type : Reads GlobalType (SpellsGlobalType profile) (global_type_at profile)
+  unfolding global_type_at
+  reads_global_type = reads_as (reads_then (reads_value_type profile) reads_mutability) (λ p. record { value_type = p.0; mutable = p.1 }) (λ g. (g.value_type, g.mutable)) (λ p. refl) (λ g. refl)

@@ -1,5 +1,5 @@
 -- The ways in which the binary format puts spellings together (section 5.1). A spelling relates bytes to what they spell.
-use Rattle.std.specs.Prelude.{◌≡◌, ℕ, List, [], ◌∷◌, ◌++◌, length, IsUtf8}
+use Rattle.std.specs.Prelude.{◌≡◌, ℕ, ◌+◌, ◌*◌, List, [], ◌∷◌, ◌++◌, length, IsUtf8}
 use Rattle.wasm_module.specs.Number.{SpellsNumber}
 use Rattle.wasm_module.specs.declared.number.Sign.TheVariants.{Unsigned}
 
@@ -26,6 +26,15 @@ Vector A text xs = Then U32 (Each A) text (length xs, xs)
 -- a size, and this many bytes, which spell the thing
 abbrev pub Sized : {X : Type 0} → (List ℕ → X → Type 0) → List ℕ → X → Type 0
 Sized A text x = (size : List ℕ) × (content : List ℕ) × U32 size (length content) × A content x × (text ≡ size ++ content)
+
+-- bytes as a number, the lowest first (section 4.3.1)
+abbrev pub little_endian : List ℕ → ℕ
+little_endian [] = 0
+little_endian (b ∷ bs) = b + 256 * little_endian bs
+
+-- the bits of a float (section 5.2.3): this many bytes, the lowest first
+abbrev pub FloatBits : ℕ → List ℕ → ℕ → Type 0
+FloatBits count text n = (length text ≡ count) × (little_endian text ≡ n)
 
 -- any bytes, by themselves
 abbrev pub Raw : List ℕ → List ℕ → Type 0

@@ -4,10 +4,12 @@
 -- and proofs.
 pub mod Number
 pub mod Grammar
+pub mod Profile
 pub mod Types
 pub mod Accesses
 pub mod Instructions
 pub mod Sections
 pub mod Module
+pub mod Floatless
 pub mod Reading
 pub mod internal

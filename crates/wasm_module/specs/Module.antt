@@ -1,7 +1,9 @@
--- The bytes of a module (section 5.5.15), with the limits of the profile. `Spells` is the whole grammar in one
--- relation: `decode` answers with a module that the bytes spell, or with a fault, and then (but for memory) they spell
--- none.
+-- The bytes of a module (section 5.5.15), with the limits of the profile. `SpellsWith` is the whole grammar in one
+-- relation, and `Spells` is it without floats: `decode` answers with a module that the bytes spell, or with a fault, and
+-- then (but for memory) they spell none.
 use Rattle.std.specs.Prelude.{◌≡◌, ℕ, ◌+◌, ◌≤◌, List, [], ◌∷◌, ◌++◌, length, Option, Some, None, unwrap_or, slice_get, sum_by, IfSome}
+use Rattle.wasm_module.specs.declared.profile.Profile.{Profile}
+use Rattle.wasm_module.specs.declared.profile.Profile.TheVariants.{Integers}
 use Rattle.wasm_module.specs.declared.module.FuncType.{FuncType}
 use Rattle.wasm_module.specs.declared.module.Limits.{Limits}
 use Rattle.wasm_module.specs.declared.module.Import.{Import}
@@ -32,7 +34,7 @@ pub record Sections : Type 0 where
   pub data_segments : Option (List DataSegment)
 
 -- the sections in their order, custom sections before, between and after them
-pub record SpellsSections (text : List ℕ) (s : Sections) : Type 0 where
+pub record SpellsSections (p : Profile) (text : List ℕ) (s : Sections) : Type 0 where
   pub customs : List ℕ
   pub types : List ℕ
   pub imports : List ℕ
@@ -47,18 +49,18 @@ pub record SpellsSections (text : List ℕ) (s : Sections) : Type 0 where
   pub bodies : List ℕ
   pub data_segments : List ℕ
   pub customs_are : Customs customs
-  pub types_are : Section 1 (Vector SpellsFuncType) types s.types
-  pub imports_are : Section 2 (Vector SpellsImport) imports s.imports
+  pub types_are : Section 1 (Vector (SpellsFuncType p)) types s.types
+  pub imports_are : Section 2 (Vector (SpellsImport p)) imports s.imports
   pub functions_are : Section 3 (Vector U32) functions s.functions
   pub tables_are : Section 4 (Vector SpellsTable) tables s.tables
   pub memories_are : Section 5 (Vector SpellsLimits) memories s.memories
-  pub globals_are : Section 6 (Vector SpellsGlobal) globals s.globals
+  pub globals_are : Section 6 (Vector (SpellsGlobal p)) globals s.globals
   pub exports_are : Section 7 (Vector SpellsExport) exports s.exports
   pub start_is : Section 8 U32 start s.start
-  pub element_segments_are : Section 9 (Vector SpellsElements) element_segments s.element_segments
+  pub element_segments_are : Section 9 (Vector (SpellsElements p)) element_segments s.element_segments
   pub data_count_is : Section 12 U32 data_count s.data_count
-  pub bodies_are : Section 10 (Vector (Sized BodyContent)) bodies s.bodies
-  pub data_segments_are : Section 11 (Vector SpellsData) data_segments s.data_segments
+  pub bodies_are : Section 10 (Vector (Sized (BodyContent p))) bodies s.bodies
+  pub data_segments_are : Section 11 (Vector (SpellsData p)) data_segments s.data_segments
   pub text_is : text ≡ customs ++ (types ++ (imports ++ (functions ++ (tables ++ (memories ++ (globals ++ (exports ++ (start ++ (element_segments ++ (data_count ++ (bodies ++ data_segments)))))))))))
 
 -- the module of these sections; one that is absent is empty
@@ -98,13 +100,17 @@ pub record CountsAgree (s : Sections) : Type 0 where
   pub profile : FitsProfile (unwrap_or s.types []) (unwrap_or s.functions []) (unwrap_or s.bodies [])
 
 -- the bytes are a preamble and these sections
-pub record SpellsParts (bytes : List ℕ) (s : Sections) : Type 0 where
+pub record SpellsParts (p : Profile) (bytes : List ℕ) (s : Sections) : Type 0 where
   pub text : List ℕ
   pub short : length bytes ≤ 67108864
   pub preamble : bytes ≡ 0x00 ∷ 0x61 ∷ 0x73 ∷ 0x6D ∷ 0x01 ∷ 0x00 ∷ 0x00 ∷ 0x00 ∷ text
-  pub sections : SpellsSections text s
+  pub sections : SpellsSections p text s
   pub whole : CountsAgree s
 
--- the bytes spell the module
+-- the bytes spell the module, which holds no more than the profile takes
+abbrev pub SpellsWith : Profile → List ℕ → Module → Type 0
+SpellsWith p bytes m = (s : Sections) × SpellsParts p bytes s × (m ≡ module_of s)
+
+-- the bytes spell the module, which holds no floats
 abbrev pub Spells : List ℕ → Module → Type 0
-Spells bytes m = (s : Sections) × SpellsParts bytes s × (m ≡ module_of s)
+Spells = SpellsWith Integers

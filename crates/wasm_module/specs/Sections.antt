@@ -1,6 +1,7 @@
 -- Sections and what they hold (section 5.5): which bytes spell which part of a module, or a custom section. `Module`
 -- puts the sections in their order, with custom sections before, between and after them.
 use Rattle.std.specs.Prelude.{◌≡◌, ℕ, List, [], ◌++◌, Option, Some, None}
+use Rattle.wasm_module.specs.declared.profile.Profile.{Profile}
 use Rattle.wasm_module.specs.declared.module.ImportKind.{ImportKind}
 use Rattle.wasm_module.specs.declared.module.ImportKind.TheVariants as imported
 use Rattle.wasm_module.specs.declared.module.Import.{Import}
@@ -38,18 +39,18 @@ Section id A text (Some x) =
 -- ---- their parts
 
 -- section 5.5.5
-abbrev pub SpellsImportKind : List ℕ → ImportKind → Type 0
-SpellsImportKind text (imported.Function x) = Then (Byte 0x00) U32 text (tt, x)
-SpellsImportKind text (imported.Table l) = Then (Byte 0x01) SpellsTable text (tt, l)
-SpellsImportKind text (imported.Memory l) = Then (Byte 0x02) SpellsLimits text (tt, l)
-SpellsImportKind text (imported.Global g) = Then (Byte 0x03) SpellsGlobalType text (tt, g)
+abbrev pub SpellsImportKind : Profile → List ℕ → ImportKind → Type 0
+SpellsImportKind p text (imported.Function x) = Then (Byte 0x00) U32 text (tt, x)
+SpellsImportKind p text (imported.Table l) = Then (Byte 0x01) SpellsTable text (tt, l)
+SpellsImportKind p text (imported.Memory l) = Then (Byte 0x02) SpellsLimits text (tt, l)
+SpellsImportKind p text (imported.Global g) = Then (Byte 0x03) (SpellsGlobalType p) text (tt, g)
 
-abbrev pub SpellsImport : List ℕ → Import → Type 0
-SpellsImport text i = Then SpellsName (Then SpellsName SpellsImportKind) text (i.module_name, (i.name, i.kind))
+abbrev pub SpellsImport : Profile → List ℕ → Import → Type 0
+SpellsImport p text i = Then SpellsName (Then SpellsName (SpellsImportKind p)) text (i.module_name, (i.name, i.kind))
 
 -- section 5.5.9
-abbrev pub SpellsGlobal : List ℕ → GlobalEntry → Type 0
-SpellsGlobal text g = Then SpellsGlobalType SpellsExpression text (g.global_type, g.init)
+abbrev pub SpellsGlobal : Profile → List ℕ → GlobalEntry → Type 0
+SpellsGlobal p text g = Then (SpellsGlobalType p) (SpellsExpression p) text (g.global_type, g.init)
 
 -- section 5.5.10
 abbrev pub SpellsExportKind : List ℕ → ExportKind → Type 0
@@ -62,16 +63,16 @@ abbrev pub SpellsExport : List ℕ → Export → Type 0
 SpellsExport text e = Then SpellsName SpellsExportKind text (e.name, e.kind)
 
 -- section 5.5.12
-abbrev pub SpellsElements : List ℕ → ElementSegment → Type 0
-SpellsElements text e = Then U32 (Then SpellsExpression (Vector U32)) text (e.table, (e.offset, e.functions))
+abbrev pub SpellsElements : Profile → List ℕ → ElementSegment → Type 0
+SpellsElements p text e = Then U32 (Then (SpellsExpression p) (Vector U32)) text (e.table, (e.offset, e.functions))
 
 -- section 5.5.13: locals in groups, and the instructions
-abbrev pub SpellsLocals : List ℕ → Locals → Type 0
-SpellsLocals text l = Then U32 SpellsValueType text (l.count, l.value_type)
+abbrev pub SpellsLocals : Profile → List ℕ → Locals → Type 0
+SpellsLocals p text l = Then U32 (SpellsValueType p) text (l.count, l.value_type)
 
-abbrev pub BodyContent : List ℕ → Body → Type 0
-BodyContent content b = (content ≡ b.bytes) × Then (Vector SpellsLocals) SpellsExpression content (b.locals, b.code)
+abbrev pub BodyContent : Profile → List ℕ → Body → Type 0
+BodyContent p content b = (content ≡ b.bytes) × Then (Vector (SpellsLocals p)) (SpellsExpression p) content (b.locals, b.code)
 
 -- section 5.5.14
-abbrev pub SpellsData : List ℕ → DataSegment → Type 0
-SpellsData text d = Then U32 (Then SpellsExpression (Sized Raw)) text (d.memory, (d.offset, d.bytes))
+abbrev pub SpellsData : Profile → List ℕ → DataSegment → Type 0
+SpellsData p text d = Then U32 (Then (SpellsExpression p) (Sized Raw)) text (d.memory, (d.offset, d.bytes))

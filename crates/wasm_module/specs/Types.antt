@@ -1,8 +1,13 @@
--- The spellings of types and limits (section 5.3), those of floating point left out: which bytes spell which type that
--- the decoder returns. The profile's limit on the elements that a table begins with stands here, too (`SpellsTable`).
+-- The spellings of types and limits (section 5.3), by a profile: which bytes spell which type that the decoder returns. The profile's limit on the elements that a table begins with stands here, too (`SpellsTable`).
 use Rattle.std.specs.Prelude.{◌≡◌, ℕ, ◌≤◌, List, [], ◌∷◌, Option, Some, None, Bool, true, false}
+use Rattle.wasm_module.specs.declared.profile.Profile.{Profile}
+use Rattle.wasm_module.specs.declared.profile.Profile.TheVariants.{Integers, Floats}
 use Rattle.wasm_module.specs.declared.instruction.ValueType.{ValueType}
-use Rattle.wasm_module.specs.declared.instruction.ValueType.TheVariants.{I32, I64}
+use Rattle.wasm_module.specs.declared.instruction.ValueType.TheVariants.{I32, I64, F32, F64}
+use Rattle.wasm_module.specs.declared.instruction.IntegerType.{IntegerType}
+use Rattle.wasm_module.specs.declared.instruction.IntegerType.TheVariants as int
+use Rattle.wasm_module.specs.declared.instruction.FloatType.{FloatType}
+use Rattle.wasm_module.specs.declared.instruction.FloatType.TheVariants as float_type
 use Rattle.wasm_module.specs.declared.instruction.BlockType.{BlockType}
 use Rattle.wasm_module.specs.declared.instruction.BlockType.TheVariants.{Empty, Value}
 use Rattle.wasm_module.specs.declared.module.FuncType.{FuncType}
@@ -10,19 +15,32 @@ use Rattle.wasm_module.specs.declared.module.Limits.{Limits}
 use Rattle.wasm_module.specs.declared.module.GlobalType.{GlobalType}
 use Rattle.wasm_module.specs.Grammar.{Byte, Then, U32, Vector}
 
+-- an integer type as a type of values (section 2.3.1)
+abbrev pub integer : IntegerType → ValueType
+integer int.I32 = I32
+integer int.I64 = I64
+
+-- a type of floats as a type of values
+abbrev pub float : FloatType → ValueType
+float float_type.F32 = F32
+float float_type.F64 = F64
+
 -- section 5.3.1
-abbrev pub SpellsValueType : List ℕ → ValueType → Type 0
-SpellsValueType text I32 = text ≡ 0x7F ∷ []
-SpellsValueType text I64 = text ≡ 0x7E ∷ []
+abbrev pub SpellsValueType : Profile → List ℕ → ValueType → Type 0
+SpellsValueType p text I32 = text ≡ 0x7F ∷ []
+SpellsValueType p text I64 = text ≡ 0x7E ∷ []
+SpellsValueType p text F32 = (p ≡ Floats) × (text ≡ 0x7D ∷ [])
+SpellsValueType p text F64 = (p ≡ Floats) × (text ≡ 0x7C ∷ [])
 
 -- section 5.3.2
-abbrev pub SpellsBlockType : List ℕ → BlockType → Type 0
-SpellsBlockType text Empty = text ≡ 0x40 ∷ []
-SpellsBlockType text (Value t) = SpellsValueType text t
+abbrev pub SpellsBlockType : Profile → List ℕ → BlockType → Type 0
+SpellsBlockType p text Empty = text ≡ 0x40 ∷ []
+SpellsBlockType p text (Value t) = SpellsValueType p text t
 
 -- section 5.3.3: 60, the parameters and the results
-abbrev pub SpellsFuncType : List ℕ → FuncType → Type 0
-SpellsFuncType text t = Then (Byte 0x60) (Then (Vector SpellsValueType) (Vector SpellsValueType)) text (tt, (t.params, t.results))
+abbrev pub SpellsFuncType : Profile → List ℕ → FuncType → Type 0
+SpellsFuncType p text t =
+    Then (Byte 0x60) (Then (Vector (SpellsValueType p)) (Vector (SpellsValueType p))) text (tt, (t.params, t.results))
 
 -- limits by their two numbers (section 5.3.4)
 abbrev pub SpellsBounds : List ℕ → ℕ → Option ℕ → Type 0
@@ -42,5 +60,5 @@ SpellsMutability text false = text ≡ 0x00 ∷ []
 SpellsMutability text true = text ≡ 0x01 ∷ []
 
 -- section 5.3.7
-abbrev pub SpellsGlobalType : List ℕ → GlobalType → Type 0
-SpellsGlobalType text g = Then SpellsValueType SpellsMutability text (g.value_type, g.mutable)
+abbrev pub SpellsGlobalType : Profile → List ℕ → GlobalType → Type 0
+SpellsGlobalType p text g = Then (SpellsValueType p) SpellsMutability text (g.value_type, g.mutable)

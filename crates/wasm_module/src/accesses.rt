@@ -10,6 +10,8 @@ use crate::instruction::ValueType;
 pub enum LoadOperator {
     I32Load,
     I64Load,
+    F32Load,
+    F64Load,
     I32Load8S,
     I32Load8U,
     I32Load16S,
@@ -27,6 +29,8 @@ pub enum LoadOperator {
 pub enum StoreOperator {
     I32Store,
     I64Store,
+    F32Store,
+    F64Store,
     I32Store8,
     I32Store16,
     I64Store8,
@@ -49,6 +53,8 @@ impl LoadOperator {
         let (value_type, width) = match self {
             LoadOperator::I32Load => (ValueType::I32, 2),
             LoadOperator::I64Load => (ValueType::I64, 3),
+            LoadOperator::F32Load => (ValueType::F32, 2),
+            LoadOperator::F64Load => (ValueType::F64, 3),
             LoadOperator::I32Load8S | LoadOperator::I32Load8U => (ValueType::I32, 0),
             LoadOperator::I32Load16S | LoadOperator::I32Load16U => (ValueType::I32, 1),
             LoadOperator::I64Load8S | LoadOperator::I64Load8U => (ValueType::I64, 0),
@@ -67,6 +73,8 @@ impl StoreOperator {
         let (value_type, width) = match self {
             StoreOperator::I32Store => (ValueType::I32, 2),
             StoreOperator::I64Store => (ValueType::I64, 3),
+            StoreOperator::F32Store => (ValueType::F32, 2),
+            StoreOperator::F64Store => (ValueType::F64, 3),
             StoreOperator::I32Store8 => (ValueType::I32, 0),
             StoreOperator::I32Store16 => (ValueType::I32, 1),
             StoreOperator::I64Store8 => (ValueType::I64, 0),

@@ -1,24 +1,25 @@
 //! What instructions are read from (section 5.4).
 
 ghost use Rattle.std.specs.Prelude.{◌≡◌};
-ghost use Rattle.wasm_module.specs.internal.CodeReading.{binary_operator_of, block_with, branch_table_at, branch_with, bulk_after, bulk_at, call_indirect_at, compared, comparison_of, control_after, load_after, load_of, numeric_of, operated, size_after, store_after, store_of, unary_instruction, variable_after, variable_with};
+ghost use Rattle.wasm_module.specs.internal.CodeReading.{binary_operator_of, block_with, branch_table_at, branch_with, bulk_after, bulk_at, call_indirect_at, compared, comparison_of, control_after, float_after, floats_at, load_after, load_of, numeric_of, only_table_at, operated, operator_after, saturated, size_after, store_after, store_of, unary_instruction, variable_after, variable_with};
 ghost use Rattle.wasm_module.specs.Reading.{Gives};
 
 use crate::accesses::{LoadOperator, StoreOperator};
 use crate::cursor::{Cursor, Decode};
 use crate::fault::LoadFault;
+use crate::floats::{float, is_float, saturation};
 use crate::instruction::{
-    BinaryOperator, BlockType, BranchTable, Comparison, Instruction, MemArg, UnaryOperator,
-    ValueType,
+    BinaryOperator, BlockType, BranchTable, Comparison, Instruction, IntegerType, MemArg,
+    UnaryOperator,
 };
 use crate::items::Items;
+use crate::profile::Profile;
 use std::alloc::Global;
 
-/// Why this byte is no opcode: those of floating point are known, and refused.
+/// Why this byte is no opcode: the loads and stores of floats are known, and may be refused.
 fn unknown(byte: u8, offset: u32) -> LoadFault {
     match byte {
-        0x2A | 0x2B | 0x38 | 0x39 | 0x43 | 0x44 => LoadFault::Float { offset },
-        0x5B..=0x66 | 0x8B..=0xA6 | 0xA8..=0xAB | 0xAE..=0xBF => LoadFault::Float { offset },
+        0x2A | 0x2B | 0x38 | 0x39 => LoadFault::Float { offset },
         _ => LoadFault::BadByte { offset },
     }
 }
@@ -74,33 +75,33 @@ fn unary(byte: u8) -> Option<Instruction>
     ensures { result ≡ unary_instruction byte }
 {
     match byte {
-        0x67 => Some(Instruction::Unary(ValueType::I32, UnaryOperator::Clz)),
-        0x68 => Some(Instruction::Unary(ValueType::I32, UnaryOperator::Ctz)),
-        0x69 => Some(Instruction::Unary(ValueType::I32, UnaryOperator::Popcnt)),
-        0x79 => Some(Instruction::Unary(ValueType::I64, UnaryOperator::Clz)),
-        0x7A => Some(Instruction::Unary(ValueType::I64, UnaryOperator::Ctz)),
-        0x7B => Some(Instruction::Unary(ValueType::I64, UnaryOperator::Popcnt)),
-        0xC0 => Some(Instruction::Unary(ValueType::I32, UnaryOperator::Extend8S)),
-        0xC1 => Some(Instruction::Unary(ValueType::I32, UnaryOperator::Extend16S)),
-        0xC2 => Some(Instruction::Unary(ValueType::I64, UnaryOperator::Extend8S)),
-        0xC3 => Some(Instruction::Unary(ValueType::I64, UnaryOperator::Extend16S)),
-        0xC4 => Some(Instruction::Unary(ValueType::I64, UnaryOperator::Extend32S)),
+        0x67 => Some(Instruction::Unary(IntegerType::I32, UnaryOperator::Clz)),
+        0x68 => Some(Instruction::Unary(IntegerType::I32, UnaryOperator::Ctz)),
+        0x69 => Some(Instruction::Unary(IntegerType::I32, UnaryOperator::Popcnt)),
+        0x79 => Some(Instruction::Unary(IntegerType::I64, UnaryOperator::Clz)),
+        0x7A => Some(Instruction::Unary(IntegerType::I64, UnaryOperator::Ctz)),
+        0x7B => Some(Instruction::Unary(IntegerType::I64, UnaryOperator::Popcnt)),
+        0xC0 => Some(Instruction::Unary(IntegerType::I32, UnaryOperator::Extend8S)),
+        0xC1 => Some(Instruction::Unary(IntegerType::I32, UnaryOperator::Extend16S)),
+        0xC2 => Some(Instruction::Unary(IntegerType::I64, UnaryOperator::Extend8S)),
+        0xC3 => Some(Instruction::Unary(IntegerType::I64, UnaryOperator::Extend16S)),
+        0xC4 => Some(Instruction::Unary(IntegerType::I64, UnaryOperator::Extend32S)),
         _ => None,
     }
 }
 
 /// The comparison of this number, of integers of this type.
-fn compared(value_type: ValueType, number: u8) -> Option<Instruction>
-    ensures { result ≡ compared value_type number }
+fn compared(integer_type: IntegerType, number: u8) -> Option<Instruction>
+    ensures { result ≡ compared integer_type number }
 {
-    Some(Instruction::Compare(value_type, comparison(number)?))
+    Some(Instruction::Compare(integer_type, comparison(number)?))
 }
 
 /// The operator of this number, on two integers of this type.
-fn operated(value_type: ValueType, number: u8) -> Option<Instruction>
-    ensures { result ≡ operated value_type number }
+fn operated(integer_type: IntegerType, number: u8) -> Option<Instruction>
+    ensures { result ≡ operated integer_type number }
 {
-    Some(Instruction::Binary(value_type, binary_operator(number)?))
+    Some(Instruction::Binary(integer_type, binary_operator(number)?))
 }
 
 /// The instruction of this opcode on numbers, which has nothing after it.
@@ -110,15 +111,15 @@ fn numeric(byte: u8) -> Option<Instruction>
     ensures { result ≡ numeric_of byte }
 {
     match byte {
-        0x45 => Some(Instruction::Eqz(ValueType::I32)),
-        0x50 => Some(Instruction::Eqz(ValueType::I64)),
+        0x45 => Some(Instruction::Eqz(IntegerType::I32)),
+        0x50 => Some(Instruction::Eqz(IntegerType::I64)),
         0xA7 => Some(Instruction::I32WrapI64),
         0xAC => Some(Instruction::I64ExtendI32S),
         0xAD => Some(Instruction::I64ExtendI32U),
-        0x46..=0x4F => compared(ValueType::I32, byte - 0x46),
-        0x51..=0x5A => compared(ValueType::I64, byte - 0x51),
-        0x6A..=0x78 => operated(ValueType::I32, byte - 0x6A),
-        0x7C..=0x8A => operated(ValueType::I64, byte - 0x7C),
+        0x46..=0x4F => compared(IntegerType::I32, byte - 0x46),
+        0x51..=0x5A => compared(IntegerType::I64, byte - 0x51),
+        0x6A..=0x78 => operated(IntegerType::I32, byte - 0x6A),
+        0x7C..=0x8A => operated(IntegerType::I64, byte - 0x7C),
         _ => unary(byte),
     }
 }
@@ -148,18 +149,39 @@ fn branch_with(byte: u8, offset: u32, label: u32) -> Result<Instruction, LoadFau
     }
 }
 
-fn branch_table(alloc: Global, cursor: &mut Cursor<'_>) -> Result<Instruction, LoadFault>
+fn branch_table(
+    alloc: Global,
+    cursor: &mut Cursor<'_>,
+    profile: Profile,
+) -> Result<Instruction, LoadFault>
     ensures { Gives (λ x. (x, cursor.new)) result (branch_table_at cursor.old) }
 {
-    let (labels, default): (Items<u32>, u32) = Decode::decode(alloc, cursor)?;
+    let (labels, default): (Items<u32>, u32) = Decode::decode(alloc, cursor, profile)?;
     Ok(Instruction::BrTable(BranchTable::new(alloc, labels, default)?))
 }
 
-fn call_indirect(cursor: &mut Cursor<'_>) -> Result<Instruction, LoadFault>
-    ensures { Gives (λ x. (x, cursor.new)) result (call_indirect_at cursor.old) }
+/// The table of an indirect call, which is the only one.
+#[tactic(auto, unfolding(crate::specs::internal::CodeReading::only_table_at))]
+fn only_table(cursor: &mut Cursor<'_>, profile: Profile) -> Result<(), LoadFault>
+    ensures { Gives (λ x. (x, cursor.new)) result (only_table_at profile cursor.old) }
+{
+    match profile {
+        Profile::Integers => cursor.zero(),
+        Profile::Floats => {
+            let offset = cursor.offset();
+            if cursor.u32()? != 0 {
+                return Err(LoadFault::BadByte { offset });
+            }
+            Ok(())
+        }
+    }
+}
+
+fn call_indirect(cursor: &mut Cursor<'_>, profile: Profile) -> Result<Instruction, LoadFault>
+    ensures { Gives (λ x. (x, cursor.new)) result (call_indirect_at profile cursor.old) }
 {
     let index = cursor.u32()?;
-    cursor.zero()?;
+    only_table(cursor, profile)?;
     Ok(Instruction::CallIndirect(index))
 }
 
@@ -168,22 +190,23 @@ fn call_indirect(cursor: &mut Cursor<'_>) -> Result<Instruction, LoadFault>
 fn control(
     alloc: Global,
     cursor: &mut Cursor<'_>,
+    profile: Profile,
     byte: u8,
     offset: u32,
 ) -> Result<Instruction, LoadFault>
-    ensures { Gives (λ x. (x, cursor.new)) result (control_after byte cursor.old) }
+    ensures { Gives (λ x. (x, cursor.new)) result (control_after profile byte cursor.old) }
 {
     match byte {
         0x00 => Ok(Instruction::Unreachable),
         0x01 => Ok(Instruction::Nop),
-        0x02..=0x04 => block_with(byte, offset, BlockType::decode(alloc, cursor)?),
+        0x02..=0x04 => block_with(byte, offset, BlockType::decode(alloc, cursor, profile)?),
         0x05 => Ok(Instruction::Else),
         0x0B => Ok(Instruction::End),
         0x0C..=0x0D => branch_with(byte, offset, cursor.u32()?),
-        0x0E => branch_table(alloc, cursor),
+        0x0E => branch_table(alloc, cursor, profile),
         0x0F => Ok(Instruction::Return),
         0x10 => Ok(Instruction::Call(cursor.u32()?)),
-        0x11 => call_indirect(cursor),
+        0x11 => call_indirect(cursor, profile),
         _ => Err(unknown(byte, offset)),
     }
 }
@@ -219,12 +242,14 @@ fn variable(cursor: &mut Cursor<'_>, byte: u8, offset: u32) -> Result<Instructio
 
 /// The load of this opcode.
 #[tactic(auto, unfolding(crate::specs::internal::CodeReading::load_of))]
-fn load_operator(byte: u8) -> Option<LoadOperator>
-    ensures { result ≡ load_of byte }
+fn load_operator(profile: Profile, byte: u8) -> Option<LoadOperator>
+    ensures { result ≡ load_of profile byte }
 {
     match byte {
         0x28 => Some(LoadOperator::I32Load),
         0x29 => Some(LoadOperator::I64Load),
+        0x2A => profile.takes_floats().then_some(LoadOperator::F32Load),
+        0x2B => profile.takes_floats().then_some(LoadOperator::F64Load),
         0x2C => Some(LoadOperator::I32Load8S),
         0x2D => Some(LoadOperator::I32Load8U),
         0x2E => Some(LoadOperator::I32Load16S),
@@ -239,30 +264,33 @@ fn load_operator(byte: u8) -> Option<LoadOperator>
     }
 }
 
-/// What follows an opcode of the loads (section 5.4.4). Those of floating point are refused before what follows them is read.
+/// What follows an opcode of the loads (section 5.4.4). Where those of floating point are refused, that is before what follows them is read.
 #[tactic(auto, unfolding(crate::specs::internal::CodeReading::load_after))]
 fn load(
     alloc: Global,
     cursor: &mut Cursor<'_>,
+    profile: Profile,
     byte: u8,
     offset: u32,
 ) -> Result<Instruction, LoadFault>
-    ensures { Gives (λ x. (x, cursor.new)) result (load_after byte cursor.old) }
+    ensures { Gives (λ x. (x, cursor.new)) result (load_after profile byte cursor.old) }
 {
-    match load_operator(byte) {
-        Some(operator) => Ok(Instruction::Load(operator, MemArg::decode(alloc, cursor)?)),
+    match load_operator(profile, byte) {
+        Some(operator) => Ok(Instruction::Load(operator, MemArg::decode(alloc, cursor, profile)?)),
         None => Err(unknown(byte, offset)),
     }
 }
 
 /// The store of this opcode.
 #[tactic(auto, unfolding(crate::specs::internal::CodeReading::store_of))]
-fn store_operator(byte: u8) -> Option<StoreOperator>
-    ensures { result ≡ store_of byte }
+fn store_operator(profile: Profile, byte: u8) -> Option<StoreOperator>
+    ensures { result ≡ store_of profile byte }
 {
     match byte {
         0x36 => Some(StoreOperator::I32Store),
         0x37 => Some(StoreOperator::I64Store),
+        0x38 => profile.takes_floats().then_some(StoreOperator::F32Store),
+        0x39 => profile.takes_floats().then_some(StoreOperator::F64Store),
         0x3A => Some(StoreOperator::I32Store8),
         0x3B => Some(StoreOperator::I32Store16),
         0x3C => Some(StoreOperator::I64Store8),
@@ -272,18 +300,19 @@ fn store_operator(byte: u8) -> Option<StoreOperator>
     }
 }
 
-/// What follows an opcode of the stores (section 5.4.4). Those of floating point are refused before what follows them is read.
+/// What follows an opcode of the stores (section 5.4.4). Where those of floating point are refused, that is before what follows them is read.
 #[tactic(auto, unfolding(crate::specs::internal::CodeReading::store_after))]
 fn store(
     alloc: Global,
     cursor: &mut Cursor<'_>,
+    profile: Profile,
     byte: u8,
     offset: u32,
 ) -> Result<Instruction, LoadFault>
-    ensures { Gives (λ x. (x, cursor.new)) result (store_after byte cursor.old) }
+    ensures { Gives (λ x. (x, cursor.new)) result (store_after profile byte cursor.old) }
 {
-    match store_operator(byte) {
-        Some(operator) => Ok(Instruction::Store(operator, MemArg::decode(alloc, cursor)?)),
+    match store_operator(profile, byte) {
+        Some(operator) => Ok(Instruction::Store(operator, MemArg::decode(alloc, cursor, profile)?)),
         None => Err(unknown(byte, offset)),
     }
 }
@@ -306,14 +335,29 @@ fn memory_size(cursor: &mut Cursor<'_>, byte: u8, offset: u32) -> Result<Instruc
     }
 }
 
+/// The saturating conversion of this number, which stands after the opcode FC.
+#[tactic(auto, unfolding(crate::specs::internal::CodeReading::saturation_of))]
+fn saturating(profile: Profile, number: u32, offset: u32) -> Result<Instruction, LoadFault>
+    ensures { Gives (λ i. i) result (saturated profile number) }
+{
+    match saturation(number) {
+        Some(operator) => match profile {
+            Profile::Integers => Err(LoadFault::Float { offset }),
+            Profile::Floats => Ok(Instruction::Float(operator)),
+        },
+        None => Err(LoadFault::BadByte { offset }),
+    }
+}
+
 /// The instruction of this number, which stands after the opcode FC.
 #[tactic(auto, unfolding(crate::specs::internal::CodeReading::bulk_after))]
 fn bulk_instruction(
     cursor: &mut Cursor<'_>,
+    profile: Profile,
     number: u32,
     offset: u32,
 ) -> Result<Instruction, LoadFault>
-    ensures { Gives (λ x. (x, cursor.new)) result (bulk_after number cursor.old) }
+    ensures { Gives (λ x. (x, cursor.new)) result (bulk_after profile number cursor.old) }
 {
     match number {
         10 => {
@@ -325,28 +369,65 @@ fn bulk_instruction(
             cursor.zero()?;
             Ok(Instruction::MemoryFill)
         }
-        0..=7 => Err(LoadFault::Float { offset }),
-        _ => Err(LoadFault::BadByte { offset }),
+        _ => saturating(profile, number, offset),
     }
 }
 
 #[tactic(auto, unfolding(crate::specs::internal::CodeReading::bulk_at))]
-fn bulk(cursor: &mut Cursor<'_>) -> Result<Instruction, LoadFault>
-    ensures { Gives (λ x. (x, cursor.new)) result (bulk_at cursor.old) }
+fn bulk(cursor: &mut Cursor<'_>, profile: Profile) -> Result<Instruction, LoadFault>
+    ensures { Gives (λ x. (x, cursor.new)) result (bulk_at profile cursor.old) }
 {
     let offset = cursor.offset();
     let number = cursor.u32()?;
-    bulk_instruction(cursor, number, offset)
+    bulk_instruction(cursor, profile, number, offset)
+}
+
+/// What follows an opcode of floats, where they are taken.
+fn floats(
+    cursor: &mut Cursor<'_>,
+    profile: Profile,
+    byte: u8,
+    offset: u32,
+) -> Result<Instruction, LoadFault>
+    ensures { Gives (λ x. (x, cursor.new)) result (floats_at profile (float_after byte) cursor.old) }
+{
+    match profile {
+        Profile::Integers => Err(LoadFault::Float { offset }),
+        Profile::Floats => float(cursor, byte, offset),
+    }
+}
+
+/// What follows an opcode of the instructions on numbers (section 5.4.5).
+#[tactic(auto, unfolding(crate::specs::internal::CodeReading::operator_after, crate::specs::internal::CodeReading::numeric_after))]
+fn operator(
+    cursor: &mut Cursor<'_>,
+    profile: Profile,
+    byte: u8,
+    offset: u32,
+) -> Result<Instruction, LoadFault>
+    ensures { Gives (λ x. (x, cursor.new)) result (operator_after profile byte cursor.old) }
+{
+    if is_float(byte) {
+        return floats(cursor, profile, byte, offset);
+    }
+    match numeric(byte) {
+        Some(instruction) => Ok(instruction),
+        None => Err(LoadFault::BadByte { offset }),
+    }
 }
 
 impl<'a> Decode<'a> for MemArg {
     ghost use Rattle.wasm_module.specs.internal.CodeReading.{mem_arg_at};
 
-    ghost at = { mem_arg_at };
+    ghost at = { λ p. mem_arg_at };
 
     #[inline(always)]
     #[tactic(auto, unfolding(crate::specs::internal::CodeReading::mem_arg_at))]
-    fn decode(_alloc: Global, cursor: &mut Cursor<'a>) -> Result<MemArg, LoadFault> {
+    fn decode(
+        _alloc: Global,
+        cursor: &mut Cursor<'a>,
+        _profile: Profile,
+    ) -> Result<MemArg, LoadFault> {
         let align = cursor.u32()?;
         let offset = cursor.u32()?;
         Ok(MemArg { align, offset })
@@ -354,27 +435,28 @@ impl<'a> Decode<'a> for MemArg {
 }
 
 impl<'a> Decode<'a> for Instruction {
-    ghost use Rattle.wasm_module.specs.internal.CodeReading.{instruction_at, instruction_after, numeric_after};
+    ghost use Rattle.wasm_module.specs.internal.CodeReading.{instruction_at, instruction_after};
 
     ghost at = { instruction_at };
 
-    #[tactic(auto, unfolding(crate::specs::internal::CodeReading::instruction_at, crate::specs::internal::CodeReading::instruction_after, crate::specs::internal::CodeReading::numeric_after))]
-    fn decode(alloc: Global, cursor: &mut Cursor<'a>) -> Result<Instruction, LoadFault> {
+    #[tactic(auto, unfolding(crate::specs::internal::CodeReading::instruction_at, crate::specs::internal::CodeReading::instruction_after))]
+    fn decode(
+        alloc: Global,
+        cursor: &mut Cursor<'a>,
+        profile: Profile,
+    ) -> Result<Instruction, LoadFault> {
         let offset = cursor.offset();
         let byte = cursor.byte()?;
         match byte {
             0x41 => Ok(Instruction::I32Const(cursor.s32()?)),
             0x42 => Ok(Instruction::I64Const(cursor.s64()?)),
-            0xFC => bulk(cursor),
-            0x00..=0x11 => control(alloc, cursor, byte, offset),
+            0xFC => bulk(cursor, profile),
+            0x00..=0x11 => control(alloc, cursor, profile, byte, offset),
             0x12..=0x27 => variable(cursor, byte, offset),
-            0x28..=0x35 => load(alloc, cursor, byte, offset),
-            0x36..=0x3E => store(alloc, cursor, byte, offset),
+            0x28..=0x35 => load(alloc, cursor, profile, byte, offset),
+            0x36..=0x3E => store(alloc, cursor, profile, byte, offset),
             0x3F..=0x40 => memory_size(cursor, byte, offset),
-            _ => match numeric(byte) {
-                Some(instruction) => Ok(instruction),
-                None => Err(unknown(byte, offset)),
-            },
+            _ => operator(cursor, profile, byte, offset),
         }
     }
 }

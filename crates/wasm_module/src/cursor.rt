@@ -2,6 +2,7 @@
 
 ghost use Rattle.std.specs.Prelude.{◌≡◌, ◌==◌, ◌^◌, ◌<◌, ◌≤◌, [], length, IfOk, MatchResult};
 ghost use Rattle.wasm_module.specs.internal.CodeReading.{s32_at, s64_at, one_more_at, code_at};
+ghost use Rattle.wasm_module.specs.declared.profile.Profile.{Profile as ProfileValue};
 ghost use Rattle.wasm_module.specs.Reading.{Gives, Reader, byte_at, number_at, u32_at, next_at, begins, many_at, vector_at, piece_at, whole, sized_at, raw_of, utf8_text_of, name_at, custom_of, customs_at, section_at};
 
 use crate::fault::LoadFault;
@@ -9,6 +10,7 @@ use crate::instruction::Instruction;
 use crate::items::{Bytes, Items, Name};
 use crate::number::{Sign, Span, last, number};
 use crate::open_blocks::OpenBlocks;
+use crate::profile::Profile;
 use std::alloc::Global;
 use std::marker::Model;
 
@@ -32,13 +34,13 @@ impl<'a> Model for Cursor<'a> {
     ghost view = { λ c. c.rest.now };
 }
 
-/// What stands in a module's bytes.
+/// What stands in a module's bytes, by what is taken of the standard.
 pub trait Decode<'a>: Drop {
-    ghost at: { Reader Self };
+    ghost at: { ProfileValue → Reader Self };
 
     /// The value at the cursor, which goes past it.
-    fn decode(alloc: Global, cursor: &mut Cursor<'a>) -> Result<Self, LoadFault>
-        ensures { Gives (λ x. (x, cursor.new)) result (at cursor.old) };
+    fn decode(alloc: Global, cursor: &mut Cursor<'a>, profile: Profile) -> Result<Self, LoadFault>
+        ensures { Gives (λ x. (x, cursor.new)) result (at profile cursor.old) };
 }
 
 // One after the other. A value that is read piece by piece is dropped at each later exit; read in
@@ -46,28 +48,40 @@ pub trait Decode<'a>: Drop {
 impl<'a, A: Decode<'a>, B: Decode<'a>> Decode<'a> for (A, B) {
     ghost use Rattle.wasm_module.specs.Reading.{then_at};
 
-    ghost at = { then_at A.at B.at };
+    ghost at = { λ p. then_at (A.at p) (B.at p) };
 
-    fn decode(alloc: Global, cursor: &mut Cursor<'a>) -> Result<(A, B), LoadFault> {
-        let first = A::decode(alloc, cursor)?;
-        let second = B::decode(alloc, cursor)?;
+    fn decode(
+        alloc: Global,
+        cursor: &mut Cursor<'a>,
+        profile: Profile,
+    ) -> Result<(A, B), LoadFault> {
+        let first = A::decode(alloc, cursor, profile)?;
+        let second = B::decode(alloc, cursor, profile)?;
         Ok((first, second))
     }
 }
 
 impl<'a> Decode<'a> for Name<'a> {
-    ghost at = { name_at };
+    ghost at = { λ p. name_at };
 
-    fn decode(_alloc: Global, cursor: &mut Cursor<'a>) -> Result<Name<'a>, LoadFault> {
+    fn decode(
+        _alloc: Global,
+        cursor: &mut Cursor<'a>,
+        _profile: Profile,
+    ) -> Result<Name<'a>, LoadFault> {
         cursor.name()
     }
 }
 
 /// Bytes after their count.
 impl<'a> Decode<'a> for Bytes<'a> {
-    ghost at = { sized_at raw_of };
+    ghost at = { λ p. sized_at raw_of };
 
-    fn decode(_alloc: Global, cursor: &mut Cursor<'a>) -> Result<Bytes<'a>, LoadFault> {
+    fn decode(
+        _alloc: Global,
+        cursor: &mut Cursor<'a>,
+        _profile: Profile,
+    ) -> Result<Bytes<'a>, LoadFault> {
         Ok(cursor.sized_piece()?.bytes())
     }
 }
@@ -244,12 +258,16 @@ impl<'a> Cursor<'a> {
     }
 
     #[tactic(auto, unfolding(crate::specs::Reading::vector_at))]
-    pub fn vector<T: Decode<'a>>(&mut self, alloc: Global) -> Result<Items<T>, LoadFault>
-        ensures { Gives (λ x. (x, self.new)) result (vector_at T.at self.old) }
+    pub fn vector<T: Decode<'a>>(
+        &mut self,
+        alloc: Global,
+        profile: Profile,
+    ) -> Result<Items<T>, LoadFault>
+        ensures { Gives (λ x. (x, self.new)) result (vector_at (T.at profile) self.old) }
     {
         let offset = self.offset();
         let count = self.u32()?;
-        self.many(alloc, count, offset)
+        self.many(alloc, profile, count, offset)
     }
 
     /// An empty list with room for this many values. Each takes a byte at least, so where fewer bytes
@@ -269,23 +287,29 @@ impl<'a> Cursor<'a> {
     fn many<T: Decode<'a>>(
         &mut self,
         alloc: Global,
+        profile: Profile,
         count: u32,
         offset: u32,
     ) -> Result<Items<T>, LoadFault>
-        ensures { Gives (λ x. (x, self.new)) result (many_at T.at count self.old) }
+        ensures { Gives (λ x. (x, self.new)) result (many_at (T.at profile) count self.old) }
     {
         let mut items = self.room(alloc, count)?;
         for _ in 0..count {
-            items.push(T::decode(alloc, self)?)?;
+            items.push(T::decode(alloc, self, profile)?)?;
         }
         Ok(Items::from_vec(items, offset))
     }
 
     /// A value that fills the bytes; they belong to the part that begins at this offset.
-    pub fn whole<T: Decode<'a>>(mut self, alloc: Global, part: u32) -> Result<T, LoadFault>
-        ensures { Gives (λ x. x) result (whole T.at self.entry) }
+    pub fn whole<T: Decode<'a>>(
+        mut self,
+        alloc: Global,
+        profile: Profile,
+        part: u32,
+    ) -> Result<T, LoadFault>
+        ensures { Gives (λ x. x) result (whole (T.at profile) self.entry) }
     {
-        let value = T::decode(alloc, &mut self)?;
+        let value = T::decode(alloc, &mut self, profile)?;
         if self.rest.is_empty() {
             Ok(value)
         } else {
@@ -294,10 +318,15 @@ impl<'a> Cursor<'a> {
     }
 
     /// A value after its size, in the part that begins at this offset.
-    pub fn sized<T: Decode<'a>>(&mut self, alloc: Global, part: u32) -> Result<T, LoadFault>
-        ensures { Gives (λ x. (x, self.new)) result (sized_at (whole T.at) self.old) }
+    pub fn sized<T: Decode<'a>>(
+        &mut self,
+        alloc: Global,
+        profile: Profile,
+        part: u32,
+    ) -> Result<T, LoadFault>
+        ensures { Gives (λ x. (x, self.new)) result (sized_at (whole (T.at profile)) self.old) }
     {
-        match self.sized_piece()?.whole(alloc, part) {
+        match self.sized_piece()?.whole(alloc, profile, part) {
             Ok(value) => Ok(value),
             Err(fault) => Err(fault.inside(part)),
         }
@@ -359,15 +388,20 @@ impl<'a> Cursor<'a> {
 
     /// A section that may be absent, and the custom sections after it.
     #[tactic(auto, unfolding(crate::specs::Reading::section_at))]
-    pub fn section<T: Decode<'a>>(&mut self, alloc: Global, id: u8) -> Result<Option<T>, LoadFault>
-        ensures { Gives (λ x. (x, self.new)) result (section_at id (whole T.at) self.old) }
+    pub fn section<T: Decode<'a>>(
+        &mut self,
+        alloc: Global,
+        profile: Profile,
+        id: u8,
+    ) -> Result<Option<T>, LoadFault>
+        ensures { Gives (λ x. (x, self.new)) result (section_at id (whole (T.at profile)) self.old) }
     {
         if !self.begins(id) {
             return Ok(None);
         }
         let section = self.offset();
         self.byte()?;
-        let value = self.sized(alloc, section)?;
+        let value = self.sized(alloc, profile, section)?;
         self.customs()?;
         Ok(Some(value))
     }
@@ -377,13 +411,14 @@ impl<'a> Cursor<'a> {
     fn one_more(
         &mut self,
         alloc: Global,
+        profile: Profile,
         code: &mut Vec<Instruction>,
         blocks: &mut OpenBlocks,
     ) -> Result<(), LoadFault>
-        ensures { Gives (λ _. ((code.new.items, blocks.new), self.new)) result (one_more_at code.old.items blocks.old self.old) }
+        ensures { Gives (λ _. ((code.new.items, blocks.new), self.new)) result (one_more_at profile code.old.items blocks.old self.old) }
     {
         let offset = self.offset();
-        let instruction = Instruction::decode(alloc, self)?;
+        let instruction = Instruction::decode(alloc, self, profile)?;
         blocks.step(&instruction, offset)?;
         code.push(instruction)?;
         Ok(())
@@ -391,14 +426,14 @@ impl<'a> Cursor<'a> {
 
     /// Instructions up to the one that closes the expression (section 5.4.6).
     #[tactic(auto, unfolding(crate::specs::internal::CodeReading::code_at))]
-    pub fn code(&mut self, alloc: Global) -> Result<Items<Instruction>, LoadFault>
-        ensures { Gives (λ x. (x, self.new)) result (code_at self.old) }
+    pub fn code(&mut self, alloc: Global, profile: Profile) -> Result<Items<Instruction>, LoadFault>
+        ensures { Gives (λ x. (x, self.new)) result (code_at profile self.old) }
     {
         let begin = self.offset();
         let mut blocks = OpenBlocks::one(alloc)?;
         let mut code = Vec::new(alloc);
         for _ in 0..self.len() {
-            self.one_more(alloc, &mut code, &mut blocks)?;
+            self.one_more(alloc, profile, &mut code, &mut blocks)?;
             if blocks.is_empty() {
                 return Ok(Items::from_vec(code, begin));
             }

@@ -1,11 +1,12 @@
 //! A module from its bytes (section 5.5.15).
 
 ghost use Rattle.std.specs.Prelude.{◌≡◌, ◌≢◌, ℕ, List, IfOk, IfErr};
-ghost use Rattle.wasm_module.specs.Module.{Spells};
+ghost use Rattle.wasm_module.specs.Module.{Spells, SpellsWith};
 ghost use Rattle.wasm_module.specs.internal.ModuleReading.{word_at, preamble_at, list_at, code_parts_at, start_parts_at, link_parts_at, storage_parts_at, sections_at, decoded_of, is_counted, counts_agree, module_and_count, module_from};
 ghost use Rattle.wasm_module.specs.Reading.{Gives, Allows, map_at, then_at};
 ghost use Rattle.wasm_module.specs.internal.TypesReading.{table_at};
 ghost use Rattle.wasm_module.specs.declared.module.Module.{Module as ModuleValue};
+ghost use Rattle.wasm_module.specs.declared.profile.Profile.{Profile as ProfileValue};
 
 use crate::cursor::{Cursor, Decode};
 use crate::fault::LoadFault;
@@ -15,6 +16,7 @@ use crate::module::{
     Body, DataSegment, ElementSegment, Export, FuncType, GlobalEntry, Import, Limits, Module,
 };
 use crate::parts::Tables;
+use crate::profile::Profile;
 use std::alloc::Global;
 
 /// How many bytes a module has at most.
@@ -58,11 +60,12 @@ fn preamble(cursor: &mut Cursor<'_>) -> Result<(), LoadFault>
 fn list<'a, T: Decode<'a>>(
     alloc: Global,
     cursor: &mut Cursor<'a>,
+    profile: Profile,
     id: u8,
 ) -> Result<Items<T>, LoadFault>
-    ensures { Gives (λ x. (x, cursor.new)) result (list_at id T.at cursor.old) }
+    ensures { Gives (λ x. (x, cursor.new)) result (list_at id (T.at profile) cursor.old) }
 {
-    match cursor.section(alloc, id)? {
+    match cursor.section(alloc, profile, id)? {
         Some(items) => Ok(items),
         None => Ok(Items::new(alloc)),
     }
@@ -72,19 +75,24 @@ fn list<'a, T: Decode<'a>>(
 fn two_lists<'a, A: Decode<'a>, B: Decode<'a>>(
     alloc: Global,
     cursor: &mut Cursor<'a>,
+    profile: Profile,
     ids: (u8, u8),
 ) -> Result<(Items<A>, Items<B>), LoadFault>
-    ensures { Gives (λ x. (x, cursor.new)) result (then_at (list_at ids.0 A.at) (list_at ids.1 B.at) cursor.old) }
+    ensures { Gives (λ x. (x, cursor.new)) result (then_at (list_at ids.0 (A.at profile)) (list_at ids.1 (B.at profile)) cursor.old) }
 {
-    let first = list(alloc, cursor, ids.0)?;
-    let second = list(alloc, cursor, ids.1)?;
+    let first = list(alloc, cursor, profile, ids.0)?;
+    let second = list(alloc, cursor, profile, ids.1)?;
     Ok((first, second))
 }
 
-fn tables(alloc: Global, cursor: &mut Cursor<'_>) -> Result<Items<Limits>, LoadFault>
+fn tables(
+    alloc: Global,
+    cursor: &mut Cursor<'_>,
+    profile: Profile,
+) -> Result<Items<Limits>, LoadFault>
     ensures { Gives (λ x. (x, cursor.new)) result (list_at 4 table_at cursor.old) }
 {
-    let section: Option<Tables> = cursor.section(alloc, 4)?;
+    let section: Option<Tables> = cursor.section(alloc, profile, 4)?;
     match section {
         Some(tables) => Ok(tables.limits),
         None => Ok(Items::new(alloc)),
@@ -127,11 +135,15 @@ struct StorageParts<'a> {
 // what was read before it is let go, and in one function that would be eleven lists at thirteen
 // exits.
 
-fn code_parts<'a>(alloc: Global, cursor: &mut Cursor<'a>) -> Result<CodeParts<'a>, LoadFault>
-    ensures { Gives (λ x. ((x.data_count, (x.bodies, x.data_segments)), cursor.new)) result (code_parts_at cursor.old) }
+fn code_parts<'a>(
+    alloc: Global,
+    cursor: &mut Cursor<'a>,
+    profile: Profile,
+) -> Result<CodeParts<'a>, LoadFault>
+    ensures { Gives (λ x. ((x.data_count, (x.bodies, x.data_segments)), cursor.new)) result (code_parts_at profile cursor.old) }
 {
-    let data_count = cursor.section(alloc, 12)?;
-    let (bodies, data_segments) = two_lists(alloc, cursor, (10, 11))?;
+    let data_count = cursor.section(alloc, profile, 12)?;
+    let (bodies, data_segments) = two_lists(alloc, cursor, profile, (10, 11))?;
     Ok(CodeParts {
         data_count,
         bodies,
@@ -139,12 +151,16 @@ fn code_parts<'a>(alloc: Global, cursor: &mut Cursor<'a>) -> Result<CodeParts<'a
     })
 }
 
-fn start_parts<'a>(alloc: Global, cursor: &mut Cursor<'a>) -> Result<StartParts<'a>, LoadFault>
-    ensures { Gives (λ x. ((x.start, (x.element_segments, (x.code.data_count, (x.code.bodies, x.code.data_segments)))), cursor.new)) result (start_parts_at cursor.old) }
+fn start_parts<'a>(
+    alloc: Global,
+    cursor: &mut Cursor<'a>,
+    profile: Profile,
+) -> Result<StartParts<'a>, LoadFault>
+    ensures { Gives (λ x. ((x.start, (x.element_segments, (x.code.data_count, (x.code.bodies, x.code.data_segments)))), cursor.new)) result (start_parts_at profile cursor.old) }
 {
-    let start = cursor.section(alloc, 8)?;
-    let element_segments = list(alloc, cursor, 9)?;
-    let code = code_parts(alloc, cursor)?;
+    let start = cursor.section(alloc, profile, 8)?;
+    let element_segments = list(alloc, cursor, profile, 9)?;
+    let code = code_parts(alloc, cursor, profile)?;
     Ok(StartParts {
         start,
         element_segments,
@@ -152,20 +168,28 @@ fn start_parts<'a>(alloc: Global, cursor: &mut Cursor<'a>) -> Result<StartParts<
     })
 }
 
-fn link_parts<'a>(alloc: Global, cursor: &mut Cursor<'a>) -> Result<LinkParts<'a>, LoadFault>
-    ensures { Gives (λ x. ((x.exports, (x.rest.start, (x.rest.element_segments, (x.rest.code.data_count, (x.rest.code.bodies, x.rest.code.data_segments))))), cursor.new)) result (link_parts_at cursor.old) }
+fn link_parts<'a>(
+    alloc: Global,
+    cursor: &mut Cursor<'a>,
+    profile: Profile,
+) -> Result<LinkParts<'a>, LoadFault>
+    ensures { Gives (λ x. ((x.exports, (x.rest.start, (x.rest.element_segments, (x.rest.code.data_count, (x.rest.code.bodies, x.rest.code.data_segments))))), cursor.new)) result (link_parts_at profile cursor.old) }
 {
-    let exports = list(alloc, cursor, 7)?;
-    let rest = start_parts(alloc, cursor)?;
+    let exports = list(alloc, cursor, profile, 7)?;
+    let rest = start_parts(alloc, cursor, profile)?;
     Ok(LinkParts { exports, rest })
 }
 
-fn storage_parts<'a>(alloc: Global, cursor: &mut Cursor<'a>) -> Result<StorageParts<'a>, LoadFault>
-    ensures { Gives (λ x. ((x.tables, (x.memories, (x.globals, (x.link.exports, (x.link.rest.start, (x.link.rest.element_segments, (x.link.rest.code.data_count, (x.link.rest.code.bodies, x.link.rest.code.data_segments)))))))), cursor.new)) result (storage_parts_at cursor.old) }
+fn storage_parts<'a>(
+    alloc: Global,
+    cursor: &mut Cursor<'a>,
+    profile: Profile,
+) -> Result<StorageParts<'a>, LoadFault>
+    ensures { Gives (λ x. ((x.tables, (x.memories, (x.globals, (x.link.exports, (x.link.rest.start, (x.link.rest.element_segments, (x.link.rest.code.data_count, (x.link.rest.code.bodies, x.link.rest.code.data_segments)))))))), cursor.new)) result (storage_parts_at profile cursor.old) }
 {
-    let tables = tables(alloc, cursor)?;
-    let (memories, globals) = two_lists(alloc, cursor, (5, 6))?;
-    let link = link_parts(alloc, cursor)?;
+    let tables = tables(alloc, cursor, profile)?;
+    let (memories, globals) = two_lists(alloc, cursor, profile, (5, 6))?;
+    let link = link_parts(alloc, cursor, profile)?;
     Ok(StorageParts {
         tables,
         memories,
@@ -206,13 +230,14 @@ fn assembled<'a>(
 fn sections<'a>(
     alloc: Global,
     cursor: &mut Cursor<'a>,
+    profile: Profile,
 ) -> Result<(Module<'a>, Option<u32>), LoadFault>
-    ensures { Gives (λ x. (x, cursor.new)) result (map_at module_and_count sections_at cursor.old) }
+    ensures { Gives (λ x. (x, cursor.new)) result (map_at module_and_count (sections_at profile) cursor.old) }
 {
     cursor.customs()?;
-    let types = list(alloc, cursor, 1)?;
-    let (imports, functions) = two_lists(alloc, cursor, (2, 3))?;
-    let storage = storage_parts(alloc, cursor)?;
+    let types = list(alloc, cursor, profile, 1)?;
+    let (imports, functions) = two_lists(alloc, cursor, profile, (2, 3))?;
+    let storage = storage_parts(alloc, cursor, profile)?;
     Ok(assembled(types, imports, functions, storage))
 }
 
@@ -258,15 +283,15 @@ fn check(bytes: &[u8], decoded: &Module<'_>, data_count: Option<u32>) -> Result<
 }
 
 #[tactic(auto, unfolding(crate::specs::internal::ModuleReading::module_from))]
-fn module<'a>(alloc: Global, bytes: &'a [u8]) -> Result<Module<'a>, LoadFault>
-    ensures { Gives (λ m. m) result (module_from bytes.now) }
+fn module<'a>(alloc: Global, bytes: &'a [u8], profile: Profile) -> Result<Module<'a>, LoadFault>
+    ensures { Gives (λ m. m) result (module_from profile bytes.now) }
 {
     let mut cursor = Cursor::new(bytes);
     if bytes.len() > MOST_BYTES as usize {
         return Err(LoadFault::Limit { offset: MOST_BYTES });
     }
     preamble(&mut cursor)?;
-    let (decoded, data_count) = sections(alloc, &mut cursor)?;
+    let (decoded, data_count) = sections(alloc, &mut cursor, profile)?;
     if !cursor.is_empty() {
         drop(decoded);
         return Err(misplaced(&cursor));
@@ -280,7 +305,7 @@ fn module<'a>(alloc: Global, bytes: &'a [u8]) -> Result<Module<'a>, LoadFault>
     }
 }
 
-/// The module that the bytes spell (section 5).
+/// The module that the bytes spell (section 5), without floats.
 ///
 /// # Errors
 ///
@@ -289,10 +314,27 @@ pub fn decode(alloc: Global, bytes: &[u8]) -> Result<Module<'_>, LoadFault>
     ensures found { IfOk result (λ m. Spells bytes.now m) }
     ensures refused { IfErr result (λ e. (e ≢ LoadFault.Memory) → (m : ModuleValue) → Spells bytes.now m → ⊥) }
 {
-    module(alloc, bytes)
+    decode_with(alloc, bytes, Profile::Integers)
+}
+
+/// The module that the bytes spell (section 5), with what the profile takes.
+///
+/// # Errors
+///
+/// `Memory` where memory was refused, else what is wrong with the bytes, and where.
+pub fn decode_with(alloc: Global, bytes: &[u8], profile: Profile) -> Result<Module<'_>, LoadFault>
+    ensures found { IfOk result (λ m. SpellsWith profile bytes.now m) }
+    ensures refused { IfErr result (λ e. (e ≢ LoadFault.Memory) → (m : ModuleValue) → SpellsWith profile bytes.now m → ⊥) }
+{
+    module(alloc, bytes, profile)
 }
 
 /// Bytes spell at most one module.
 pub fn one_module()
     ensures { (bytes : List ℕ) (m n : ModuleValue) → Spells bytes m → Spells bytes n → m ≡ n }
+{}
+
+/// With floats, too, bytes spell at most one module.
+pub fn one_module_with()
+    ensures { (p : ProfileValue) (bytes : List ℕ) (m n : ModuleValue) → SpellsWith p bytes m → SpellsWith p bytes n → m ≡ n }
 {}

@@ -2,15 +2,62 @@
 
 use crate::accesses::{LoadOperator, StoreOperator};
 use crate::items::Items;
+use crate::number::Sign;
 use std::alloc::{AllocError, Global};
 use std::marker::Model;
 use std::mem::size_of;
 
-/// The type of a value (section 2.3.1), cut to integers.
+/// The type of a value (section 2.3.1).
 #[derive(Clone, Copy)]
 pub enum ValueType {
     I32,
     I64,
+    F32,
+    F64,
+}
+
+/// The type of an integer (section 2.3.1), on which the numeric operators are.
+#[derive(Clone, Copy)]
+pub enum IntegerType {
+    I32,
+    I64,
+}
+
+impl IntegerType {
+    ghost use Rattle.std.specs.Prelude.{◌≡◌};
+    ghost use Rattle.wasm_module.specs.Types.{integer};
+
+    /// The type of the values that are such integers.
+    pub fn value_type(self) -> ValueType
+        ensures { result ≡ integer self }
+    {
+        match self {
+            IntegerType::I32 => ValueType::I32,
+            IntegerType::I64 => ValueType::I64,
+        }
+    }
+}
+
+/// The type of a float (section 2.3.1).
+#[derive(Clone, Copy)]
+pub enum FloatType {
+    F32,
+    F64,
+}
+
+impl FloatType {
+    ghost use Rattle.std.specs.Prelude.{◌≡◌};
+    ghost use Rattle.wasm_module.specs.Types.{float};
+
+    /// The type of the values that are such floats.
+    pub fn value_type(self) -> ValueType
+        ensures { result ≡ float self }
+    {
+        match self {
+            FloatType::F32 => ValueType::F32,
+            FloatType::F64 => ValueType::F64,
+        }
+    }
 }
 
 /// What a block leaves (section 2.3.2): nothing, or one value.
@@ -72,6 +119,63 @@ pub enum BinaryOperator {
     ShrU,
     Rotl,
     Rotr,
+}
+
+/// A comparison of two floats of one type (section 2.4.1).
+#[derive(Clone, Copy)]
+pub enum FloatComparison {
+    Eq,
+    Ne,
+    Lt,
+    Gt,
+    Le,
+    Ge,
+}
+
+/// An operator on one float (section 2.4.1).
+#[derive(Clone, Copy)]
+pub enum FloatUnaryOperator {
+    Abs,
+    Neg,
+    Ceil,
+    Floor,
+    Trunc,
+    Nearest,
+    Sqrt,
+}
+
+/// An operator on two floats of one type (section 2.4.1).
+#[derive(Clone, Copy)]
+pub enum FloatBinaryOperator {
+    Add,
+    Sub,
+    Mul,
+    Div,
+    Min,
+    Max,
+    Copysign,
+}
+
+/// An operator that takes a float or gives one (section 2.4.1, and the saturating conversions).
+#[derive(Clone, Copy)]
+pub enum FloatOperator {
+    Compare(FloatType, FloatComparison),
+    Unary(FloatType, FloatUnaryOperator),
+    Binary(FloatType, FloatBinaryOperator),
+    /// The whole part, which traps where it is none of the type.
+    Truncate(IntegerType, FloatType, Sign),
+    /// The whole part, or what of the type is nearest to it.
+    Saturate(IntegerType, FloatType, Sign),
+    /// The float nearest to an integer.
+    Convert(FloatType, IntegerType, Sign),
+    /// The f32 nearest to an f64.
+    Demote,
+    /// An f32 as an f64.
+    Promote,
+    /// The bits of a float as an integer of as many bits.
+    ToBits(FloatType),
+    /// The float of these bits.
+    FromBits(FloatType),
 }
 
 #[derive(Drop)]
@@ -154,13 +258,18 @@ pub enum Instruction {
     I32Const(u32),
     /// The constant, modulo 2 ^ 64.
     I64Const(u64),
-    Eqz(ValueType),
-    Compare(ValueType, Comparison),
-    Unary(ValueType, UnaryOperator),
-    Binary(ValueType, BinaryOperator),
+    /// The bits of the constant.
+    F32Const(u32),
+    /// The bits of the constant.
+    F64Const(u64),
+    Eqz(IntegerType),
+    Compare(IntegerType, Comparison),
+    Unary(IntegerType, UnaryOperator),
+    Binary(IntegerType, BinaryOperator),
     I32WrapI64,
     I64ExtendI32S,
     I64ExtendI32U,
+    Float(FloatOperator),
 }
 
 // A body's instructions are read one after the other, so they are to be small.

@@ -5,12 +5,10 @@ ghost use Rattle.wasm_module.specs.Reading.{Gives, last_at, number_at};
 
 use crate::fault::LoadFault;
 
-/// How a number's unused bits are to be.
+/// How the bits of a number are read. In LEB128 those that it doesn't need are 0, or repeat its sign.
 #[derive(Clone, Copy)]
 pub enum Sign {
-    /// They are 0.
     Unsigned,
-    /// They repeat the sign.
     Signed,
 }
 

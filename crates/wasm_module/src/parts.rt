@@ -3,7 +3,7 @@
 ghost use Rattle.wasm_module.specs.internal.CodeReading.{code_at};
 ghost use Rattle.wasm_module.specs.internal.ModuleReading.{body_of};
 ghost use Rattle.wasm_module.specs.Reading.{Gives, many_at};
-ghost use Rattle.wasm_module.specs.internal.TypesReading.{value_type_of, table_at, mutability_at};
+ghost use Rattle.wasm_module.specs.internal.TypesReading.{value_type_of, with_floats, table_at, mutability_at};
 
 use crate::cursor::{Cursor, Decode};
 use crate::fault::LoadFault;
@@ -13,20 +13,32 @@ use crate::module::{
     Body, DataSegment, ElementSegment, Export, ExportKind, FuncType, GlobalEntry, GlobalType,
     Import, ImportKind, Limits, Locals,
 };
+use crate::profile::Profile;
 use std::alloc::Global;
 use std::marker::Model;
 
 /// How many elements a table has at most at the beginning.
 const MOST_ELEMENTS: u32 = 1_000_000;
 
-fn value_type(byte: u8, offset: u32) -> Result<ValueType, LoadFault>
-    ensures { Gives (λ t. t) result (value_type_of byte) }
+fn value_type(profile: Profile, byte: u8, offset: u32) -> Result<ValueType, LoadFault>
+    ensures { Gives (λ t. t) result (value_type_of profile byte) }
 {
     match byte {
         0x7F => Ok(ValueType::I32),
         0x7E => Ok(ValueType::I64),
-        0x7C | 0x7D => Err(LoadFault::Float { offset }),
+        0x7D => float_type(profile, ValueType::F32, offset),
+        0x7C => float_type(profile, ValueType::F64, offset),
         _ => Err(LoadFault::BadByte { offset }),
+    }
+}
+
+/// This type of floats, where they are taken.
+fn float_type(profile: Profile, float: ValueType, offset: u32) -> Result<ValueType, LoadFault>
+    ensures { Gives (λ t. t) result (with_floats profile float) }
+{
+    match profile {
+        Profile::Integers => Err(LoadFault::Float { offset }),
+        Profile::Floats => Ok(float),
     }
 }
 
@@ -36,9 +48,13 @@ impl<'a> Decode<'a> for ValueType {
     ghost at = { value_type_at };
 
     #[tactic(auto, unfolding(crate::specs::internal::TypesReading::value_type_at))]
-    fn decode(_alloc: Global, cursor: &mut Cursor<'a>) -> Result<ValueType, LoadFault> {
+    fn decode(
+        _alloc: Global,
+        cursor: &mut Cursor<'a>,
+        profile: Profile,
+    ) -> Result<ValueType, LoadFault> {
         let offset = cursor.offset();
-        value_type(cursor.byte()?, offset)
+        value_type(profile, cursor.byte()?, offset)
     }
 }
 
@@ -48,11 +64,15 @@ impl<'a> Decode<'a> for BlockType {
     ghost at = { block_type_at };
 
     #[tactic(auto, unfolding(crate::specs::internal::TypesReading::block_type_at))]
-    fn decode(_alloc: Global, cursor: &mut Cursor<'a>) -> Result<BlockType, LoadFault> {
+    fn decode(
+        _alloc: Global,
+        cursor: &mut Cursor<'a>,
+        profile: Profile,
+    ) -> Result<BlockType, LoadFault> {
         let offset = cursor.offset();
         match cursor.byte()? {
             0x40 => Ok(BlockType::Empty),
-            byte => Ok(BlockType::Value(value_type(byte, offset)?)),
+            byte => Ok(BlockType::Value(value_type(profile, byte, offset)?)),
         }
     }
 }
@@ -63,10 +83,14 @@ impl<'a> Decode<'a> for FuncType {
     ghost at = { func_type_at };
 
     #[tactic(auto, unfolding(crate::specs::internal::TypesReading::func_type_at))]
-    fn decode(alloc: Global, cursor: &mut Cursor<'a>) -> Result<FuncType, LoadFault> {
+    fn decode(
+        alloc: Global,
+        cursor: &mut Cursor<'a>,
+        profile: Profile,
+    ) -> Result<FuncType, LoadFault> {
         let offset = cursor.offset();
         cursor.expect(0x60, LoadFault::BadByte { offset })?;
-        let (params, results) = Decode::decode(alloc, cursor)?;
+        let (params, results) = Decode::decode(alloc, cursor, profile)?;
         Ok(FuncType { params, results })
     }
 }
@@ -74,10 +98,14 @@ impl<'a> Decode<'a> for FuncType {
 impl<'a> Decode<'a> for Limits {
     ghost use Rattle.wasm_module.specs.internal.TypesReading.{limits_at, bounds_after};
 
-    ghost at = { limits_at };
+    ghost at = { λ p. limits_at };
 
     #[tactic(auto, unfolding(crate::specs::internal::TypesReading::limits_at, crate::specs::internal::TypesReading::bounds_after))]
-    fn decode(alloc: Global, cursor: &mut Cursor<'a>) -> Result<Limits, LoadFault> {
+    fn decode(
+        alloc: Global,
+        cursor: &mut Cursor<'a>,
+        profile: Profile,
+    ) -> Result<Limits, LoadFault> {
         let offset = cursor.offset();
         match cursor.byte()? {
             0x00 => {
@@ -85,7 +113,7 @@ impl<'a> Decode<'a> for Limits {
                 Ok(Limits { min, max: None })
             }
             0x01 => {
-                let (min, max) = Decode::decode(alloc, cursor)?;
+                let (min, max) = Decode::decode(alloc, cursor, profile)?;
                 Ok(Limits {
                     min,
                     max: Some(max),
@@ -98,13 +126,13 @@ impl<'a> Decode<'a> for Limits {
 
 /// A table's type (section 5.3.6).
 #[tactic(auto, unfolding(crate::specs::internal::TypesReading::table_at))]
-fn table_type(alloc: Global, cursor: &mut Cursor<'_>) -> Result<Limits, LoadFault>
+fn table_type(alloc: Global, cursor: &mut Cursor<'_>, profile: Profile) -> Result<Limits, LoadFault>
     ensures { Gives (λ x. (x, cursor.new)) result (table_at cursor.old) }
 {
     let offset = cursor.offset();
     cursor.expect(0x70, LoadFault::BadByte { offset })?;
     let flag = cursor.offset();
-    let limits = Limits::decode(alloc, cursor)?;
+    let limits = Limits::decode(alloc, cursor, profile)?;
     if limits.min > MOST_ELEMENTS {
         let offset = flag.saturating_add(1);
         return Err(LoadFault::Limit { offset });
@@ -128,12 +156,17 @@ impl Model for Tables {
 }
 
 #[tactic(auto, using(crate::proofs::Steps::many_more, crate::proofs::Steps::many_done))]
-fn table_types(alloc: Global, cursor: &mut Cursor<'_>, count: u32) -> Result<Vec<Limits>, LoadFault>
+fn table_types(
+    alloc: Global,
+    cursor: &mut Cursor<'_>,
+    profile: Profile,
+    count: u32,
+) -> Result<Vec<Limits>, LoadFault>
     ensures { Gives (λ x. (x.items, cursor.new)) result (many_at table_at count cursor.old) }
 {
     let mut tables = cursor.room(alloc, count)?;
     for _ in 0..count {
-        tables.push(table_type(alloc, cursor)?)?;
+        tables.push(table_type(alloc, cursor, profile)?)?;
     }
     Ok(tables)
 }
@@ -141,23 +174,31 @@ fn table_types(alloc: Global, cursor: &mut Cursor<'_>, count: u32) -> Result<Vec
 impl<'a> Decode<'a> for Tables {
     ghost use Rattle.wasm_module.specs.Reading.{vector_at};
 
-    ghost at = { vector_at table_at };
+    ghost at = { λ p. vector_at table_at };
 
     #[tactic(auto, unfolding(crate::specs::Reading::vector_at))]
-    fn decode(alloc: Global, cursor: &mut Cursor<'a>) -> Result<Tables, LoadFault> {
+    fn decode(
+        alloc: Global,
+        cursor: &mut Cursor<'a>,
+        profile: Profile,
+    ) -> Result<Tables, LoadFault> {
         let offset = cursor.offset();
         let count = cursor.u32()?;
-        let limits = Items::from_vec(table_types(alloc, cursor, count)?, offset);
+        let limits = Items::from_vec(table_types(alloc, cursor, profile, count)?, offset);
         Ok(Tables { limits })
     }
 }
 
 /// Whether a global may change.
 impl<'a> Decode<'a> for bool {
-    ghost at = { mutability_at };
+    ghost at = { λ p. mutability_at };
 
     #[tactic(auto, unfolding(crate::specs::internal::TypesReading::mutability_at))]
-    fn decode(_alloc: Global, cursor: &mut Cursor<'a>) -> Result<bool, LoadFault> {
+    fn decode(
+        _alloc: Global,
+        cursor: &mut Cursor<'a>,
+        _profile: Profile,
+    ) -> Result<bool, LoadFault> {
         let offset = cursor.offset();
         match cursor.byte()? {
             0x00 => Ok(false),
@@ -173,8 +214,12 @@ impl<'a> Decode<'a> for GlobalType {
     ghost at = { global_type_at };
 
     #[tactic(auto, unfolding(crate::specs::internal::TypesReading::global_type_at))]
-    fn decode(alloc: Global, cursor: &mut Cursor<'a>) -> Result<GlobalType, LoadFault> {
-        let (value_type, mutable) = Decode::decode(alloc, cursor)?;
+    fn decode(
+        alloc: Global,
+        cursor: &mut Cursor<'a>,
+        profile: Profile,
+    ) -> Result<GlobalType, LoadFault> {
+        let (value_type, mutable) = Decode::decode(alloc, cursor, profile)?;
         Ok(GlobalType {
             value_type,
             mutable,
@@ -185,9 +230,13 @@ impl<'a> Decode<'a> for GlobalType {
 impl<'a> Decode<'a> for u32 {
     ghost use Rattle.wasm_module.specs.Reading.{u32_at};
 
-    ghost at = { u32_at };
+    ghost at = { λ p. u32_at };
 
-    fn decode(_alloc: Global, cursor: &mut Cursor<'a>) -> Result<u32, LoadFault> {
+    fn decode(
+        _alloc: Global,
+        cursor: &mut Cursor<'a>,
+        _profile: Profile,
+    ) -> Result<u32, LoadFault> {
         cursor.u32()
     }
 }
@@ -195,10 +244,14 @@ impl<'a> Decode<'a> for u32 {
 impl<'a, T: Decode<'a>> Decode<'a> for Items<T> {
     ghost use Rattle.wasm_module.specs.Reading.{vector_at};
 
-    ghost at = { vector_at T.at };
+    ghost at = { λ p. vector_at (T.at p) };
 
-    fn decode(alloc: Global, cursor: &mut Cursor<'a>) -> Result<Items<T>, LoadFault> {
-        cursor.vector(alloc)
+    fn decode(
+        alloc: Global,
+        cursor: &mut Cursor<'a>,
+        profile: Profile,
+    ) -> Result<Items<T>, LoadFault> {
+        cursor.vector(alloc, profile)
     }
 }
 
@@ -220,8 +273,12 @@ impl Model for Expression {
 impl<'a> Decode<'a> for Expression {
     ghost at = { code_at };
 
-    fn decode(alloc: Global, cursor: &mut Cursor<'a>) -> Result<Expression, LoadFault> {
-        let code = cursor.code(alloc)?;
+    fn decode(
+        alloc: Global,
+        cursor: &mut Cursor<'a>,
+        profile: Profile,
+    ) -> Result<Expression, LoadFault> {
+        let code = cursor.code(alloc, profile)?;
         Ok(Expression { code })
     }
 }
@@ -232,13 +289,17 @@ impl<'a> Decode<'a> for ImportKind {
     ghost at = { import_kind_at };
 
     #[tactic(auto, unfolding(crate::specs::internal::ModuleReading::import_kind_at, crate::specs::internal::ModuleReading::import_after))]
-    fn decode(alloc: Global, cursor: &mut Cursor<'a>) -> Result<ImportKind, LoadFault> {
+    fn decode(
+        alloc: Global,
+        cursor: &mut Cursor<'a>,
+        profile: Profile,
+    ) -> Result<ImportKind, LoadFault> {
         let offset = cursor.offset();
         match cursor.byte()? {
             0x00 => Ok(ImportKind::Function(cursor.u32()?)),
-            0x01 => Ok(ImportKind::Table(table_type(alloc, cursor)?)),
-            0x02 => Ok(ImportKind::Memory(Limits::decode(alloc, cursor)?)),
-            0x03 => Ok(ImportKind::Global(GlobalType::decode(alloc, cursor)?)),
+            0x01 => Ok(ImportKind::Table(table_type(alloc, cursor, profile)?)),
+            0x02 => Ok(ImportKind::Memory(Limits::decode(alloc, cursor, profile)?)),
+            0x03 => Ok(ImportKind::Global(GlobalType::decode(alloc, cursor, profile)?)),
             _ => Err(LoadFault::BadByte { offset }),
         }
     }
@@ -250,8 +311,12 @@ impl<'a> Decode<'a> for Import<'a> {
     ghost at = { import_at };
 
     #[tactic(auto, unfolding(crate::specs::internal::ModuleReading::import_at))]
-    fn decode(alloc: Global, cursor: &mut Cursor<'a>) -> Result<Import<'a>, LoadFault> {
-        let (module_name, (name, kind)) = Decode::decode(alloc, cursor)?;
+    fn decode(
+        alloc: Global,
+        cursor: &mut Cursor<'a>,
+        profile: Profile,
+    ) -> Result<Import<'a>, LoadFault> {
+        let (module_name, (name, kind)) = Decode::decode(alloc, cursor, profile)?;
         Ok(Import {
             module_name,
             name,
@@ -266,8 +331,12 @@ impl<'a> Decode<'a> for GlobalEntry {
     ghost at = { global_at };
 
     #[tactic(auto, unfolding(crate::specs::internal::ModuleReading::global_at))]
-    fn decode(alloc: Global, cursor: &mut Cursor<'a>) -> Result<GlobalEntry, LoadFault> {
-        let (global_type, init): (GlobalType, Expression) = Decode::decode(alloc, cursor)?;
+    fn decode(
+        alloc: Global,
+        cursor: &mut Cursor<'a>,
+        profile: Profile,
+    ) -> Result<GlobalEntry, LoadFault> {
+        let (global_type, init): (GlobalType, Expression) = Decode::decode(alloc, cursor, profile)?;
         Ok(GlobalEntry {
             global_type,
             init: init.code,
@@ -278,10 +347,14 @@ impl<'a> Decode<'a> for GlobalEntry {
 impl<'a> Decode<'a> for ExportKind {
     ghost use Rattle.wasm_module.specs.internal.ModuleReading.{export_kind_at, export_after};
 
-    ghost at = { export_kind_at };
+    ghost at = { λ p. export_kind_at };
 
     #[tactic(auto, unfolding(crate::specs::internal::ModuleReading::export_kind_at, crate::specs::internal::ModuleReading::export_after))]
-    fn decode(_alloc: Global, cursor: &mut Cursor<'a>) -> Result<ExportKind, LoadFault> {
+    fn decode(
+        _alloc: Global,
+        cursor: &mut Cursor<'a>,
+        _profile: Profile,
+    ) -> Result<ExportKind, LoadFault> {
         let offset = cursor.offset();
         let byte = cursor.byte()?;
         if byte > 0x03 {
@@ -300,11 +373,15 @@ impl<'a> Decode<'a> for ExportKind {
 impl<'a> Decode<'a> for Export<'a> {
     ghost use Rattle.wasm_module.specs.internal.ModuleReading.{export_at};
 
-    ghost at = { export_at };
+    ghost at = { λ p. export_at };
 
     #[tactic(auto, unfolding(crate::specs::internal::ModuleReading::export_at))]
-    fn decode(alloc: Global, cursor: &mut Cursor<'a>) -> Result<Export<'a>, LoadFault> {
-        let (name, kind) = Decode::decode(alloc, cursor)?;
+    fn decode(
+        alloc: Global,
+        cursor: &mut Cursor<'a>,
+        profile: Profile,
+    ) -> Result<Export<'a>, LoadFault> {
+        let (name, kind) = Decode::decode(alloc, cursor, profile)?;
         Ok(Export { name, kind })
     }
 }
@@ -315,9 +392,13 @@ impl<'a> Decode<'a> for ElementSegment {
     ghost at = { elements_at };
 
     #[tactic(auto, unfolding(crate::specs::internal::ModuleReading::elements_at))]
-    fn decode(alloc: Global, cursor: &mut Cursor<'a>) -> Result<ElementSegment, LoadFault> {
+    fn decode(
+        alloc: Global,
+        cursor: &mut Cursor<'a>,
+        profile: Profile,
+    ) -> Result<ElementSegment, LoadFault> {
         let (table, (offset, functions)): (u32, (Expression, Items<u32>)) = Decode::decode(
-            alloc, cursor,
+            alloc, cursor, profile,
         )?;
         Ok(ElementSegment {
             table,
@@ -333,19 +414,28 @@ impl<'a> Decode<'a> for Locals {
     ghost at = { locals_at };
 
     #[tactic(auto, unfolding(crate::specs::internal::ModuleReading::locals_at))]
-    fn decode(alloc: Global, cursor: &mut Cursor<'a>) -> Result<Locals, LoadFault> {
-        let (count, value_type) = Decode::decode(alloc, cursor)?;
+    fn decode(
+        alloc: Global,
+        cursor: &mut Cursor<'a>,
+        profile: Profile,
+    ) -> Result<Locals, LoadFault> {
+        let (count, value_type) = Decode::decode(alloc, cursor, profile)?;
         Ok(Locals { count, value_type })
     }
 }
 
 /// A function's body, which fills the bytes; its size stands at this offset.
 #[tactic(auto, unfolding(crate::specs::internal::ModuleReading::body_of))]
-fn body<'a>(alloc: Global, cursor: Cursor<'a>, size: u32) -> Result<Body<'a>, LoadFault>
-    ensures { Gives (λ b. b) result (body_of cursor.entry) }
+fn body<'a>(
+    alloc: Global,
+    cursor: Cursor<'a>,
+    profile: Profile,
+    size: u32,
+) -> Result<Body<'a>, LoadFault>
+    ensures { Gives (λ b. b) result (body_of profile cursor.entry) }
 {
     let bytes = cursor.bytes();
-    let (locals, code): (Items<Locals>, Expression) = cursor.whole(alloc, size)?;
+    let (locals, code): (Items<Locals>, Expression) = cursor.whole(alloc, profile, size)?;
     Ok(Body {
         bytes,
         locals,
@@ -359,9 +449,13 @@ impl<'a> Decode<'a> for Body<'a> {
     ghost at = { body_at };
 
     #[tactic(auto, unfolding(crate::specs::internal::ModuleReading::body_at))]
-    fn decode(alloc: Global, cursor: &mut Cursor<'a>) -> Result<Body<'a>, LoadFault> {
+    fn decode(
+        alloc: Global,
+        cursor: &mut Cursor<'a>,
+        profile: Profile,
+    ) -> Result<Body<'a>, LoadFault> {
         let offset = cursor.offset();
-        match body(alloc, cursor.sized_piece()?, offset) {
+        match body(alloc, cursor.sized_piece()?, profile, offset) {
             Ok(body) => Ok(body),
             Err(fault) => Err(fault.inside(offset)),
         }
@@ -374,9 +468,13 @@ impl<'a> Decode<'a> for DataSegment<'a> {
     ghost at = { data_at };
 
     #[tactic(auto, unfolding(crate::specs::internal::ModuleReading::data_at))]
-    fn decode(alloc: Global, cursor: &mut Cursor<'a>) -> Result<DataSegment<'a>, LoadFault> {
+    fn decode(
+        alloc: Global,
+        cursor: &mut Cursor<'a>,
+        profile: Profile,
+    ) -> Result<DataSegment<'a>, LoadFault> {
         let (memory, (offset, bytes)): (u32, (Expression, Bytes<'a>)) = Decode::decode(
-            alloc, cursor,
+            alloc, cursor, profile,
         )?;
         Ok(DataSegment {
             memory,

@@ -1,7 +1,7 @@
 -- Which steps take a unit.
 use Rattle.std.proofs.Common.{◌≡◌, ℕ, List, refl}
 use Rattle.wasm_steps.specs.Configuration.{Val, Instance, Store, Code, NextIsPlain}
-use Rattle.wasm_steps.specs.Steps.{unreachable_traps, nop_step, block_step, loop_step, if_then_set, if_then_zero, if_else_set, if_else_zero, br_if_stays, branches, returns, call_step, call_indirect_step, call_undefined, call_uninitialized, call_mistyped, drop_step, select_first, select_second, local_get_step, local_set_step, local_tee_step, global_get_step, global_set_step, load_step, load_traps, store_step, store_traps, size_step, grows, grows_not, copy_step, copy_traps, fill_step, fill_traps, i32_const_step, i64_const_step, eqz_step, compare_step, unary_step, binary_step, binary_traps, wrap_step, extend_signed, extend_unsigned, Jumps, Returns, here, out, Reduces, AdminStep, invokes, exhausted, leaves_label, leaves_frame, stops_label, stops_frame}
+use Rattle.wasm_steps.specs.Steps.{unreachable_traps, nop_step, block_step, loop_step, if_then_set, if_then_zero, if_else_set, if_else_zero, br_if_stays, branches, returns, call_step, call_indirect_step, call_undefined, call_uninitialized, call_mistyped, drop_step, select_first, select_second, local_get_step, local_set_step, local_tee_step, global_get_step, global_set_step, load_step, load_traps, store_step, store_traps, size_step, grows, grows_not, copy_step, copy_traps, fill_step, fill_traps, i32_const_step, i64_const_step, eqz_step, compare_step, unary_step, binary_step, binary_traps, wrap_step, extend_signed, extend_unsigned, f32_const_step, f64_const_step, float_step, float_traps, Jumps, Returns, here, out, Reduces, AdminStep, invokes, exhausted, leaves_label, leaves_frame, stops_label, stops_frame}
 
 -- a branch or a return is a plain instruction
 jumps_plain : {l n : ℕ} {c : Code} {kept : List Val} → Jumps l c n kept → NextIsPlain c
@@ -57,6 +57,10 @@ rewrites (binary_traps _) = (tt, refl)
 rewrites wrap_step = (tt, refl)
 rewrites extend_signed = (tt, refl)
 rewrites extend_unsigned = (tt, refl)
+rewrites f32_const_step = (tt, refl)
+rewrites f64_const_step = (tt, refl)
+rewrites (float_step _ _ _ _) = (tt, refl)
+rewrites (float_traps _ _ _ _ _) = (tt, refl)
 rewrites (branches jumps) = (jumps_plain jumps, refl)
 rewrites (returns returned) = (returns_plain returned, refl)
 

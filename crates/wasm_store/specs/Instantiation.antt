@@ -4,7 +4,7 @@
 use Rattle.std.specs.Prelude.{◌≡◌, ℕ, ◌+◌, ◌*◌, ◌<◌, ◌≤◌, ◌⊎◌, min, List, [], ◌∷◌, ◌++◌, length, replicate, Option, Some, None, unwrap_or, slice_get, codes, Contains}
 use Rattle.std.specs.List.{AllByRecursion}
 use Rattle.std.specs.Option.{option_to_list}
-use Rattle.wasm_module.specs.declared.instruction.ValueType.TheVariants.{I32, I64}
+use Rattle.wasm_module.specs.declared.instruction.ValueType.TheVariants.{I32, I64, F32, F64}
 use Rattle.wasm_module.specs.declared.instruction.Instruction.{Instruction}
 use Rattle.wasm_module.specs.declared.instruction.Instruction.TheVariants as op
 use Rattle.wasm_module.specs.declared.module.FuncType.{FuncType}
@@ -82,6 +82,8 @@ abbrev pub constant_value : List Val → List Instruction → Option Val
 constant_value gs [] = None
 constant_value gs (op.I32Const n ∷ rest) = Some (val I32 n)
 constant_value gs (op.I64Const n ∷ rest) = Some (val I64 n)
+constant_value gs (op.F32Const n ∷ rest) = Some (val F32 n)
+constant_value gs (op.F64Const n ∷ rest) = Some (val F64 n)
 constant_value gs (op.GlobalGet x ∷ rest) = slice_get gs x
 constant_value gs (i ∷ rest) = None
 

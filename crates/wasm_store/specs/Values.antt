@@ -1,8 +1,8 @@
--- Values (section 4.2.1), each a type and a whole number, never a negative one. The code keeps only the numbers, so
+-- Values (section 4.2.1), each a type and a whole number, never a negative one; of a float the number is its bits. The code keeps only the numbers, so
 -- contracts compare by `numbers`; that each is one of its type is `IsInType`.
 use Rattle.std.specs.Prelude.{ℕ, ◌^◌, ◌<◌, List, [], ◌∷◌}
 use Rattle.wasm_module.specs.declared.instruction.ValueType.{ValueType}
-use Rattle.wasm_module.specs.declared.instruction.ValueType.TheVariants.{I32, I64}
+use Rattle.wasm_module.specs.declared.instruction.ValueType.TheVariants.{I32, I64, F32, F64}
 
 -- a value: its type and its number, which `IsInType` bounds
 pub data Val : Type 0 where
@@ -26,6 +26,8 @@ types (v ∷ vs) = type_of v ∷ types vs
 abbrev pub IsInType : Val → Type 0
 IsInType (val I32 n) = n < 2 ^ 32
 IsInType (val I64 n) = n < 2 ^ 64
+IsInType (val F32 n) = n < 2 ^ 32
+IsInType (val F64 n) = n < 2 ^ 64
 
 -- 0 of each type
 abbrev pub zeros : List ValueType → List Val

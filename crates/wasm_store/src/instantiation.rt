@@ -2,11 +2,10 @@
 
 ghost use Rattle.std.specs.Prelude.{◌≡◌, ℕ, List, ◌∷◌, ◌+◌, ◌*◌, ◌^◌, ◌<◌, ◌≤◌, Some, None, length, replicate, slice_get, IfOk, IfErr, IfSome, IfNone};
 ghost use Rattle.std.specs.Bool.{OnTrue, OnFalse};
-ghost use Rattle.wasm_module.specs.declared.instruction.Instruction.{Instruction as InstructionValue};
 ghost use Rattle.wasm_valid.specs.Validity.{IsValid, functions_of, ExportFits};
 ghost use Rattle.wasm_store.specs.Values.{Val, numbers};
 ghost use Rattle.wasm_store.specs.Instantiation.{IsStart, AreFirst, minimum, page_limit as limit_of, segment_start, ElementsInside, ElementsOutside, DataInside, DataOutside, with_elements, with_data, RefusedFor};
-ghost use Rattle.wasm_store.specs.internal.Finding.{ImportsFunctions, HasType, StartsAt, AreFound, NotFound, HaveFirst, AreStored, NotStored};
+ghost use Rattle.wasm_store.specs.internal.Finding.{IsNarrow, ImportsFunctions, HasType, StartsAt, AreFound, NotFound, HaveFirst, AreStored, NotStored};
 ghost use Rattle.wasm_store.specs.Instantiating.{IsInstantiated};
 
 use crate::call::HostCall;
@@ -228,11 +227,13 @@ fn first_globals(alloc: Global, guest: &Module) -> Result<Globals, AllocError>
 /// The value of a constant expression (section 4.4.8) over these globals; 0 where it has none.
 fn constant(globals: &[u64], code: &[Instruction]) -> u64
     ensures value { (vs : List Val) → numbers vs ≡ globals.now → result ≡ segment_start vs code.now }
-    ensures small { (n : ℕ) (rest : List InstructionValue) → code.now ≡ Instruction.I32Const n ∷ rest → result < 2 ^ 32 }
+    ensures small { IsNarrow code.now → result < 2 ^ 32 }
 {
     match code.first() {
         Some(Instruction::I32Const(value)) => u64::from(*value),
         Some(Instruction::I64Const(value)) => *value,
+        Some(Instruction::F32Const(bits)) => u64::from(*bits),
+        Some(Instruction::F64Const(bits)) => *bits,
         Some(Instruction::GlobalGet(index)) => globals.get(*index as usize).copied().unwrap_or(0),
         _ => 0,
     }

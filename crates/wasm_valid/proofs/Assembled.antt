@@ -28,13 +28,17 @@ use Rattle.wasm_valid.proofs.Refusals.{Refutes-some}
 pub constant_of : (gs : List GlobalType) (t : ValueType) (i : Instruction) (code : List Instruction) → code ≡ i ∷ op.End ∷ [] → IsConstantInstruction gs t i → IsConstant gs t code
 constant_of gs t (op.I32Const n) code e h = inl (n, h, e)
 constant_of gs t (op.I64Const n) code e h = inr (inl (n, h, e))
-constant_of gs t (op.GlobalGet x) code e h = inr (inr (x, h, e))
+constant_of gs t (op.F32Const n) code e h = inr (inr (inl (n, h, e)))
+constant_of gs t (op.F64Const n) code e h = inr (inr (inr (inl (n, h, e))))
+constant_of gs t (op.GlobalGet x) code e h = inr (inr (inr (inr (x, h, e))))
 constant_of gs t i code e h = absurd h
 
 pub of_constant : (gs : List GlobalType) (t : ValueType) (code : List Instruction) → IsConstant gs t code → (i : Instruction) × (code ≡ i ∷ op.End ∷ []) × IsConstantInstruction gs t i
 of_constant gs t code (inl h) = (op.I32Const h.0, h.2, h.1)
 of_constant gs t code (inr (inl h)) = (op.I64Const h.0, h.2, h.1)
-of_constant gs t code (inr (inr h)) = (op.GlobalGet h.0, h.2, h.1)
+of_constant gs t code (inr (inr (inl h))) = (op.F32Const h.0, h.2, h.1)
+of_constant gs t code (inr (inr (inr (inl h)))) = (op.F64Const h.0, h.2, h.1)
+of_constant gs t code (inr (inr (inr (inr h)))) = (op.GlobalGet h.0, h.2, h.1)
 
 -- ---- exports and segments
 

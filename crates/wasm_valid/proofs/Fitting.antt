@@ -3,7 +3,7 @@
 use Rattle.std.proofs.Common.{◌≡◌, List, [], ◌∷◌, ◌++◌, Option, Some, None, Bool, true, false, refl, sym, ap, ◌∙◌, subst}
 use Rattle.std.specs.Option.{option_map, option_and_then}
 use Rattle.wasm_module.specs.declared.instruction.ValueType.{ValueType}
-use Rattle.wasm_module.specs.declared.instruction.ValueType.TheVariants.{I32, I64}
+use Rattle.wasm_module.specs.declared.instruction.ValueType.TheVariants.{I32, I64, F32, F64}
 use Rattle.wasm_valid.specs.Typing.{Moves, Leaves}
 use Rattle.wasm_valid.specs.internal.Fits.{Agrees, FitsList, FitsTypes}
 use Rattle.wasm_valid.specs.internal.Stack.{Stack, anything, if_true, when, is_same, agrees, pop_any_of, pop_any, pop, pops, push_any, push, moved, left, dropped, meet, select_from, selected, is_emptied, can_be}
@@ -27,14 +27,16 @@ if_true_some false x r e = cc
 pub is_same_true : (t u : ValueType) → is_same t u ≡ true → t ≡ u
 is_same_true I32 I32 e = refl
 is_same_true I64 I64 e = refl
-is_same_true I32 I64 e = cc
-is_same_true I64 I32 e = cc
+is_same_true F32 F32 e = refl
+is_same_true F64 F64 e = refl
+is_same_true t u e = cc
 
 pub is_same_same : (t u : ValueType) → t ≡ u → is_same t u ≡ true
 is_same_same I32 I32 e = refl
 is_same_same I64 I64 e = refl
-is_same_same I32 I64 e = cc
-is_same_same I64 I32 e = cc
+is_same_same F32 F32 e = refl
+is_same_same F64 F64 e = refl
+is_same_same t u e = cc
 
 agrees_true : (o : Option ValueType) (t : ValueType) → agrees o t ≡ true → Agrees o t
 agrees_true None t e = tt

@@ -6,7 +6,11 @@ use Rattle.std.proofs.Math.Nat.{pow-le-pow_right}
 use Rattle.std.specs.List.{AllByRecursion, slice_get}
 use Rattle.std.specs.Option.{option_map, option_and_then}
 use Rattle.wasm_module.specs.declared.instruction.ValueType.{ValueType}
-use Rattle.wasm_module.specs.declared.instruction.ValueType.TheVariants.{I32, I64}
+use Rattle.wasm_module.specs.declared.instruction.ValueType.TheVariants.{I32, I64, F32, F64}
+use Rattle.wasm_module.specs.declared.instruction.IntegerType.{IntegerType}
+use Rattle.wasm_module.specs.declared.instruction.IntegerType.TheVariants as int
+use Rattle.wasm_module.specs.declared.instruction.FloatOperator.{FloatOperator}
+use Rattle.wasm_module.specs.declared.instruction.FloatOperator.TheVariants as float_op
 use Rattle.wasm_module.specs.declared.instruction.BlockType.{BlockType}
 use Rattle.wasm_module.specs.declared.instruction.BlockType.TheVariants.{Empty, Value}
 use Rattle.wasm_module.specs.declared.instruction.MemArg.{MemArg}
@@ -21,9 +25,10 @@ use Rattle.wasm_module.specs.declared.module.GlobalType.{GlobalType}
 use Rattle.wasm_valid.specs.declared.effects.Takes.{Takes}
 use Rattle.wasm_valid.specs.declared.effects.Takes.TheVariants.{Nothing, One, Two, Three}
 use Rattle.wasm_valid.specs.declared.effects.MemoryEffect.{MemoryEffect}
-use Rattle.wasm_valid.specs.Typing.{Context, Labels, Moves, Leaves, Loads, Stores, IsOperator, OpTyped, results_of}
+use Rattle.wasm_module.specs.Types.{integer, float}
+use Rattle.wasm_valid.specs.Typing.{Context, Labels, Moves, Leaves, Loads, Stores, IsOperator, as_wide, float_takes, float_gives, OpTyped, results_of}
 use Rattle.wasm_valid.specs.internal.Stack.{Stack, if_true, when, is_same, pop, pops, push, moved, left}
-use Rattle.wasm_valid.specs.internal.Effects.{taken, effect, access, load, store, access_of, is_operator, numeric_effect, accessed, variable_effect, applied, are_same, keeps, all_keep, table_label, called, called_indirect, after}
+use Rattle.wasm_valid.specs.internal.Effects.{taken, effect, access, load, store, access_of, is_operator, float_operands, numeric_effect, accessed, variable_effect, applied, are_same, keeps, all_keep, table_label, called, called_indirect, after}
 use Rattle.wasm_valid.proofs.Fitting.{ComputesTyping, ComputesTyping-same, ComputesTyping-is, ComputesTyping-with, ComputesTyping-when, ComputesTyping-never, moved_walks, left_walks, unreachable_walks, dropped_walks, selected_walks, is_same_true, is_same_same, and_then_some, if_true_some}
 
 -- ---- tests
@@ -86,17 +91,29 @@ memory_walks c takes gives s =
 
 -- ---- operators
 
-unary_walks : (t : ValueType) (o : UnaryOperator) (s : Stack) → ComputesTyping (λ a b. IsOperator t o × Moves (t ∷ []) (t ∷ []) a b) s (applied (if_true (is_operator t o) (effect (One t) (Value t))) s)
+unary_walks : (t : IntegerType) (o : UnaryOperator) (s : Stack) → ComputesTyping (λ a b. IsOperator t o × Moves (integer t ∷ []) (integer t ∷ []) a b) s (applied (if_true (is_operator t o) (effect (One (integer t)) (Value (integer t)))) s)
 unary_walks t o s =
-    ComputesTyping-same (λ a b. (is_operator t o ≡ true) × Moves (t ∷ []) (t ∷ []) a b) (λ a b. IsOperator t o × Moves (t ∷ []) (t ∷ []) a b) s (applied (if_true (is_operator t o) (effect (One t) (Value t))) s)
-    (λ a b q. (holds t o q.0, q.1)) (λ a b q. (tests t o q.0, q.1)) (effect_walks (is_operator t o) (One t) (Value t) s) where
-      holds : (t : ValueType) (o : UnaryOperator) → is_operator t o ≡ true → IsOperator t o
-      holds I32 Extend32S e = cc
+    ComputesTyping-same (λ a b. (is_operator t o ≡ true) × Moves (integer t ∷ []) (integer t ∷ []) a b) (λ a b. IsOperator t o × Moves (integer t ∷ []) (integer t ∷ []) a b) s (applied (if_true (is_operator t o) (effect (One (integer t)) (Value (integer t)))) s)
+    (λ a b q. (holds t o q.0, q.1)) (λ a b q. (tests t o q.0, q.1)) (effect_walks (is_operator t o) (One (integer t)) (Value (integer t)) s) where
+      holds : (t : IntegerType) (o : UnaryOperator) → is_operator t o ≡ true → IsOperator t o
+      holds int.I32 Extend32S e = cc
       holds t o e = tt
 
-      tests : (t : ValueType) (o : UnaryOperator) → IsOperator t o → is_operator t o ≡ true
-      tests I32 Extend32S h = absurd h
+      tests : (t : IntegerType) (o : UnaryOperator) → IsOperator t o → is_operator t o ≡ true
+      tests int.I32 Extend32S h = absurd h
       tests t o h = refl
+
+float_walks : (o : FloatOperator) (s : Stack) → ComputesTyping (λ a b. Moves (float_takes o) (float_gives o ∷ []) a b) s (applied (Some (effect (float_operands o) (Value (float_gives o)))) s)
+float_walks (float_op.Compare f o) s = moved_walks (float f ∷ float f ∷ []) (I32 ∷ []) s
+float_walks (float_op.Unary f o) s = moved_walks (float f ∷ []) (float f ∷ []) s
+float_walks (float_op.Binary f o) s = moved_walks (float f ∷ float f ∷ []) (float f ∷ []) s
+float_walks (float_op.Truncate t f g) s = moved_walks (float f ∷ []) (integer t ∷ []) s
+float_walks (float_op.Saturate t f g) s = moved_walks (float f ∷ []) (integer t ∷ []) s
+float_walks (float_op.Convert f t g) s = moved_walks (integer t ∷ []) (float f ∷ []) s
+float_walks float_op.Demote s = moved_walks (F64 ∷ []) (F32 ∷ []) s
+float_walks float_op.Promote s = moved_walks (F32 ∷ []) (F64 ∷ []) s
+float_walks (float_op.ToBits f) s = moved_walks (float f ∷ []) (integer (as_wide f) ∷ []) s
+float_walks (float_op.FromBits f) s = moved_walks (integer (as_wide f) ∷ []) (float f ∷ []) s
 
 -- ---- branches by a table
 
@@ -207,13 +224,16 @@ op_walks c ls op.MemoryCopy s = memory_walks c (Three I32 I32 I32) Empty s
 op_walks c ls op.MemoryFill s = memory_walks c (Three I32 I32 I32) Empty s
 op_walks c ls (op.I32Const n) s = moved_walks [] (I32 ∷ []) s
 op_walks c ls (op.I64Const n) s = moved_walks [] (I64 ∷ []) s
-op_walks c ls (op.Eqz t) s = moved_walks (t ∷ []) (I32 ∷ []) s
-op_walks c ls (op.Compare t o) s = moved_walks (t ∷ t ∷ []) (I32 ∷ []) s
+op_walks c ls (op.Eqz t) s = moved_walks (integer t ∷ []) (I32 ∷ []) s
+op_walks c ls (op.Compare t o) s = moved_walks (integer t ∷ integer t ∷ []) (I32 ∷ []) s
 op_walks c ls (op.Unary t o) s = unary_walks t o s
-op_walks c ls (op.Binary t o) s = moved_walks (t ∷ t ∷ []) (t ∷ []) s
+op_walks c ls (op.Binary t o) s = moved_walks (integer t ∷ integer t ∷ []) (integer t ∷ []) s
 op_walks c ls op.I32WrapI64 s = moved_walks (I64 ∷ []) (I32 ∷ []) s
 op_walks c ls op.I64ExtendI32S s = moved_walks (I32 ∷ []) (I64 ∷ []) s
 op_walks c ls op.I64ExtendI32U s = moved_walks (I32 ∷ []) (I64 ∷ []) s
+op_walks c ls (op.F32Const n) s = moved_walks [] (F32 ∷ []) s
+op_walks c ls (op.F64Const n) s = moved_walks [] (F64 ∷ []) s
+op_walks c ls (op.Float o) s = float_walks o s
 
 -- ---- an instruction by what was found of it
 

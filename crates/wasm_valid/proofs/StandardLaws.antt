@@ -1,13 +1,14 @@
 -- The typing by recursion over the nested code is the typing by rules.
 use Rattle.std.proofs.Common.{◌≡◌, List, [], ◌∷◌, ◌++◌, refl, sym, ap, ◌∙◌, subst, append_assoc, reverse}
 use Rattle.wasm_module.specs.declared.instruction.ValueType.{ValueType}
-use Rattle.wasm_module.specs.declared.instruction.ValueType.TheVariants.{I32, I64}
+use Rattle.wasm_module.specs.declared.instruction.ValueType.TheVariants.{I32, I64, F32, F64}
 use Rattle.wasm_module.specs.declared.instruction.BlockType.{BlockType}
+use Rattle.wasm_module.specs.Types.{integer}
 use Rattle.wasm_module.specs.Accesses.{load_access, store_access}
 use Rattle.wasm_module.specs.declared.instruction.Instruction.{Instruction}
 use Rattle.wasm_module.specs.declared.instruction.Instruction.TheVariants as op
 use Rattle.wasm_module.specs.Instructions.{Instructions, done, plain, block, loop, if_then, if_else, invoke, append}
-use Rattle.wasm_valid.specs.Typing.{Context, Labels, Moves, Leaves, OpTyped, Typed, results_of}
+use Rattle.wasm_valid.specs.Typing.{Context, Labels, Moves, Leaves, float_takes, float_gives, OpTyped, Typed, results_of}
 use Rattle.wasm_valid.specs.Standard.{HasType, none, one, a_block, a_loop, an_if, an_if_else, a_call, sequence, widened}
 
 -- ---- widening
@@ -48,13 +49,16 @@ op_wide c ls op.MemoryCopy a b w h = (h.0, moves_wide (I32 ∷ I32 ∷ I32 ∷ [
 op_wide c ls op.MemoryFill a b w h = (h.0, moves_wide (I32 ∷ I32 ∷ I32 ∷ []) [] a b w h.1)
 op_wide c ls (op.I32Const n) a b w h = moves_wide [] (I32 ∷ []) a b w h
 op_wide c ls (op.I64Const n) a b w h = moves_wide [] (I64 ∷ []) a b w h
-op_wide c ls (op.Eqz t) a b w h = moves_wide (t ∷ []) (I32 ∷ []) a b w h
-op_wide c ls (op.Compare t o) a b w h = moves_wide (t ∷ t ∷ []) (I32 ∷ []) a b w h
-op_wide c ls (op.Unary t o) a b w h = (h.0, moves_wide (t ∷ []) (t ∷ []) a b w h.1)
-op_wide c ls (op.Binary t o) a b w h = moves_wide (t ∷ t ∷ []) (t ∷ []) a b w h
+op_wide c ls (op.Eqz t) a b w h = moves_wide (integer t ∷ []) (I32 ∷ []) a b w h
+op_wide c ls (op.Compare t o) a b w h = moves_wide (integer t ∷ integer t ∷ []) (I32 ∷ []) a b w h
+op_wide c ls (op.Unary t o) a b w h = (h.0, moves_wide (integer t ∷ []) (integer t ∷ []) a b w h.1)
+op_wide c ls (op.Binary t o) a b w h = moves_wide (integer t ∷ integer t ∷ []) (integer t ∷ []) a b w h
 op_wide c ls op.I32WrapI64 a b w h = moves_wide (I64 ∷ []) (I32 ∷ []) a b w h
 op_wide c ls op.I64ExtendI32S a b w h = moves_wide (I32 ∷ []) (I64 ∷ []) a b w h
 op_wide c ls op.I64ExtendI32U a b w h = moves_wide (I32 ∷ []) (I64 ∷ []) a b w h
+op_wide c ls (op.F32Const n) a b w h = moves_wide [] (F32 ∷ []) a b w h
+op_wide c ls (op.F64Const n) a b w h = moves_wide [] (F64 ∷ []) a b w h
+op_wide c ls (op.Float o) a b w h = moves_wide (float_takes o) (float_gives o ∷ []) a b w h
 
 typed_wide : (c : Context) (code : Instructions) (ls : Labels) (a b w : List ValueType) → Typed c ls code a b → Typed c ls code (a ++ w) (b ++ w)
 typed_wide c done ls a b w h = ap (λ (l : List ValueType). l ++ w) h

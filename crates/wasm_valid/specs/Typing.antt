@@ -2,11 +2,18 @@
 use Rattle.std.specs.Prelude.{◌≡◌, ℕ, ◌^◌, ◌≤◌, List, [], ◌∷◌, ◌++◌, Some, Bool, true, slice_get, reverse, length}
 use Rattle.std.specs.List.{AllByRecursion}
 use Rattle.wasm_module.specs.declared.instruction.ValueType.{ValueType}
-use Rattle.wasm_module.specs.declared.instruction.ValueType.TheVariants.{I32, I64}
+use Rattle.wasm_module.specs.declared.instruction.ValueType.TheVariants.{I32, I64, F32, F64}
+use Rattle.wasm_module.specs.declared.instruction.IntegerType.{IntegerType}
+use Rattle.wasm_module.specs.declared.instruction.IntegerType.TheVariants as int
+use Rattle.wasm_module.specs.declared.instruction.FloatType.{FloatType}
+use Rattle.wasm_module.specs.declared.instruction.FloatType.TheVariants as float_type
+use Rattle.wasm_module.specs.declared.instruction.FloatOperator.{FloatOperator}
+use Rattle.wasm_module.specs.declared.instruction.FloatOperator.TheVariants as float_op
 use Rattle.wasm_module.specs.declared.instruction.BlockType.{BlockType}
 use Rattle.wasm_module.specs.declared.instruction.BlockType.TheVariants.{Empty, Value}
 use Rattle.wasm_module.specs.declared.instruction.MemArg.{MemArg}
 use Rattle.wasm_module.specs.declared.accesses.Access.{Access}
+use Rattle.wasm_module.specs.Types.{integer, float}
 use Rattle.wasm_module.specs.Accesses.{load_access, store_access}
 use Rattle.wasm_module.specs.declared.instruction.UnaryOperator.{UnaryOperator}
 use Rattle.wasm_module.specs.declared.instruction.UnaryOperator.TheVariants.{Extend32S}
@@ -56,9 +63,39 @@ abbrev pub Stores : Context → Access → MemArg → List ValueType → List Va
 Stores c n m a b = (c.has_memory ≡ true) × (2 ^ m.align ≤ 2 ^ n.width) × Moves (n.value_type ∷ I32 ∷ []) [] a b
 
 -- extend32_s is only of i64
-abbrev pub IsOperator : ValueType → UnaryOperator → Type 0
-IsOperator I32 Extend32S = ⊥
+abbrev pub IsOperator : IntegerType → UnaryOperator → Type 0
+IsOperator int.I32 Extend32S = ⊥
 IsOperator t o = Unit {0}
+
+-- the integers that have as many bits as these floats
+abbrev pub as_wide : FloatType → IntegerType
+as_wide float_type.F32 = int.I32
+as_wide float_type.F64 = int.I64
+
+-- what an operator on floats takes, the one on top first, and what it gives
+abbrev pub float_takes : FloatOperator → List ValueType
+float_takes (float_op.Compare f o) = float f ∷ float f ∷ []
+float_takes (float_op.Unary f o) = float f ∷ []
+float_takes (float_op.Binary f o) = float f ∷ float f ∷ []
+float_takes (float_op.Truncate t f s) = float f ∷ []
+float_takes (float_op.Saturate t f s) = float f ∷ []
+float_takes (float_op.Convert f t s) = integer t ∷ []
+float_takes float_op.Demote = F64 ∷ []
+float_takes float_op.Promote = F32 ∷ []
+float_takes (float_op.ToBits f) = float f ∷ []
+float_takes (float_op.FromBits f) = integer (as_wide f) ∷ []
+
+abbrev pub float_gives : FloatOperator → ValueType
+float_gives (float_op.Compare f o) = I32
+float_gives (float_op.Unary f o) = float f
+float_gives (float_op.Binary f o) = float f
+float_gives (float_op.Truncate t f s) = integer t
+float_gives (float_op.Saturate t f s) = integer t
+float_gives (float_op.Convert f t s) = float f
+float_gives float_op.Demote = F32
+float_gives float_op.Promote = F64
+float_gives (float_op.ToBits f) = integer (as_wide f)
+float_gives (float_op.FromBits f) = float f
 
 -- an instruction of type [a] -> [b] (sections 3.3.1 to 3.3.5)
 abbrev pub OpTyped : Context → Labels → Instruction → List ValueType → List ValueType → Type 0
@@ -93,13 +130,16 @@ OpTyped c ls op.MemoryCopy a b = (c.has_memory ≡ true) × Moves (I32 ∷ I32 �
 OpTyped c ls op.MemoryFill a b = (c.has_memory ≡ true) × Moves (I32 ∷ I32 ∷ I32 ∷ []) [] a b
 OpTyped c ls (op.I32Const n) a b = Moves [] (I32 ∷ []) a b
 OpTyped c ls (op.I64Const n) a b = Moves [] (I64 ∷ []) a b
-OpTyped c ls (op.Eqz t) a b = Moves (t ∷ []) (I32 ∷ []) a b
-OpTyped c ls (op.Compare t o) a b = Moves (t ∷ t ∷ []) (I32 ∷ []) a b
-OpTyped c ls (op.Unary t o) a b = IsOperator t o × Moves (t ∷ []) (t ∷ []) a b
-OpTyped c ls (op.Binary t o) a b = Moves (t ∷ t ∷ []) (t ∷ []) a b
+OpTyped c ls (op.Eqz t) a b = Moves (integer t ∷ []) (I32 ∷ []) a b
+OpTyped c ls (op.Compare t o) a b = Moves (integer t ∷ integer t ∷ []) (I32 ∷ []) a b
+OpTyped c ls (op.Unary t o) a b = IsOperator t o × Moves (integer t ∷ []) (integer t ∷ []) a b
+OpTyped c ls (op.Binary t o) a b = Moves (integer t ∷ integer t ∷ []) (integer t ∷ []) a b
 OpTyped c ls op.I32WrapI64 a b = Moves (I64 ∷ []) (I32 ∷ []) a b
 OpTyped c ls op.I64ExtendI32S a b = Moves (I32 ∷ []) (I64 ∷ []) a b
 OpTyped c ls op.I64ExtendI32U a b = Moves (I32 ∷ []) (I64 ∷ []) a b
+OpTyped c ls (op.F32Const n) a b = Moves [] (F32 ∷ []) a b
+OpTyped c ls (op.F64Const n) a b = Moves [] (F64 ∷ []) a b
+OpTyped c ls (op.Float o) a b = Moves (float_takes o) (float_gives o ∷ []) a b
 
 -- Instructions of type [a] -> [b] (sections 3.3.5 and 3.3.6): the first goes from a to some types, and the rest goes on
 -- from there. Within a block only what the block itself pushed can be taken, and its end finds exactly its results.

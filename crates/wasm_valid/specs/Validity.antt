@@ -3,7 +3,7 @@
 use Rattle.std.specs.Prelude.{◌≡◌, ◌≢◌, ℕ, ◌<◌, ◌≤◌, ◌^◌, ◌⊎◌, List, [], ◌∷◌, ◌++◌, Option, Some, None, Bool, true, false, slice_get, length, map, replicate, IfSome}
 use Rattle.std.specs.List.{AllByRecursion, flat_map, filter_map}
 use Rattle.wasm_module.specs.declared.instruction.ValueType.{ValueType}
-use Rattle.wasm_module.specs.declared.instruction.ValueType.TheVariants.{I32, I64}
+use Rattle.wasm_module.specs.declared.instruction.ValueType.TheVariants.{I32, I64, F32, F64}
 use Rattle.wasm_module.specs.declared.instruction.Instruction.{Instruction}
 use Rattle.wasm_module.specs.declared.instruction.Instruction.TheVariants as op
 use Rattle.wasm_module.specs.declared.module.FuncType.{FuncType}
@@ -102,6 +102,8 @@ abbrev pub IsConstant : List GlobalType → ValueType → List Instruction → T
 IsConstant gs t code =
     ((n : ℕ) × (t ≡ I32) × (code ≡ op.I32Const n ∷ op.End ∷ []))
     ⊎ ((n : ℕ) × (t ≡ I64) × (code ≡ op.I64Const n ∷ op.End ∷ []))
+    ⊎ ((n : ℕ) × (t ≡ F32) × (code ≡ op.F32Const n ∷ op.End ∷ []))
+    ⊎ ((n : ℕ) × (t ≡ F64) × (code ≡ op.F64Const n ∷ op.End ∷ []))
     ⊎ ((x : ℕ) × (slice_get gs x ≡ Some (record { value_type = t; mutable = false })) × (code ≡ op.GlobalGet x ∷ op.End ∷ []))
 
 -- limits within a range (section 3.2.1)

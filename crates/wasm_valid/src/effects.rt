@@ -1,9 +1,14 @@
 //! What an instruction of fixed type takes from the stack and leaves there (section 3.3).
 
 ghost use Rattle.std.specs.Prelude.{◌≡◌};
-ghost use Rattle.wasm_valid.specs.internal.Effects.{effect, access, load, store, access_of, is_operator, numeric_effect};
+ghost use Rattle.wasm_module.specs.Types.{integer};
+ghost use Rattle.wasm_valid.specs.Typing.{as_wide, float_gives};
+ghost use Rattle.wasm_valid.specs.internal.Effects.{effect, access, load, store, access_of, is_operator, float_operands, numeric_effect};
 
-use wasm_module::{Access, BlockType, Instruction, MemArg, UnaryOperator, ValueType};
+use wasm_module::{
+    Access, BlockType, FloatOperator, FloatType, Instruction, IntegerType, MemArg, UnaryOperator,
+    ValueType,
+};
 
 /// Types that are taken, the one on top first.
 #[derive(Clone, Copy)]
@@ -96,12 +101,68 @@ pub fn on_memory(instruction: &Instruction) -> Option<MemoryEffect>
 }
 
 /// Whether there is such an operator on this type.
-fn is_operator(value_type: ValueType, operator: UnaryOperator) -> bool
-    ensures { result ≡ is_operator value_type operator }
+fn is_operator(integer_type: IntegerType, operator: UnaryOperator) -> bool
+    ensures { result ≡ is_operator integer_type operator }
 {
-    match (value_type, operator) {
-        (ValueType::I32, UnaryOperator::Extend32S) => false,
+    match (integer_type, operator) {
+        (IntegerType::I32, UnaryOperator::Extend32S) => false,
         _ => true,
+    }
+}
+
+/// Two integers of this type.
+fn two(integer_type: IntegerType) -> Takes
+    ensures { result ≡ Takes.Two (integer integer_type) (integer integer_type) }
+{
+    let operand = integer_type.value_type();
+    Takes::Two(operand, operand)
+}
+
+/// The integers that have as many bits as these floats.
+fn as_wide(float_type: FloatType) -> IntegerType
+    ensures { result ≡ as_wide float_type }
+{
+    match float_type {
+        FloatType::F32 => IntegerType::I32,
+        FloatType::F64 => IntegerType::I64,
+    }
+}
+
+/// What an operator on floats takes.
+fn float_operands(operator: FloatOperator) -> Takes
+    ensures { result ≡ float_operands operator }
+{
+    match operator {
+        FloatOperator::Compare(float, _) | FloatOperator::Binary(float, _) => {
+            Takes::Two(float.value_type(), float.value_type())
+        }
+        FloatOperator::Unary(float, _)
+        | FloatOperator::Truncate(_, float, _)
+        | FloatOperator::Saturate(_, float, _)
+        | FloatOperator::ToBits(float) => Takes::One(float.value_type()),
+        FloatOperator::Convert(_, integer, _) => Takes::One(integer.value_type()),
+        FloatOperator::Demote => Takes::One(ValueType::F64),
+        FloatOperator::Promote => Takes::One(ValueType::F32),
+        FloatOperator::FromBits(float) => Takes::One(as_wide(float).value_type()),
+    }
+}
+
+/// What an operator on floats gives.
+fn float_result(operator: FloatOperator) -> ValueType
+    ensures { result ≡ float_gives operator }
+{
+    match operator {
+        FloatOperator::Compare(_, _) => ValueType::I32,
+        FloatOperator::Unary(float, _)
+        | FloatOperator::Binary(float, _)
+        | FloatOperator::Convert(float, _, _)
+        | FloatOperator::FromBits(float) => float.value_type(),
+        FloatOperator::Truncate(integer, _, _) | FloatOperator::Saturate(integer, _, _) => {
+            integer.value_type()
+        }
+        FloatOperator::Demote => ValueType::F32,
+        FloatOperator::Promote => ValueType::F64,
+        FloatOperator::ToBits(float) => as_wide(float).value_type(),
     }
 }
 
@@ -113,18 +174,21 @@ pub fn numeric(instruction: &Instruction) -> Option<Effect>
         Instruction::Nop => return Some(Effect::new(Takes::Nothing, BlockType::Empty)),
         Instruction::I32Const(_) => (Takes::Nothing, ValueType::I32),
         Instruction::I64Const(_) => (Takes::Nothing, ValueType::I64),
-        Instruction::Eqz(operand) => (Takes::One(*operand), ValueType::I32),
-        Instruction::Compare(operand, _) => (Takes::Two(*operand, *operand), ValueType::I32),
-        Instruction::Unary(operand, operator) => {
-            if !is_operator(*operand, *operator) {
+        Instruction::Eqz(integer) => (Takes::One(integer.value_type()), ValueType::I32),
+        Instruction::Compare(integer, _) => (two(*integer), ValueType::I32),
+        Instruction::Unary(integer, operator) => {
+            if !is_operator(*integer, *operator) {
                 return None;
             }
-            (Takes::One(*operand), *operand)
+            (Takes::One(integer.value_type()), integer.value_type())
         }
-        Instruction::Binary(operand, _) => (Takes::Two(*operand, *operand), *operand),
+        Instruction::Binary(integer, _) => (two(*integer), integer.value_type()),
         Instruction::I32WrapI64 => (Takes::One(ValueType::I64), ValueType::I32),
         Instruction::I64ExtendI32S => (Takes::One(ValueType::I32), ValueType::I64),
         Instruction::I64ExtendI32U => (Takes::One(ValueType::I32), ValueType::I64),
+        Instruction::F32Const(_) => (Takes::Nothing, ValueType::F32),
+        Instruction::F64Const(_) => (Takes::Nothing, ValueType::F64),
+        Instruction::Float(operator) => (float_operands(*operator), float_result(*operator)),
         _ => return None,
     };
     Some(Effect::new(takes, BlockType::Value(gives)))

@@ -177,12 +177,13 @@ def apart(descriptor):
 
 
 class Module:
-    """A valid module."""
+    """A valid module; with `floats` it may have floating point."""
     _raw = None  # where it wasn't made
 
-    def __init__(self, given):
+    def __init__(self, given, floats=False):
         self._bytes, self._raw, why = bytes(memoryview(given)), c.c_void_p(), _Why()
-        _check(_lib.sandbox_load(c.byref(self._raw), self._bytes, c.c_size_t(len(self._bytes)), c.byref(why)), why.offset)
+        size, takes = c.c_size_t(len(self._bytes)), c.c_uint32(bool(floats))
+        _check(_lib.sandbox_load_with(c.byref(self._raw), self._bytes, size, takes, c.byref(why)), why.offset)
 
     def session(self, **supplies):
         return Session(self, **supplies)
@@ -198,13 +199,14 @@ class Module:
 
 class Prepared(Module):
     """A valid module of which all is made once that sessions look up: any number of them at once, also in several threads, and each
-    opens as fast as one of a small module. They have these `pages`, 1,024 where it is 0."""
+    opens as fast as one of a small module. They have these `pages`, 1,024 where it is 0; with `floats` it may have floating point."""
 
-    def __init__(self, given, pages=0):
+    def __init__(self, given, pages=0, floats=False):
         limits = _Limits(_number("pages", pages, MOST_32))
         self._bytes, self._raw, why = bytes(memoryview(given)), c.c_void_p(), _Why()
         self._pages, self._lock = limits.pages, threading.Lock()
-        _check(_lib.sandbox_prepare(c.byref(self._raw), self._bytes, c.c_size_t(len(self._bytes)), c.byref(limits), c.byref(why)), why.offset)
+        size, takes = c.c_size_t(len(self._bytes)), c.c_uint32(bool(floats))
+        _check(_lib.sandbox_prepare_with(c.byref(self._raw), self._bytes, size, c.byref(limits), takes, c.byref(why)), why.offset)
 
     def share(self):
         """The same module again, for one session at a time."""

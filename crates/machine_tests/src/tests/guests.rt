@@ -3,6 +3,8 @@
 ghost use Rattle.std.specs.Prelude.{Some};
 ghost use Rattle.wasm_store.specs.declared.call.HostCall.TheVariants.{ProcExit};
 
+mod floats;
+
 use super::{assert_row, loaded};
 use std::alloc::{AllocError, Global};
 use std::process::Abort;

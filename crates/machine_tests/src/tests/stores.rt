@@ -47,6 +47,7 @@ fn prints_traps(rt: HostRuntime) {
         (Trap::UninitializedElement, "uninitialized element"),
         (Trap::IndirectCallMismatch, "indirect call type mismatch"),
         (Trap::CallStackExhausted, "call stack exhausted"),
+        (Trap::InvalidConversion, "invalid conversion to integer"),
     ]
     .iter()
     .enumerate()

@@ -10,7 +10,7 @@ use crate::program::HELLO;
 use module_survey::{Links, add_called, called, survey};
 use std::alloc::Global;
 use std::process::Abort;
-use wasm_module::FuncType;
+use wasm_module::{FuncType, Profile};
 use wasm_store::HostCall;
 
 /// A host of two calls, one of which it answers with 52.
@@ -42,7 +42,8 @@ fn is_told(alloc: Global, parts: &[&[u8]], text: &[u8]) -> bool {
     let mut told = Vec::new(alloc);
     match parts.concat(alloc) {
         Ok(bytes) => {
-            survey(alloc, &TwoCalls, &bytes, &mut told).is_ok() && told.as_slice() == text
+            survey(alloc, &TwoCalls, &bytes, Profile::Integers, &mut told).is_ok()
+                && told.as_slice() == text
         }
         Err(_) => false,
     }

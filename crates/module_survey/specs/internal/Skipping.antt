@@ -1,6 +1,6 @@
 -- What follows an instruction in a module's bytes, as the code finds it by its opcode alone. Of bytes that spell an instruction it is
 -- what follows it (`proofs/Skipped.antt`).
-use Rattle.std.specs.Prelude.{ℕ, zero, suc, ◌==◌, ◌||◌, ◌&&◌, nat_le, List, [], ◌∷◌, if◌then◌else◌, Bool}
+use Rattle.std.specs.Prelude.{ℕ, zero, suc, ◌==◌, ◌||◌, ◌&&◌, nat_le, List, [], ◌∷◌, drop, if◌then◌else◌, Bool}
 use Rattle.std.specs.Option.{option_map_or}
 use Rattle.wasm_module.specs.Reading.{u32_at}
 use Rattle.wasm_valid.specs.internal.Skipping.{after_number, after_numbers}
@@ -18,12 +18,20 @@ numbers_behind b =
 abbrev pub after_labels : List ℕ → List ℕ
 after_labels bytes = option_map_or (λ n. after_number (after_numbers n.0 n.1)) (u32_at bytes) bytes
 
--- the number of `memory.copy` is 10, of `memory.fill` 11
+-- the number of `memory.copy` is 10, of `memory.fill` 11; behind that of a saturating conversion nothing follows
+abbrev pub after_bulk_number : ℕ → List ℕ → List ℕ
+after_bulk_number n bytes = if n == 10 then after_numbers 2 bytes else (if n == 11 then after_number bytes else bytes)
+
 abbrev pub after_bulk : List ℕ → List ℕ
-after_bulk bytes = option_map_or (λ n. if n.0 == 10 then after_numbers 2 n.1 else after_number n.1) (u32_at bytes) bytes
+after_bulk bytes = option_map_or (λ n. after_bulk_number n.0 n.1) (u32_at bytes) bytes
 
 abbrev pub after_opcode : ℕ → List ℕ → List ℕ
-after_opcode b bytes = if b == 0x0E then after_labels bytes else (if b == 0xFC then after_bulk bytes else after_numbers (numbers_behind b) bytes)
+after_opcode b bytes =
+    if b == 0x0E then after_labels bytes else (
+    if b == 0xFC then after_bulk bytes else (
+    if b == 0x43 then drop 4 bytes else (
+    if b == 0x44 then drop 8 bytes else
+    after_numbers (numbers_behind b) bytes)))
 
 abbrev pub after_instruction : List ℕ → List ℕ
 after_instruction [] = []

@@ -6,7 +6,8 @@ use machine_tests::HELLO;
 use sandbox_core::Preopen;
 use sandbox_host::{
     Handle, Limits, MISUSE, OK, Supplies, Told, VolumeOperation, VolumeSource, Why, check, close,
-    finish, format, format_huge, full, open, operation_at, output, resume, text, volume_out,
+    finish, format, format_huge, full, load_module_with, open, operation_at, output, resume, text,
+    unload, volume_out,
 };
 use std::alloc::Global;
 use std::process::Abort;
@@ -94,6 +95,26 @@ fn wrong_refusal(alloc: Global) -> Option<usize> {
 fn tells_why_a_module_is_refused(rt: HostRuntime) {
     assert_none(&rt, wrong_refusal(rt.alloc()));
     assert!(rt; is_refused(rt.alloc(), &HI, 0, 0));
+}
+
+/// A module with a parameter f32.
+const FLOATS: &[u8] = b"\0asm\x01\0\0\0\x01\x05\x01\x60\x01\x7D\0";
+
+/// What is answered where this module is loaded, which may have floats where the number isn't 0, and where it is unloaded.
+fn loaded_so(alloc: Global, floats: u32) -> (u32, u32) {
+    let mut module = Handle::empty(alloc);
+    let mut why = Why {
+        fault: 0,
+        offset: 0,
+    };
+    let answer = load_module_with(alloc, &mut module, FLOATS, floats, &mut why);
+    (answer, unload(alloc, &mut module))
+}
+
+#[test]
+fn loads_floats_where_they_are_asked_for(rt: HostRuntime) {
+    assert!(rt; loaded_so(rt.alloc(), 0) == (10, MISUSE));
+    assert!(rt; loaded_so(rt.alloc(), 1) == (OK, OK));
 }
 
 /// A session of a module over a volume, and what the call answered.
@@ -458,7 +479,7 @@ fn answers_misuse(rt: HostRuntime) {
 }
 
 /// The texts of the traps, by their numbers, and none past the last.
-static TRAPS: [&[u8]; 9] = [
+static TRAPS: [&[u8]; 10] = [
     b"unreachable",
     b"integer divide by zero",
     b"integer overflow",
@@ -467,6 +488,7 @@ static TRAPS: [&[u8]; 9] = [
     b"uninitialized element",
     b"indirect call type mismatch",
     b"call stack exhausted",
+    b"invalid conversion to integer",
     b"",
 ];
 

@@ -46,7 +46,7 @@ rule_for argument = rule_that argument.name.now argument.takes
 abbrev pub rules_for : Arguments → List Rule
 rules_for rows.Run = run_rules
 rules_for rows.Put = word_rule (codes "FILE") ∷ word_rule (codes "PATH") ∷ flag_rule (codes "whole") ∷ []
-rules_for rows.Module = word_rule (codes "MODULE") ∷ []
+rules_for rows.Module = word_rule (codes "MODULE") ∷ flag_rule (codes "floats") ∷ []
 rules_for rows.Format = word_rule (codes "FILE") ∷ number_word_rule (codes "SECTORS") ∷ number_word_rule (codes "SLOTS") ∷ flag_rule (codes "large") ∷ flag_rule (codes "huge") ∷ flag_rule (codes "new") ∷ []
 rules_for rows.Volume = word_rule (codes "FILE") ∷ []
 rules_for rows.Upgrade = word_rule (codes "FILE") ∷ flag_rule (codes "huge") ∷ []

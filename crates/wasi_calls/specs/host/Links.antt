@@ -4,7 +4,7 @@ use Rattle.std.specs.Prelude.{ℕ, Bool, not, ◌&&◌, List, [], ◌∷◌, ◌
 use Rattle.std.specs.List.{find}
 use Rattle.std.specs.Option.{option_map_or}
 use Rattle.wasm_module.specs.declared.instruction.ValueType.{ValueType}
-use Rattle.wasm_module.specs.declared.instruction.ValueType.TheVariants.{I32, I64}
+use Rattle.wasm_module.specs.declared.instruction.ValueType.TheVariants.{I32, I64, F32, F64}
 use Rattle.wasm_module.specs.declared.module.FuncType.{FuncType}
 use Rattle.wasm_store.specs.declared.call.HostCall.{HostCall}
 use Rattle.wasm_store.specs.declared.call.HostCall.TheVariants as call
@@ -62,10 +62,12 @@ path_calls =
 abbrev pub calls : List Listed
 calls = supply_calls ++ (descriptor_calls ++ (byte_calls ++ path_calls))
 
--- the letters `i` and `I`
+-- the letters `i`, `I`, `f` and `F`; no call has floats
 abbrev pub letter_of : ValueType → ℕ
 letter_of I32 = 105
 letter_of I64 = 73
+letter_of F32 = 102
+letter_of F64 = 70
 
 -- these are the types that the letters say
 abbrev pub are_types : List ℕ → List ValueType → Bool

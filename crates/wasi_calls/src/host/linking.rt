@@ -101,6 +101,8 @@ fn letter_of(value_type: &ValueType) -> u8
     match value_type {
         ValueType::I32 => b'i',
         ValueType::I64 => b'I',
+        ValueType::F32 => b'f',
+        ValueType::F64 => b'F',
     }
 }
 

@@ -2,6 +2,7 @@
 
 ghost use Rattle.std.specs.Prelude.{◌≡◌, ℕ, ◌∷◌, ◌++◌, ◌-◌, take, replicate, max, ◌+◌, ◌<◌, ◌≤◌, ◌^◌, ◌%◌, drop, length, reverse, slice_index, vec_capacity, vec_len, nat_eq, OnOk, IfErr, Ok, Err};
 ghost use Rattle.wasm_num.specs.Numbers.{signed, wrapped, bool_number};
+ghost use Rattle.wasm_module.specs.Types.{integer};
 ghost use Rattle.wasm_valid.specs.Typing.{IsOperator};
 ghost use Rattle.wasm_steps.specs.Operators.{width, compare_test, unary_number, binary_number};
 ghost use Rattle.wasm_interp.specs.internal.Standing.{unwound};
@@ -10,7 +11,7 @@ ghost use Rattle.wasm_interp.specs.internal.Plain.Performing.{Gives, HasOne, Has
 use crate::growth::reserve_within;
 use crate::plain::halt::Halt;
 use crate::plain::operators::{binary, compare, unary};
-use wasm_module::{BinaryOperator, Comparison, UnaryOperator, ValueType};
+use wasm_module::{BinaryOperator, Comparison, IntegerType, UnaryOperator, ValueType};
 use wasm_num::{Trap, i32_wrap_i64, i64_extend_i32_s};
 
 /// The value at this many places below the top.
@@ -106,7 +107,7 @@ pub fn push_zeros(values: &mut Vec<u64>, count: usize)
 }
 
 /// 1 where a test holds.
-fn flag(holds: bool) -> u64
+pub fn flag(holds: bool) -> u64
     ensures { result ≡ bool_number holds }
 {
     if holds { 1 } else { 0 }
@@ -135,9 +136,9 @@ pub fn test_top(values: &mut Vec<u64>)
 }
 
 /// Whether a comparison of the two numbers on top holds.
-pub fn compare_top(values: &mut Vec<u64>, value_type: ValueType, comparison: Comparison)
-    requires { HasTwo value_type (reverse values.old.items) }
-    ensures compared { Gives ValueType.I32 (bool_number (compare_test (width value_type) comparison (slice_index (reverse values.old.items) 1) (slice_index (reverse values.old.items) 0))) 2 (reverse values.old.items) (reverse values.new.items) }
+pub fn compare_top(values: &mut Vec<u64>, integer_type: IntegerType, comparison: Comparison)
+    requires { HasTwo (integer integer_type) (reverse values.old.items) }
+    ensures compared { Gives ValueType.I32 (bool_number (compare_test (width (integer integer_type)) comparison (slice_index (reverse values.old.items) 1) (slice_index (reverse values.old.items) 0))) 2 (reverse values.old.items) (reverse values.new.items) }
     ensures room { vec_capacity values.new ≡ vec_capacity values.old }
 {
     let second = operand(values, 0);
@@ -145,35 +146,35 @@ pub fn compare_top(values: &mut Vec<u64>, value_type: ValueType, comparison: Com
     replace(
         values,
         2,
-        flag(compare(value_type, comparison, first, second)),
+        flag(compare(integer_type, comparison, first, second)),
     );
 }
 
 /// What an operator makes of the number on top.
-pub fn unary_top(values: &mut Vec<u64>, value_type: ValueType, operator: UnaryOperator)
-    requires there { IsOperator value_type operator }
-    requires number { HasOne value_type (reverse values.old.items) }
-    ensures given { Gives value_type (unary_number (width value_type) operator (slice_index (reverse values.old.items) 0)) 1 (reverse values.old.items) (reverse values.new.items) }
+pub fn unary_top(values: &mut Vec<u64>, integer_type: IntegerType, operator: UnaryOperator)
+    requires there { IsOperator integer_type operator }
+    requires number { HasOne (integer integer_type) (reverse values.old.items) }
+    ensures given { Gives (integer integer_type) (unary_number (width (integer integer_type)) operator (slice_index (reverse values.old.items) 0)) 1 (reverse values.old.items) (reverse values.new.items) }
     ensures room { vec_capacity values.new ≡ vec_capacity values.old }
 {
     let x = operand(values, 0);
-    replace(values, 1, unary(value_type, operator, x));
+    replace(values, 1, unary(integer_type, operator, x));
 }
 
 /// What an operator makes of the two numbers on top.
 pub fn binary_top(
     values: &mut Vec<u64>,
-    value_type: ValueType,
+    integer_type: IntegerType,
     operator: BinaryOperator,
 ) -> Result<(), Trap>
-    requires { HasTwo value_type (reverse values.old.items) }
-    ensures given { OnOk result ((r : ℕ) × (binary_number (width value_type) operator (slice_index (reverse values.old.items) 1) (slice_index (reverse values.old.items) 0) ≡ Ok r) × Gives value_type r 2 (reverse values.old.items) (reverse values.new.items)) }
-    ensures traps { IfErr result (λ e. (binary_number (width value_type) operator (slice_index (reverse values.old.items) 1) (slice_index (reverse values.old.items) 0) ≡ Err e) × (values.new.items ≡ values.old.items)) }
+    requires { HasTwo (integer integer_type) (reverse values.old.items) }
+    ensures given { OnOk result ((r : ℕ) × (binary_number (width (integer integer_type)) operator (slice_index (reverse values.old.items) 1) (slice_index (reverse values.old.items) 0) ≡ Ok r) × Gives (integer integer_type) r 2 (reverse values.old.items) (reverse values.new.items)) }
+    ensures traps { IfErr result (λ e. (binary_number (width (integer integer_type)) operator (slice_index (reverse values.old.items) 1) (slice_index (reverse values.old.items) 0) ≡ Err e) × (values.new.items ≡ values.old.items)) }
     ensures room { vec_capacity values.new ≡ vec_capacity values.old }
 {
     let second = operand(values, 0);
     let first = operand(values, 1);
-    let result = binary(value_type, operator, first, second)?;
+    let result = binary(integer_type, operator, first, second)?;
     replace(values, 2, result);
     Ok(())
 }

@@ -1,10 +1,11 @@
 //! The operators that an instruction names, each over the numbers of its type.
 
 ghost use Rattle.std.specs.Prelude.{◌≡◌, ◌<◌, ◌^◌, IfOk};
+ghost use Rattle.wasm_module.specs.Types.{integer};
 ghost use Rattle.wasm_valid.specs.Typing.{IsOperator};
 ghost use Rattle.wasm_steps.specs.Operators.{width, compare_test, unary_number, binary_number};
 
-use wasm_module::{BinaryOperator, Comparison, UnaryOperator, ValueType};
+use wasm_module::{BinaryOperator, Comparison, IntegerType, UnaryOperator};
 use wasm_num::{
     Trap, i32_add, i32_and, i32_clz, i32_ctz, i32_div_s, i32_div_u, i32_eq, i32_extend8_s,
     i32_extend16_s, i32_ge_s, i32_ge_u, i32_gt_s, i32_gt_u, i32_le_s, i32_le_u, i32_lt_s, i32_lt_u,
@@ -16,18 +17,23 @@ use wasm_num::{
 };
 
 /// What an operator of this type makes of two numbers.
-pub fn binary(value_type: ValueType, operator: BinaryOperator, x: u64, y: u64) -> Result<u64, Trap>
-    requires first { x < 2 ^ width value_type }
-    requires second { y < 2 ^ width value_type }
-    ensures number { result ≡ binary_number (width value_type) operator x y }
-    ensures fits { IfOk result (λ r. r < 2 ^ width value_type) }
+pub fn binary(
+    integer_type: IntegerType,
+    operator: BinaryOperator,
+    x: u64,
+    y: u64,
+) -> Result<u64, Trap>
+    requires first { x < 2 ^ width (integer integer_type) }
+    requires second { y < 2 ^ width (integer integer_type) }
+    ensures number { result ≡ binary_number (width (integer integer_type)) operator x y }
+    ensures fits { IfOk result (λ r. r < 2 ^ width (integer integer_type)) }
 {
-    match value_type {
-        ValueType::I32 => match binary_32(operator, x as u32, y as u32) {
+    match integer_type {
+        IntegerType::I32 => match binary_32(operator, x as u32, y as u32) {
             Ok(result) => Ok(u64::from(result)),
             Err(trap) => Err(trap),
         },
-        ValueType::I64 => binary_64(operator, x, y),
+        IntegerType::I64 => binary_64(operator, x, y),
     }
 }
 
@@ -78,21 +84,21 @@ fn binary_64(operator: BinaryOperator, x: u64, y: u64) -> Result<u64, Trap>
 }
 
 /// What an operator of this type makes of a number.
-pub fn unary(value_type: ValueType, operator: UnaryOperator, x: u64) -> u64
-    requires there { IsOperator value_type operator }
-    requires number { x < 2 ^ width value_type }
-    ensures number { result ≡ unary_number (width value_type) operator x }
-    ensures fits { result < 2 ^ width value_type }
+pub fn unary(integer_type: IntegerType, operator: UnaryOperator, x: u64) -> u64
+    requires there { IsOperator integer_type operator }
+    requires number { x < 2 ^ width (integer integer_type) }
+    ensures number { result ≡ unary_number (width (integer integer_type)) operator x }
+    ensures fits { result < 2 ^ width (integer integer_type) }
 {
-    match value_type {
-        ValueType::I32 => u64::from(unary_32(operator, x as u32)),
-        ValueType::I64 => unary_64(operator, x),
+    match integer_type {
+        IntegerType::I32 => u64::from(unary_32(operator, x as u32)),
+        IntegerType::I64 => unary_64(operator, x),
     }
 }
 
 /// What an operator of i32 makes of a number.
 fn unary_32(operator: UnaryOperator, x: u32) -> u32
-    requires { IsOperator ValueType.I32 operator }
+    requires { IsOperator IntegerType.I32 operator }
     ensures { result ≡ unary_number 32 operator x }
 {
     match operator {
@@ -120,14 +126,14 @@ fn unary_64(operator: UnaryOperator, x: u64) -> u64
 }
 
 /// Whether a comparison of this type holds.
-pub fn compare(value_type: ValueType, comparison: Comparison, x: u64, y: u64) -> bool
-    requires first { x < 2 ^ width value_type }
-    requires second { y < 2 ^ width value_type }
-    ensures { result ≡ compare_test (width value_type) comparison x y }
+pub fn compare(integer_type: IntegerType, comparison: Comparison, x: u64, y: u64) -> bool
+    requires first { x < 2 ^ width (integer integer_type) }
+    requires second { y < 2 ^ width (integer integer_type) }
+    ensures { result ≡ compare_test (width (integer integer_type)) comparison x y }
 {
-    match value_type {
-        ValueType::I32 => compare_32(comparison, x as u32, y as u32),
-        ValueType::I64 => compare_64(comparison, x, y),
+    match integer_type {
+        IntegerType::I32 => compare_32(comparison, x as u32, y as u32),
+        IntegerType::I64 => compare_64(comparison, x, y),
     }
 }
 

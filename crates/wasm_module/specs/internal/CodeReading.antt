@@ -1,9 +1,11 @@
 -- How instructions are read, by their opcodes, and how code ends. The decoder doesn't build a tree: `code_from` keeps
 -- the blocks that are open, and stops at the `end` that closes the last of them.
-use Rattle.std.specs.Prelude.{ℕ, zero, suc, ◌-◌, List, [], ◌∷◌, ◌++◌, length, Option, Some, None, Bool, ◌&&◌, nat_lt, nat_le, ◌==◌, if◌then◌else◌}
-use Rattle.wasm_module.specs.declared.number.Sign.TheVariants.{Signed}
-use Rattle.wasm_module.specs.declared.instruction.ValueType.{ValueType}
-use Rattle.wasm_module.specs.declared.instruction.ValueType.TheVariants.{I32, I64}
+use Rattle.std.specs.Prelude.{ℕ, zero, suc, ◌+◌, ◌-◌, ◌*◌, ◌^◌, List, [], ◌∷◌, ◌++◌, length, Option, Some, None, Bool, ◌&&◌, ◌||◌, nat_lt, nat_le, ◌==◌, if◌then◌else◌}
+use Rattle.wasm_module.specs.declared.profile.Profile.{Profile}
+use Rattle.wasm_module.specs.declared.profile.Profile.TheVariants.{Integers, Floats}
+use Rattle.wasm_module.specs.declared.number.Sign.TheVariants.{Unsigned, Signed}
+use Rattle.wasm_module.specs.declared.instruction.IntegerType.{IntegerType}
+use Rattle.wasm_module.specs.declared.instruction.IntegerType.TheVariants.{I32, I64}
 use Rattle.wasm_module.specs.declared.instruction.BlockType.{BlockType}
 use Rattle.wasm_module.specs.declared.instruction.MemArg.{MemArg}
 use Rattle.wasm_module.specs.declared.accesses.LoadOperator.{LoadOperator}
@@ -16,11 +18,21 @@ use Rattle.wasm_module.specs.declared.instruction.UnaryOperator.{UnaryOperator}
 use Rattle.wasm_module.specs.declared.instruction.UnaryOperator.TheVariants as unary
 use Rattle.wasm_module.specs.declared.instruction.BinaryOperator.{BinaryOperator}
 use Rattle.wasm_module.specs.declared.instruction.BinaryOperator.TheVariants as binary
+use Rattle.wasm_module.specs.declared.instruction.FloatType.{FloatType}
+use Rattle.wasm_module.specs.declared.instruction.FloatType.TheVariants as float_type
+use Rattle.wasm_module.specs.declared.instruction.FloatComparison.{FloatComparison}
+use Rattle.wasm_module.specs.declared.instruction.FloatComparison.TheVariants as float_comparison
+use Rattle.wasm_module.specs.declared.instruction.FloatUnaryOperator.{FloatUnaryOperator}
+use Rattle.wasm_module.specs.declared.instruction.FloatUnaryOperator.TheVariants as float_unary
+use Rattle.wasm_module.specs.declared.instruction.FloatBinaryOperator.{FloatBinaryOperator}
+use Rattle.wasm_module.specs.declared.instruction.FloatBinaryOperator.TheVariants as float_binary
+use Rattle.wasm_module.specs.declared.instruction.FloatOperator.{FloatOperator}
+use Rattle.wasm_module.specs.declared.instruction.FloatOperator.TheVariants as float_op
 use Rattle.wasm_module.specs.declared.instruction.Instruction.{Instruction}
 use Rattle.wasm_module.specs.declared.instruction.Instruction.TheVariants as op
 use Rattle.wasm_module.specs.declared.open_blocks.OpenBlock.{OpenBlock}
 use Rattle.wasm_module.specs.declared.open_blocks.OpenBlock.TheVariants.{Plain, Conditional}
-use Rattle.wasm_module.specs.internal.TypesReading.{block_type_at}
+use Rattle.wasm_module.specs.internal.TypesReading.{takes_floats, with_floats, block_type_at}
 use Rattle.wasm_module.specs.Reading.{◌>>=◌, Reader, byte_at, number_at, u32_at, next_at, then_at, map_at, vector_at}
 
 unfoldable pub s32_at : Reader ℕ
@@ -70,7 +82,7 @@ binary_operator_of n =
     if n == 14 then Some binary.Rotr else (
     None)))))))))))))))
 
-unfoldable pub unary_of : ℕ → Option (ValueType × UnaryOperator)
+unfoldable pub unary_of : ℕ → Option (IntegerType × UnaryOperator)
 unary_of b =
     if b == 0x67 then Some (I32, unary.Clz) else (
     if b == 0x68 then Some (I32, unary.Ctz) else (
@@ -85,10 +97,10 @@ unary_of b =
     if b == 0xC4 then Some (I64, unary.Extend32S) else (
     None)))))))))))
 
-abbrev pub compared : ValueType → ℕ → Option Instruction
+abbrev pub compared : IntegerType → ℕ → Option Instruction
 compared t n = comparison_of n >>= λ o. Some (op.Compare t o)
 
-abbrev pub operated : ValueType → ℕ → Option Instruction
+abbrev pub operated : IntegerType → ℕ → Option Instruction
 operated t n = binary_operator_of n >>= λ o. Some (op.Binary t o)
 
 abbrev pub unary_instruction : ℕ → Option Instruction
@@ -111,21 +123,143 @@ numeric_of b =
 unfoldable pub numeric_after : ℕ → Reader Instruction
 numeric_after b rest = numeric_of b >>= λ i. Some (i, rest)
 
+-- ---- floats
+
+unfoldable pub float_comparison_of : ℕ → Option FloatComparison
+float_comparison_of n =
+    if n == 0 then Some float_comparison.Eq else (
+    if n == 1 then Some float_comparison.Ne else (
+    if n == 2 then Some float_comparison.Lt else (
+    if n == 3 then Some float_comparison.Gt else (
+    if n == 4 then Some float_comparison.Le else (
+    if n == 5 then Some float_comparison.Ge else (
+    None))))))
+
+unfoldable pub float_unary_of : ℕ → Option FloatUnaryOperator
+float_unary_of n =
+    if n == 0 then Some float_unary.Abs else (
+    if n == 1 then Some float_unary.Neg else (
+    if n == 2 then Some float_unary.Ceil else (
+    if n == 3 then Some float_unary.Floor else (
+    if n == 4 then Some float_unary.Trunc else (
+    if n == 5 then Some float_unary.Nearest else (
+    if n == 6 then Some float_unary.Sqrt else (
+    None)))))))
+
+unfoldable pub float_binary_of : ℕ → Option FloatBinaryOperator
+float_binary_of n =
+    if n == 0 then Some float_binary.Add else (
+    if n == 1 then Some float_binary.Sub else (
+    if n == 2 then Some float_binary.Mul else (
+    if n == 3 then Some float_binary.Div else (
+    if n == 4 then Some float_binary.Min else (
+    if n == 5 then Some float_binary.Max else (
+    if n == 6 then Some float_binary.Copysign else (
+    None)))))))
+
+abbrev pub float_compared : FloatType → ℕ → Option FloatOperator
+float_compared f n = float_comparison_of n >>= λ o. Some (float_op.Compare f o)
+
+abbrev pub float_of_one : FloatType → ℕ → Option FloatOperator
+float_of_one f n = float_unary_of n >>= λ o. Some (float_op.Unary f o)
+
+abbrev pub float_of_two : FloatType → ℕ → Option FloatOperator
+float_of_two f n = float_binary_of n >>= λ o. Some (float_op.Binary f o)
+
+-- the conversion of this opcode
+unfoldable pub conversion_of : ℕ → Option FloatOperator
+conversion_of b =
+    if b == 0xA8 then Some (float_op.Truncate I32 float_type.F32 Signed) else (
+    if b == 0xA9 then Some (float_op.Truncate I32 float_type.F32 Unsigned) else (
+    if b == 0xAA then Some (float_op.Truncate I32 float_type.F64 Signed) else (
+    if b == 0xAB then Some (float_op.Truncate I32 float_type.F64 Unsigned) else (
+    if b == 0xAE then Some (float_op.Truncate I64 float_type.F32 Signed) else (
+    if b == 0xAF then Some (float_op.Truncate I64 float_type.F32 Unsigned) else (
+    if b == 0xB0 then Some (float_op.Truncate I64 float_type.F64 Signed) else (
+    if b == 0xB1 then Some (float_op.Truncate I64 float_type.F64 Unsigned) else (
+    if b == 0xB2 then Some (float_op.Convert float_type.F32 I32 Signed) else (
+    if b == 0xB3 then Some (float_op.Convert float_type.F32 I32 Unsigned) else (
+    if b == 0xB4 then Some (float_op.Convert float_type.F32 I64 Signed) else (
+    if b == 0xB5 then Some (float_op.Convert float_type.F32 I64 Unsigned) else (
+    if b == 0xB6 then Some float_op.Demote else (
+    if b == 0xB7 then Some (float_op.Convert float_type.F64 I32 Signed) else (
+    if b == 0xB8 then Some (float_op.Convert float_type.F64 I32 Unsigned) else (
+    if b == 0xB9 then Some (float_op.Convert float_type.F64 I64 Signed) else (
+    if b == 0xBA then Some (float_op.Convert float_type.F64 I64 Unsigned) else (
+    if b == 0xBB then Some float_op.Promote else (
+    if b == 0xBC then Some (float_op.ToBits float_type.F32) else (
+    if b == 0xBD then Some (float_op.ToBits float_type.F64) else (
+    if b == 0xBE then Some (float_op.FromBits float_type.F32) else (
+    if b == 0xBF then Some (float_op.FromBits float_type.F64) else (
+    None))))))))))))))))))))))
+
+-- the conversion of this number after FC
+unfoldable pub saturation_of : ℕ → Option FloatOperator
+saturation_of n =
+    if n == 0 then Some (float_op.Saturate I32 float_type.F32 Signed) else (
+    if n == 1 then Some (float_op.Saturate I32 float_type.F32 Unsigned) else (
+    if n == 2 then Some (float_op.Saturate I32 float_type.F64 Signed) else (
+    if n == 3 then Some (float_op.Saturate I32 float_type.F64 Unsigned) else (
+    if n == 4 then Some (float_op.Saturate I64 float_type.F32 Signed) else (
+    if n == 5 then Some (float_op.Saturate I64 float_type.F32 Unsigned) else (
+    if n == 6 then Some (float_op.Saturate I64 float_type.F64 Signed) else (
+    if n == 7 then Some (float_op.Saturate I64 float_type.F64 Unsigned) else (
+    None))))))))
+
+-- the operator on floats of this opcode
+unfoldable pub float_operator_of : ℕ → Option FloatOperator
+float_operator_of b =
+    if is_between 0x5B 0x60 b then float_compared float_type.F32 (b - 0x5B) else (
+    if is_between 0x61 0x66 b then float_compared float_type.F64 (b - 0x61) else (
+    if is_between 0x8B 0x91 b then float_of_one float_type.F32 (b - 0x8B) else (
+    if is_between 0x92 0x98 b then float_of_two float_type.F32 (b - 0x92) else (
+    if is_between 0x99 0x9F b then float_of_one float_type.F64 (b - 0x99) else (
+    if is_between 0xA0 0xA6 b then float_of_two float_type.F64 (b - 0xA0) else (
+    conversion_of b))))))
+
+-- the opcodes of floats that have no place among loads and stores
+abbrev pub is_float : ℕ → Bool
+is_float b = is_between 0x43 0x44 b || (is_between 0x5B 0x66 b || (is_between 0x8B 0xA6 b || (is_between 0xA8 0xAB b || is_between 0xAE 0xBF b)))
+
+-- the bits of a float, in four bytes and in eight
+unfoldable pub four_bytes_at : Reader ℕ
+four_bytes_at bytes =
+    next_at bytes >>= λ a. next_at a.1 >>= λ b. next_at b.1 >>= λ c. next_at c.1 >>= λ d.
+    Some (a.0 + 256 * (b.0 + 256 * (c.0 + 256 * d.0)), d.1)
+
+unfoldable pub eight_bytes_at : Reader ℕ
+eight_bytes_at = map_at (λ x. x.0 + 2 ^ 32 * x.1) (then_at four_bytes_at four_bytes_at)
+
+unfoldable pub float_after : ℕ → Reader Instruction
+float_after b =
+    if b == 0x43 then map_at op.F32Const four_bytes_at else (
+    if b == 0x44 then map_at op.F64Const eight_bytes_at else (
+    λ rest. float_operator_of b >>= λ o. Some (op.Float o, rest)))
+
+-- what is read only with floats
+abbrev pub floats_at : {X : Type 0} → Profile → Reader X → Reader X
+floats_at p a bytes = if takes_floats p then a bytes else None
+
 -- ---- the others, by their opcodes
 
 abbrev pub branch_table_at : Reader Instruction
 branch_table_at = map_at op.BrTable (then_at (vector_at u32_at) u32_at)
 
-abbrev pub call_indirect_at : Reader Instruction
-call_indirect_at = map_at (λ p. op.CallIndirect p.0) (then_at u32_at (byte_at 0x00))
+-- the table of an indirect call
+unfoldable pub only_table_at : Profile → Reader (Unit {0})
+only_table_at Integers bytes = byte_at 0x00 bytes
+only_table_at Floats bytes = u32_at bytes >>= λ n. if n.0 == 0 then Some (tt, n.1) else None
 
-unfoldable pub control_after : ℕ → Reader Instruction
-control_after b =
+abbrev pub call_indirect_at : Profile → Reader Instruction
+call_indirect_at p = map_at (λ x. op.CallIndirect x.0) (then_at u32_at (only_table_at p))
+
+unfoldable pub control_after : Profile → ℕ → Reader Instruction
+control_after p b =
     if b == 0x00 then (λ rest. Some (op.Unreachable, rest)) else (
     if b == 0x01 then (λ rest. Some (op.Nop, rest)) else (
-    if b == 0x02 then map_at op.Block block_type_at else (
-    if b == 0x03 then map_at op.Loop block_type_at else (
-    if b == 0x04 then map_at op.If block_type_at else (
+    if b == 0x02 then map_at op.Block (block_type_at p) else (
+    if b == 0x03 then map_at op.Loop (block_type_at p) else (
+    if b == 0x04 then map_at op.If (block_type_at p) else (
     if b == 0x05 then (λ rest. Some (op.Else, rest)) else (
     if b == 0x0B then (λ rest. Some (op.End, rest)) else (
     if b == 0x0C then map_at op.Br u32_at else (
@@ -133,7 +267,7 @@ control_after b =
     if b == 0x0E then branch_table_at else (
     if b == 0x0F then (λ rest. Some (op.Return, rest)) else (
     if b == 0x10 then map_at op.Call u32_at else (
-    if b == 0x11 then call_indirect_at else (
+    if b == 0x11 then call_indirect_at p else (
     (λ rest. None))))))))))))))
 
 unfoldable pub variable_after : ℕ → Reader Instruction
@@ -147,10 +281,12 @@ variable_after b =
     if b == 0x24 then map_at op.GlobalSet u32_at else (
     (λ rest. None))))))))
 
-unfoldable pub load_of : ℕ → Option LoadOperator
-load_of b =
+unfoldable pub load_of : Profile → ℕ → Option LoadOperator
+load_of p b =
     if b == 0x28 then Some load.I32Load else (
     if b == 0x29 then Some load.I64Load else (
+    if b == 0x2A then with_floats p load.F32Load else (
+    if b == 0x2B then with_floats p load.F64Load else (
     if b == 0x2C then Some load.I32Load8S else (
     if b == 0x2D then Some load.I32Load8U else (
     if b == 0x2E then Some load.I32Load16S else (
@@ -161,24 +297,26 @@ load_of b =
     if b == 0x33 then Some load.I64Load16U else (
     if b == 0x34 then Some load.I64Load32S else (
     if b == 0x35 then Some load.I64Load32U else (
-    None))))))))))))
+    None))))))))))))))
 
-unfoldable pub load_after : ℕ → Reader Instruction
-load_after b rest = load_of b >>= λ o. map_at (op.Load o) mem_arg_at rest
+unfoldable pub load_after : Profile → ℕ → Reader Instruction
+load_after p b rest = load_of p b >>= λ o. map_at (op.Load o) mem_arg_at rest
 
-unfoldable pub store_of : ℕ → Option StoreOperator
-store_of b =
+unfoldable pub store_of : Profile → ℕ → Option StoreOperator
+store_of p b =
     if b == 0x36 then Some store.I32Store else (
     if b == 0x37 then Some store.I64Store else (
+    if b == 0x38 then with_floats p store.F32Store else (
+    if b == 0x39 then with_floats p store.F64Store else (
     if b == 0x3A then Some store.I32Store8 else (
     if b == 0x3B then Some store.I32Store16 else (
     if b == 0x3C then Some store.I64Store8 else (
     if b == 0x3D then Some store.I64Store16 else (
     if b == 0x3E then Some store.I64Store32 else (
-    None)))))))
+    None)))))))))
 
-unfoldable pub store_after : ℕ → Reader Instruction
-store_after b rest = store_of b >>= λ o. map_at (op.Store o) mem_arg_at rest
+unfoldable pub store_after : Profile → ℕ → Reader Instruction
+store_after p b rest = store_of p b >>= λ o. map_at (op.Store o) mem_arg_at rest
 
 -- the size of memory and its growth
 unfoldable pub size_after : ℕ → Reader Instruction
@@ -212,31 +350,39 @@ variable_with b n =
     if b == 0x24 then Some (op.GlobalSet n) else (
     None)))))
 
+-- the saturating conversion of this number after FC
+abbrev pub saturated : Profile → ℕ → Option Instruction
+saturated p n = saturation_of n >>= λ o. with_floats p (op.Float o)
+
 -- the instruction of this number after FC
-unfoldable pub bulk_after : ℕ → Reader Instruction
-bulk_after n =
+unfoldable pub bulk_after : Profile → ℕ → Reader Instruction
+bulk_after p n =
     if n == 10 then map_at (λ x. op.MemoryCopy) (then_at (byte_at 0x00) (byte_at 0x00)) else (
     if n == 11 then map_at (λ x. op.MemoryFill) (byte_at 0x00) else (
-    (λ rest. None)))
+    λ rest. saturated p n >>= λ i. Some (i, rest)))
 
-unfoldable pub bulk_at : Reader Instruction
-bulk_at bytes = u32_at bytes >>= λ n. bulk_after n.0 n.1
+unfoldable pub bulk_at : Profile → Reader Instruction
+bulk_at p bytes = u32_at bytes >>= λ n. bulk_after p n.0 n.1
+
+-- the instruction of this opcode that is one on numbers
+unfoldable pub operator_after : Profile → ℕ → Reader Instruction
+operator_after p b = if is_float b then floats_at p (float_after b) else numeric_after b
 
 -- the instruction of this opcode
-unfoldable pub instruction_after : ℕ → Reader Instruction
-instruction_after b =
+unfoldable pub instruction_after : Profile → ℕ → Reader Instruction
+instruction_after p b =
     if b == 0x41 then map_at op.I32Const s32_at else (
     if b == 0x42 then map_at op.I64Const s64_at else (
-    if b == 0xFC then bulk_at else (
-    if nat_lt b 0x12 then control_after b else (
+    if b == 0xFC then bulk_at p else (
+    if nat_lt b 0x12 then control_after p b else (
     if nat_lt b 0x28 then variable_after b else (
-    if nat_lt b 0x36 then load_after b else (
-    if nat_lt b 0x3F then store_after b else (
+    if nat_lt b 0x36 then load_after p b else (
+    if nat_lt b 0x3F then store_after p b else (
     if nat_lt b 0x41 then size_after b else (
-    numeric_after b))))))))
+    operator_after p b))))))))
 
-unfoldable pub instruction_at : Reader Instruction
-instruction_at bytes = next_at bytes >>= λ b. instruction_after b.0 b.1
+unfoldable pub instruction_at : Profile → Reader Instruction
+instruction_at p bytes = next_at bytes >>= λ b. instruction_after p b.0 b.1
 
 -- the blocks that are open, after one more instruction
 unfoldable pub after_instruction : Instruction → List OpenBlock → Option (List OpenBlock)
@@ -250,14 +396,14 @@ after_instruction op.End (f ∷ fs) = Some fs
 after_instruction i (f ∷ fs) = Some (f ∷ fs)
 
 -- instructions up to the one that closes the last open block, at most n
-unfoldable pub code_from : ℕ → List OpenBlock → Reader (List Instruction)
-code_from zero fs bytes = None
-code_from (suc n) fs bytes = instruction_at bytes >>= λ i. after_instruction i.0 fs >>= λ gs.
-    if length gs == 0 then Some (i.0 ∷ [], i.1) else (code_from n gs i.1 >>= λ is. Some (i.0 ∷ is.0, is.1))
+unfoldable pub code_from : Profile → ℕ → List OpenBlock → Reader (List Instruction)
+code_from p zero fs bytes = None
+code_from p (suc n) fs bytes = instruction_at p bytes >>= λ i. after_instruction i.0 fs >>= λ gs.
+    if length gs == 0 then Some (i.0 ∷ [], i.1) else (code_from p n gs i.1 >>= λ is. Some (i.0 ∷ is.0, is.1))
 
 -- one instruction more after these, with these blocks open: the code and the open blocks with it
-unfoldable pub one_more_at : List Instruction → List OpenBlock → Reader (List Instruction × List OpenBlock)
-one_more_at front fs bytes = instruction_at bytes >>= λ i. after_instruction i.0 fs >>= λ gs. Some ((front ++ i.0 ∷ [], gs), i.1)
+unfoldable pub one_more_at : Profile → List Instruction → List OpenBlock → Reader (List Instruction × List OpenBlock)
+one_more_at p front fs bytes = instruction_at p bytes >>= λ i. after_instruction i.0 fs >>= λ gs. Some ((front ++ i.0 ∷ [], gs), i.1)
 
-unfoldable pub code_at : Reader (List Instruction)
-code_at bytes = code_from (length bytes) (Plain ∷ []) bytes
+unfoldable pub code_at : Profile → Reader (List Instruction)
+code_at p bytes = code_from p (length bytes) (Plain ∷ []) bytes

@@ -3,6 +3,7 @@
 -- pairs a module and the number of data segments that it declares.
 use Rattle.std.specs.Prelude.{ℕ, ◌+◌, List, [], length, Bool, true, ◌&&◌, Option, Some, None, unwrap_or, slice_get, nat_le, ◌==◌, if◌then◌else◌}
 use Rattle.std.specs.List.{list_all, zip}
+use Rattle.wasm_module.specs.declared.profile.Profile.{Profile}
 use Rattle.wasm_module.specs.declared.module.FuncType.{FuncType}
 use Rattle.wasm_module.specs.declared.module.Limits.{Limits}
 use Rattle.wasm_module.specs.declared.module.ImportKind.{ImportKind}
@@ -24,21 +25,21 @@ use Rattle.wasm_module.specs.Reading.{◌>>=◌, Reader, WholeReader, byte_at, n
 
 -- ---- parts of sections
 
-unfoldable pub import_after : ℕ → Reader ImportKind
-import_after b =
+unfoldable pub import_after : Profile → ℕ → Reader ImportKind
+import_after p b =
     if b == 0x00 then map_at imported.Function u32_at else (
     if b == 0x01 then map_at imported.Table table_at else (
     if b == 0x02 then map_at imported.Memory limits_at else (
-    if b == 0x03 then map_at imported.Global global_type_at else (λ rest. None))))
+    if b == 0x03 then map_at imported.Global (global_type_at p) else (λ rest. None))))
 
-unfoldable pub import_kind_at : Reader ImportKind
-import_kind_at bytes = next_at bytes >>= λ b. import_after b.0 b.1
+unfoldable pub import_kind_at : Profile → Reader ImportKind
+import_kind_at p bytes = next_at bytes >>= λ b. import_after p b.0 b.1
 
-unfoldable pub import_at : Reader Import
-import_at = map_at (λ p. record { module_name = p.0; name = p.1.0; kind = p.1.1 }) (then_at name_at (then_at name_at import_kind_at))
+unfoldable pub import_at : Profile → Reader Import
+import_at p = map_at (λ x. record { module_name = x.0; name = x.1.0; kind = x.1.1 }) (then_at name_at (then_at name_at (import_kind_at p)))
 
-unfoldable pub global_at : Reader GlobalEntry
-global_at = map_at (λ p. record { global_type = p.0; init = p.1 }) (then_at global_type_at code_at)
+unfoldable pub global_at : Profile → Reader GlobalEntry
+global_at p = map_at (λ x. record { global_type = x.0; init = x.1 }) (then_at (global_type_at p) (code_at p))
 
 unfoldable pub export_after : ℕ → Reader ExportKind
 export_after b =
@@ -51,22 +52,22 @@ unfoldable pub export_kind_at : Reader ExportKind
 export_kind_at bytes = next_at bytes >>= λ b. export_after b.0 b.1
 
 unfoldable pub export_at : Reader Export
-export_at = map_at (λ p. record { name = p.0; kind = p.1 }) (then_at name_at export_kind_at)
+export_at = map_at (λ x. record { name = x.0; kind = x.1 }) (then_at name_at export_kind_at)
 
-unfoldable pub elements_at : Reader ElementSegment
-elements_at = map_at (λ p. record { table = p.0; offset = p.1.0; functions = p.1.1 }) (then_at u32_at (then_at code_at (vector_at u32_at)))
+unfoldable pub elements_at : Profile → Reader ElementSegment
+elements_at p = map_at (λ x. record { table = x.0; offset = x.1.0; functions = x.1.1 }) (then_at u32_at (then_at (code_at p) (vector_at u32_at)))
 
-unfoldable pub locals_at : Reader Locals
-locals_at = map_at (λ p. record { count = p.0; value_type = p.1 }) (then_at u32_at value_type_at)
+unfoldable pub locals_at : Profile → Reader Locals
+locals_at p = map_at (λ x. record { count = x.0; value_type = x.1 }) (then_at u32_at (value_type_at p))
 
-unfoldable pub body_of : WholeReader Body
-body_of content = whole (then_at (vector_at locals_at) code_at) content >>= λ p. Some (record { bytes = content; locals = p.0; code = p.1 })
+unfoldable pub body_of : Profile → WholeReader Body
+body_of p content = whole (then_at (vector_at (locals_at p)) (code_at p)) content >>= λ x. Some (record { bytes = content; locals = x.0; code = x.1 })
 
-unfoldable pub body_at : Reader Body
-body_at = sized_at body_of
+unfoldable pub body_at : Profile → Reader Body
+body_at p = sized_at (body_of p)
 
-unfoldable pub data_at : Reader DataSegment
-data_at = map_at (λ p. record { memory = p.0; offset = p.1.0; bytes = p.1.1 }) (then_at u32_at (then_at code_at (sized_at raw_of)))
+unfoldable pub data_at : Profile → Reader DataSegment
+data_at p = map_at (λ x. record { memory = x.0; offset = x.1.0; bytes = x.1.1 }) (then_at u32_at (then_at (code_at p) (sized_at raw_of)))
 
 -- ---- the module
 
@@ -99,22 +100,22 @@ sections_of p = record {
   data_segments = p.1.1.1.1.1.1.1.1.1.1.1.1;
 }
 
-unfoldable pub sections_at : Reader Sections
-sections_at =
+unfoldable pub sections_at : Profile → Reader Sections
+sections_at p =
     map_at sections_of (
     then_at customs_at (
-    then_at (section_at 1 (whole (vector_at func_type_at))) (
-    then_at (section_at 2 (whole (vector_at import_at))) (
+    then_at (section_at 1 (whole (vector_at (func_type_at p)))) (
+    then_at (section_at 2 (whole (vector_at (import_at p)))) (
     then_at (section_at 3 (whole (vector_at u32_at))) (
     then_at (section_at 4 (whole (vector_at table_at))) (
     then_at (section_at 5 (whole (vector_at limits_at))) (
-    then_at (section_at 6 (whole (vector_at global_at))) (
+    then_at (section_at 6 (whole (vector_at (global_at p)))) (
     then_at (section_at 7 (whole (vector_at export_at))) (
     then_at (section_at 8 (whole u32_at)) (
-    then_at (section_at 9 (whole (vector_at elements_at))) (
+    then_at (section_at 9 (whole (vector_at (elements_at p)))) (
     then_at (section_at 12 (whole u32_at)) (
-    then_at (section_at 10 (whole (vector_at body_at)))
-    (section_at 11 (whole (vector_at data_at)))))))))))))))
+    then_at (section_at 10 (whole (vector_at (body_at p))))
+    (section_at 11 (whole (vector_at (data_at p))))))))))))))))
 
 -- ---- the limits
 
@@ -144,29 +145,29 @@ list_at id a = map_at (λ o. unwrap_or o []) (section_at id (whole (vector_at a)
 abbrev pub CodeParts : Type 0
 CodeParts = Option ℕ × (List Body × List DataSegment)
 
-unfoldable pub code_parts_at : Reader CodeParts
-code_parts_at = then_at (section_at 12 (whole u32_at)) (then_at (list_at 10 body_at) (list_at 11 data_at))
+unfoldable pub code_parts_at : Profile → Reader CodeParts
+code_parts_at p = then_at (section_at 12 (whole u32_at)) (then_at (list_at 10 (body_at p)) (list_at 11 (data_at p)))
 
 -- what the sections from the start function on hold
 abbrev pub StartParts : Type 0
 StartParts = Option ℕ × (List ElementSegment × CodeParts)
 
-unfoldable pub start_parts_at : Reader StartParts
-start_parts_at = then_at (section_at 8 (whole u32_at)) (then_at (list_at 9 elements_at) code_parts_at)
+unfoldable pub start_parts_at : Profile → Reader StartParts
+start_parts_at p = then_at (section_at 8 (whole u32_at)) (then_at (list_at 9 (elements_at p)) (code_parts_at p))
 
 -- what the sections from the exports on hold
 abbrev pub LinkParts : Type 0
 LinkParts = List Export × StartParts
 
-unfoldable pub link_parts_at : Reader LinkParts
-link_parts_at = then_at (list_at 7 export_at) start_parts_at
+unfoldable pub link_parts_at : Profile → Reader LinkParts
+link_parts_at p = then_at (list_at 7 export_at) (start_parts_at p)
 
 -- what the sections from the tables on hold
 abbrev pub StorageParts : Type 0
 StorageParts = List Limits × (List Limits × (List GlobalEntry × LinkParts))
 
-unfoldable pub storage_parts_at : Reader StorageParts
-storage_parts_at = then_at (list_at 4 table_at) (then_at (list_at 5 limits_at) (then_at (list_at 6 global_at) link_parts_at))
+unfoldable pub storage_parts_at : Profile → Reader StorageParts
+storage_parts_at p = then_at (list_at 4 table_at) (then_at (list_at 5 limits_at) (then_at (list_at 6 (global_at p)) (link_parts_at p)))
 
 -- what all sections hold
 abbrev pub Parts : Type 0
@@ -191,11 +192,11 @@ decoded_of p = (
   p.1.1.1.1.1.1.1.1.1.1.0,
 )
 
-unfoldable pub parts_at : Reader Parts
-parts_at = then_at customs_at (then_at (list_at 1 func_type_at) (then_at (list_at 2 import_at) (then_at (list_at 3 u32_at) storage_parts_at)))
+unfoldable pub parts_at : Profile → Reader Parts
+parts_at p = then_at customs_at (then_at (list_at 1 (func_type_at p)) (then_at (list_at 2 (import_at p)) (then_at (list_at 3 u32_at) (storage_parts_at p))))
 
-unfoldable pub module_from : WholeReader Module
-module_from bytes =
+unfoldable pub module_from : Profile → WholeReader Module
+module_from p bytes =
     if nat_le (length bytes) 67108864
-    then (preamble_at bytes >>= λ p. map_at module_and_count sections_at p.1 >>= λ m. if length m.1 == 0 then (if counts_agree m.0.0 m.0.1 then Some m.0.0 else None) else None)
+    then (preamble_at bytes >>= λ x. map_at module_and_count (sections_at p) x.1 >>= λ m. if length m.1 == 0 then (if counts_agree m.0.0 m.0.1 then Some m.0.0 else None) else None)
     else None

@@ -1,8 +1,10 @@
 -- What the steps of instantiation find (section 4.5.4): the host's calls, the exported `_start`, and the first memory,
 -- table and globals. A step that fails in several ways has one definition of success and one of failure (`AreFound`,
 -- `NotFound`; `AreStored`, `NotStored`).
-use Rattle.std.specs.Prelude.{◌≡◌, ℕ, ◌*◌, ◌⊎◌, List, [], Option, Some, None, replicate, slice_get, codes}
+use Rattle.std.specs.Prelude.{◌≡◌, ℕ, ◌*◌, ◌⊎◌, List, [], ◌∷◌, Option, Some, None, replicate, slice_get, codes}
 use Rattle.std.specs.List.{AllByRecursion}
+use Rattle.wasm_module.specs.declared.instruction.Instruction.{Instruction}
+use Rattle.wasm_module.specs.declared.instruction.Instruction.TheVariants as op
 use Rattle.wasm_module.specs.declared.module.FuncType.{FuncType}
 use Rattle.wasm_module.specs.declared.module.ImportKind.{ImportKind}
 use Rattle.wasm_module.specs.declared.module.ImportKind.TheVariants as imports
@@ -17,6 +19,13 @@ use Rattle.wasm_store.specs.Values.{Val, IsInType, numbers}
 use Rattle.wasm_store.specs.Instances.{Callee}
 use Rattle.wasm_store.specs.Instantiation.{LinksOf, AreLinked, SomeUnlinked, AreFirst, minimum, ElementsInside, ElementsOutside, DataInside, DataOutside, with_elements, with_data}
 use Rattle.wasm_store.specs.Instantiating.{AreCallees}
+
+-- an expression of a constant of 32 bits
+abbrev pub IsNarrow : List Instruction → Type 0
+IsNarrow [] = ⊥
+IsNarrow (op.I32Const n ∷ rest) = Unit {0}
+IsNarrow (op.F32Const n ∷ rest) = Unit {0}
+IsNarrow (i ∷ rest) = ⊥
 
 -- only functions are imported
 abbrev pub IsFunction : ImportKind → Type 0

@@ -6,7 +6,11 @@ use Rattle.wasm_valid.specs.internal.Stack.{pop}
 use Rattle.std.specs.List.{list_all}
 use Rattle.std.specs.Option.{option_map, option_and_then}
 use Rattle.wasm_module.specs.declared.instruction.ValueType.{ValueType}
-use Rattle.wasm_module.specs.declared.instruction.ValueType.TheVariants.{I32, I64}
+use Rattle.wasm_module.specs.declared.instruction.ValueType.TheVariants.{I32, I64, F32, F64}
+use Rattle.wasm_module.specs.declared.instruction.IntegerType.{IntegerType}
+use Rattle.wasm_module.specs.declared.instruction.IntegerType.TheVariants as int
+use Rattle.wasm_module.specs.declared.instruction.FloatOperator.{FloatOperator}
+use Rattle.wasm_module.specs.declared.instruction.FloatOperator.TheVariants as float_op
 use Rattle.wasm_module.specs.declared.instruction.BlockType.{BlockType}
 use Rattle.wasm_module.specs.declared.instruction.BlockType.TheVariants.{Empty, Value}
 use Rattle.wasm_module.specs.declared.instruction.MemArg.{MemArg}
@@ -15,12 +19,13 @@ use Rattle.wasm_module.specs.declared.instruction.UnaryOperator.TheVariants.{Ext
 use Rattle.wasm_module.specs.declared.instruction.Instruction.{Instruction}
 use Rattle.wasm_module.specs.declared.instruction.Instruction.TheVariants as op
 use Rattle.wasm_module.specs.declared.module.FuncType.{FuncType}
+use Rattle.wasm_module.specs.Types.{integer, float}
 use Rattle.wasm_module.specs.Accesses.{load_access, store_access}
 use Rattle.wasm_valid.specs.declared.effects.Takes.{Takes}
 use Rattle.wasm_valid.specs.declared.effects.Takes.TheVariants.{Nothing, One, Two, Three}
 use Rattle.wasm_valid.specs.declared.effects.Effect.{Effect}
 use Rattle.wasm_valid.specs.declared.effects.MemoryEffect.{MemoryEffect}
-use Rattle.wasm_valid.specs.Typing.{Context, Labels, results_of}
+use Rattle.wasm_valid.specs.Typing.{Context, Labels, results_of, as_wide, float_gives}
 use Rattle.wasm_valid.specs.internal.Stack.{Stack, anything, if_true, when, is_same, moved, left, dropped, selected}
 
 -- ---- instructions of one type
@@ -54,22 +59,38 @@ access_of op.MemoryFill = Some (access 0 0 (Three I32 I32 I32) Empty)
 access_of i = None
 
 -- extend32_s is only of i64
-abbrev pub is_operator : ValueType → UnaryOperator → Bool
-is_operator I32 Extend32S = false
+abbrev pub is_operator : IntegerType → UnaryOperator → Bool
+is_operator int.I32 Extend32S = false
 is_operator t o = true
+
+-- what an operator on floats takes
+abbrev pub float_operands : FloatOperator → Takes
+float_operands (float_op.Compare f o) = Two (float f) (float f)
+float_operands (float_op.Unary f o) = One (float f)
+float_operands (float_op.Binary f o) = Two (float f) (float f)
+float_operands (float_op.Truncate t f s) = One (float f)
+float_operands (float_op.Saturate t f s) = One (float f)
+float_operands (float_op.Convert f t s) = One (integer t)
+float_operands float_op.Demote = One F64
+float_operands float_op.Promote = One F32
+float_operands (float_op.ToBits f) = One (float f)
+float_operands (float_op.FromBits f) = One (integer (as_wide f))
 
 -- instructions on numbers, and nop
 abbrev pub numeric_effect : Instruction → Option Effect
 numeric_effect op.Nop = Some (effect Nothing Empty)
 numeric_effect (op.I32Const n) = Some (effect Nothing (Value I32))
 numeric_effect (op.I64Const n) = Some (effect Nothing (Value I64))
-numeric_effect (op.Eqz t) = Some (effect (One t) (Value I32))
-numeric_effect (op.Compare t o) = Some (effect (Two t t) (Value I32))
-numeric_effect (op.Unary t o) = if_true (is_operator t o) (effect (One t) (Value t))
-numeric_effect (op.Binary t o) = Some (effect (Two t t) (Value t))
+numeric_effect (op.Eqz t) = Some (effect (One (integer t)) (Value I32))
+numeric_effect (op.Compare t o) = Some (effect (Two (integer t) (integer t)) (Value I32))
+numeric_effect (op.Unary t o) = if_true (is_operator t o) (effect (One (integer t)) (Value (integer t)))
+numeric_effect (op.Binary t o) = Some (effect (Two (integer t) (integer t)) (Value (integer t)))
 numeric_effect op.I32WrapI64 = Some (effect (One I64) (Value I32))
 numeric_effect op.I64ExtendI32S = Some (effect (One I32) (Value I64))
 numeric_effect op.I64ExtendI32U = Some (effect (One I32) (Value I64))
+numeric_effect (op.F32Const n) = Some (effect Nothing (Value F32))
+numeric_effect (op.F64Const n) = Some (effect Nothing (Value F64))
+numeric_effect (op.Float o) = Some (effect (float_operands o) (Value (float_gives o)))
 numeric_effect i = None
 
 -- with or without a memory

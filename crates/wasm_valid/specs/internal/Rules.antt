@@ -3,7 +3,7 @@
 use Rattle.std.specs.Prelude.{◌≡◌, ◌<◌, ◌≤◌, ◌^◌, List, [], length, map, All, Some, false, slice_get, IfSome}
 use Rattle.std.specs.List.{filter_map}
 use Rattle.wasm_module.specs.declared.instruction.ValueType.{ValueType}
-use Rattle.wasm_module.specs.declared.instruction.ValueType.TheVariants.{I32, I64}
+use Rattle.wasm_module.specs.declared.instruction.ValueType.TheVariants.{I32, I64, F32, F64}
 use Rattle.wasm_module.specs.declared.instruction.Instruction.{Instruction}
 use Rattle.wasm_module.specs.declared.instruction.Instruction.TheVariants as op
 use Rattle.wasm_module.specs.declared.module.GlobalType.{GlobalType}
@@ -20,6 +20,8 @@ use Rattle.wasm_valid.specs.Validity.{functions_of, tables_of, memories_of, glob
 abbrev pub IsConstantInstruction : List GlobalType → ValueType → Instruction → Type 0
 IsConstantInstruction gs t (op.I32Const n) = t ≡ I32
 IsConstantInstruction gs t (op.I64Const n) = t ≡ I64
+IsConstantInstruction gs t (op.F32Const n) = t ≡ F32
+IsConstantInstruction gs t (op.F64Const n) = t ≡ F64
 IsConstantInstruction gs t (op.GlobalGet x) = slice_get gs x ≡ Some (record { value_type = t; mutable = false })
 IsConstantInstruction gs t i = ⊥
 

@@ -1,5 +1,7 @@
 -- What follows a number or an instruction, as the code finds it when it looks for an instruction's place.
-use Rattle.std.specs.Prelude.{ℕ, zero, suc, List, [], ◌∷◌, length, nat_lt, if◌then◌else◌}
+use Rattle.std.specs.Prelude.{ℕ, zero, suc, List, [], ◌∷◌, length, drop, nat_lt, if◌then◌else◌}
+use Rattle.wasm_module.specs.declared.instruction.FloatOperator.{FloatOperator}
+use Rattle.wasm_module.specs.declared.instruction.FloatOperator.TheVariants as float_op
 use Rattle.wasm_module.specs.declared.instruction.Instruction.{Instruction}
 use Rattle.wasm_module.specs.declared.instruction.Instruction.TheVariants as op
 
@@ -11,6 +13,11 @@ after_number (b ∷ bs) = if nat_lt b 128 then bs else after_number bs
 abbrev pub after_numbers : ℕ → List ℕ → List ℕ
 after_numbers zero bytes = bytes
 after_numbers (suc n) bytes = after_number (after_numbers n bytes)
+
+-- behind the opcode of an operator on floats
+abbrev pub after_float : FloatOperator → List ℕ → List ℕ
+after_float (float_op.Saturate t f s) bytes = after_number bytes
+after_float o bytes = bytes
 
 -- behind the opcode
 abbrev pub after_immediates : Instruction → List ℕ → List ℕ
@@ -35,6 +42,9 @@ after_immediates op.MemoryCopy bytes = after_numbers 3 bytes
 after_immediates op.MemoryFill bytes = after_numbers 2 bytes
 after_immediates (op.I32Const n) bytes = after_number bytes
 after_immediates (op.I64Const n) bytes = after_number bytes
+after_immediates (op.F32Const n) bytes = drop 4 bytes
+after_immediates (op.F64Const n) bytes = drop 8 bytes
+after_immediates (op.Float o) bytes = after_float o bytes
 after_immediates i bytes = bytes
 
 abbrev pub after_instruction : Instruction → List ℕ → List ℕ

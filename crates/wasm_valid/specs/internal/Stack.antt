@@ -3,7 +3,7 @@
 use Rattle.std.specs.Prelude.{List, [], ◌∷◌, Option, Some, None, Bool, true, false}
 use Rattle.std.specs.Option.{option_map, option_and_then}
 use Rattle.wasm_module.specs.declared.instruction.ValueType.{ValueType}
-use Rattle.wasm_module.specs.declared.instruction.ValueType.TheVariants.{I32, I64}
+use Rattle.wasm_module.specs.declared.instruction.ValueType.TheVariants.{I32, I64, F32, F64}
 
 -- The types on top, None for one that may be any. Below them is nothing, or, where the code can't be reached, any types.
 pub record Stack : Type 0 where
@@ -27,8 +27,9 @@ when false o = None
 abbrev pub is_same : ValueType → ValueType → Bool
 is_same I32 I32 = true
 is_same I64 I64 = true
-is_same I32 I64 = false
-is_same I64 I32 = false
+is_same F32 F32 = true
+is_same F64 F64 = true
+is_same t u = false
 
 -- whether a type may be this one
 abbrev pub agrees : Option ValueType → ValueType → Bool

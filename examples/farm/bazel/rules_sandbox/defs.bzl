@@ -65,6 +65,8 @@ def _sandbox_step(ctx):
         inputs.append(ctx.file.stdin)
         args.add("--stdin", ctx.file.stdin)
     args.add_all(ctx.attr.env, before_each = "--env")
+    if ctx.attr.floats:
+        args.add("--floats")
     for name in _NUMBERS:
         text = getattr(ctx.attr, name)
         if text:
@@ -99,6 +101,7 @@ sandbox_step = rule(
         "out_dirs": attr.string_list(),
         "words": attr.string_list(),
         "env": attr.string_list(),
+        "floats": attr.bool(doc = "the guest may have floats"),
         "sandbox": attr.label(default = "@sandbox//:sandbox", allow_single_file = True, cfg = "exec", doc = "the program: `sandbox_release` makes it"),
         "_step_modules": attr.label_list(default = ["@rules_sandbox//:sandbox_step.py", "@rules_sandbox//:step_volume.py"], allow_files = True),
         "_step": attr.label(default = "@rules_sandbox//:sandbox-step", allow_single_file = True, executable = True, cfg = "exec"),

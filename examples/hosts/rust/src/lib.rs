@@ -96,6 +96,13 @@ pub struct Supplies<'a> {
     pub input: &'a [u8],
 }
 
+/// What a module may hold: floats only where they are asked for.
+#[derive(Clone, Copy)]
+pub enum Holds {
+    Integers = 0,
+    Floats = 1,
+}
+
 /// A valid module.
 pub struct Module<'a> {
     raw: *mut sys::OpaqueModule,
@@ -105,9 +112,14 @@ pub struct Module<'a> {
 impl<'a> Module<'a> {
     /// Decodes and validates the module that the bytes spell.
     pub fn load(bytes: &'a [u8]) -> Result<Module<'a>, Refused> {
+        Module::load_with(bytes, Holds::Integers)
+    }
+
+    /// The same of a module that may hold this.
+    pub fn load_with(bytes: &'a [u8], holds: Holds) -> Result<Module<'a>, Refused> {
         let (mut raw, mut why) = (null_mut(), sys::Why::default());
         // SAFETY: the bytes are borrowed for as long as the module or its session lives.
-        match unsafe { sys::sandbox_load(&mut raw, bytes.as_ptr(), bytes.len(), &mut why) } {
+        match unsafe { sys::sandbox_load_with(&mut raw, bytes.as_ptr(), bytes.len(), holds as u32, &mut why) } {
             0 => Ok(Module { raw, bytes: PhantomData }),
             number => Err(Refused { number, offset: why.offset }),
         }
@@ -116,9 +128,14 @@ impl<'a> Module<'a> {
     /// Decodes and validates the module, and makes all once that its sessions look up. They have the pages of these limits; one with
     /// others is refused with 15.
     pub fn prepare(bytes: &'a [u8], limits: Limits) -> Result<Module<'a>, Refused> {
+        Module::prepare_with(bytes, limits, Holds::Integers)
+    }
+
+    /// The same of a module that may hold this.
+    pub fn prepare_with(bytes: &'a [u8], limits: Limits, holds: Holds) -> Result<Module<'a>, Refused> {
         let (mut raw, mut why) = (null_mut(), sys::Why::default());
         // SAFETY: the bytes are borrowed for as long as the module, what shares it, or a session of them lives.
-        match unsafe { sys::sandbox_prepare(&mut raw, bytes.as_ptr(), bytes.len(), &limits_of(limits), &mut why) } {
+        match unsafe { sys::sandbox_prepare_with(&mut raw, bytes.as_ptr(), bytes.len(), &limits_of(limits), holds as u32, &mut why) } {
             0 => Ok(Module { raw, bytes: PhantomData }),
             number => Err(Refused { number, offset: why.offset }),
         }

@@ -82,8 +82,8 @@ pub struct Operation {
 extern "C" {
     pub fn sandbox_version() -> u32;
     pub fn sandbox_text(kind: u32, number: u32, room: *mut u8, length: usize) -> usize;
-    pub fn sandbox_load(module: *mut *mut OpaqueModule, bytes: *const u8, length: usize, why: *mut Why) -> u32;
-    pub fn sandbox_prepare(module: *mut *mut OpaqueModule, bytes: *const u8, length: usize, limits: *const Limits, why: *mut Why) -> u32;
+    pub fn sandbox_load_with(module: *mut *mut OpaqueModule, bytes: *const u8, length: usize, floats: u32, why: *mut Why) -> u32;
+    pub fn sandbox_prepare_with(module: *mut *mut OpaqueModule, bytes: *const u8, length: usize, limits: *const Limits, floats: u32, why: *mut Why) -> u32;
     pub fn sandbox_module_share(other: *mut *mut OpaqueModule, module: *mut *mut OpaqueModule) -> u32;
     pub fn sandbox_unload(module: *mut *mut OpaqueModule) -> u32;
     pub fn sandbox_open_loaded(

@@ -2,6 +2,7 @@ use Rattle.std.proofs.Common.{◌≡◌, ℕ, ◌≤◌, List, ◌++◌, length,
 use Rattle.std.specs.Prelude.{nat_eq}
 use Rattle.std.specs.Cmp.Lexicographic.{pointwise, same_text}
 use Rattle.std.proofs.lemmas.Bool.{not-false}
+use Rattle.wasm_module.specs.declared.profile.Profile.{Profile}
 use Rattle.wasm_module.specs.declared.module.Body.{Body}
 use Rattle.wasm_valid.specs.Offsets.{StandsBehind}
 use Rattle.module_survey.proofs.Entries.{held}
@@ -21,8 +22,8 @@ same_bytes : (xs ys : List ℕ) → false ≡ not (pointwise nat_eq xs ys) → x
 same_bytes xs ys n = same_text xs ys (sym (not-false (pointwise nat_eq xs ys) (sym n)))
 
 -- what stands before an instruction is no longer than the body
-within : (b : Body) (index : ℕ) (before : List ℕ) → StandsBehind b index before → length before ≤ length b.bytes
-within b index before s = omega (arith, ap length s.bytes, length-append before s.after)
+within : (p : Profile) (b : Body) (index : ℕ) (before : List ℕ) → StandsBehind p b index before → length before ≤ length b.bytes
+within p b index before s = omega (arith, ap length s.bytes, length-append before s.after)
 
 pub returns-clause-found : goal.returns-clause-found
 returns-clause-found c =
@@ -33,6 +34,6 @@ returns-clause-found c =
       behind = h.0;
       entry = h.1 ∙ ap (λ (x : List ℕ). Some (x, h.0)) same;
       parts = h.4 ∙ ap (λ (x : List ℕ). h.3 ++ (x ++ h.0)) same;
-      offset_is = λ before s.
-          omega (arith, c.saturating_add.ensures, c.instruction_place.ensures before s, within c.args.body.now c.args.index before s, h.2, h.5, ap length same, c.type_inv.bytes);
+      offset_is = λ p before s.
+          omega (arith, c.saturating_add.ensures, c.instruction_place.ensures p before s, within p c.args.body.now c.args.index before s, h.2, h.5, ap length same, c.type_inv.bytes);
     }

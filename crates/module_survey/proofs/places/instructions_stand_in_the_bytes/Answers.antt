@@ -2,4 +2,4 @@ use Rattle.module_survey.proofs.Spelled.{spelled_instruction}
 use Rattle.module_survey.proofs.places.instructions_stand_in_the_bytes.Goals as goal
 
 pub returns : goal.returns
-returns c = λ bytes m own b index spells is. spelled_instruction bytes m own b index spells is
+returns c = λ p bytes m own b index spells is. spelled_instruction p bytes m own b index spells is

@@ -14,7 +14,7 @@ returns c =
     let bytes = c.args.bytes.now in
     on_ok c.write_all.result (λ last. (
       f,
-      subst (λ (at : Option ℕ). LiesIn bytes at f) c.offset.ensures c.in_ok-function.ensures,
+      subst (λ (at : Option ℕ). LiesIn c.args.profile bytes at f) c.offset.ensures c.in_ok-function.ensures,
       joined _ _ _ _ (fault_lines c.args.fault f) (name_text (name_of bytes f)) (codes "\n") c.in_ok-add_fault_lines.ensures
           (c.in_ok-add_name.ensures ∙ ap (λ (name : List ℕ). c.add_fault_lines.new.text.items ++ name_text name) c.name_of.ensures) last,
     )) c.write_all.ensures.bytes

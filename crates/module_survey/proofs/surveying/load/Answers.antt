@@ -18,6 +18,6 @@ pub returns-clause-refused : goal.returns-clause-refused
 returns-clause-refused c =
     both_err _ _ _ c.validate.result (λ e no refusal other. record {
       fault_is = other;
-      not_valid = λ m spells valid. no other (subst IsValid (c.one_module.ensures c.args.bytes.now m _ spells c.in_ok-decoded.ensures.found) valid);
+      not_valid = λ m spells valid. no other (subst IsValid (c.one_module_with.ensures c.args.profile c.args.bytes.now m _ spells c.in_ok-decoded.ensures.found) valid);
       spells_none = λ decoding. absurd (decoding refusal);
     }) c.validate.ensures.no c.validate.ensures.refused

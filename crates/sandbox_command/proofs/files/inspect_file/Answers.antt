@@ -1,4 +1,6 @@
 use Rattle.std.proofs.Common.{List, ℕ, inr, subst}
+use Rattle.wasm_module.specs.declared.profile.Profile.{Profile}
+use Rattle.sandbox_command.specs.Modules.{profile_for}
 use Rattle.sandbox_command.specs.Inspecting.{Inspects}
 use Rattle.sandbox_command.proofs.files.inspect_file.Goals as goal
 
@@ -12,7 +14,7 @@ returns-in-Ok-clause-tells g c =
         c.in-Ok.ensures.bytes,
         record {
           left = left;
-          inspects = subst (λ (b : List ℕ). Inspects b (g.W1.Write.contents c.args.given.out) (g.W1.Write.contents left.out) left.flushed left.status) c.as_slice.ensures.value c.inspect-left.ensures.tells;
+          inspects = subst (λ (b : List ℕ). Inspects (profile_for c.args.floats) b (g.W1.Write.contents c.args.given.out) (g.W1.Write.contents left.out) left.flushed left.status) c.as_slice.ensures.value (subst (λ (q : Profile). Inspects q c.as_slice.result.now (g.W1.Write.contents c.args.given.out) (g.W1.Write.contents left.out) left.flushed left.status) c.profile_for.ensures c.inspect-left.ensures.tells);
           answered = c.inspect-left.ensures.answered;
           input_is = c.inspect-left.ensures.input;
           lines = c.inspect-left.ensures.err;

@@ -5,6 +5,7 @@ use Rattle.sandbox_command.specs.declared.stopping.Stopped.{Stopped}
 use Rattle.sandbox_command.specs.Alone.{Hands, IsProfiled, file_of}
 use Rattle.sandbox_command.specs.Around.{around, flushing, in_memory}
 use Rattle.sandbox_words.specs.Request.{Text}
+use Rattle.sandbox_command.specs.Modules.{profile_for}
 use Rattle.sandbox_command.specs.Stopping.{TellsLines}
 use Rattle.sandbox_command.proofs.Charged.{its_file, new_stacks, told_with}
 use Rattle.sandbox_command.proofs.Finishing.{runs_with}
@@ -39,7 +40,7 @@ returns g c =
     _ _ _ _ c.as_slice-module.ensures.value c.as_slice-random.ensures.value ended c.run-ended.ensures.runs c.run-ended.ensures.answered
     finished.left.0 finished.left.1 c.finished-stopped.result.2 finished.left.2 c.told-status.new.err
     (lines_then _ _ _ c.handed_out-ending.ensures.lines (lines_then _ _ _ c.profiled-ending.ensures.lines c.told-status.ensures.lines))
-    c.as_slice-lines.result.now (subst (λ (text : Text). TellsLines bytes run.frames ended.stopped text) (sym c.as_slice-lines.ensures.value) c.run-ended.ensures.lines)
+    c.as_slice-lines.result.now (subst (λ (text : Text). TellsLines (profile_for run.floats) bytes run.frames ended.stopped text) (sym c.as_slice-lines.ensures.value) c.run-ended.ensures.lines)
     said.status said.summary ending.status ending.summary p handed profiled c.told-status.new.places c.end.new.self c.told-status.result
     (subst (λ (d : RamDevice). Hands g.P.Places out d ended.status ended.summary p handed said.status said.summary) (ap (λ l. l.device) finished.left.2)
     (subst (λ (n : ℕ). Hands g.P.Places out c.finished-stopped.result.2.device n ended.summary p handed said.status said.summary) finished.ending.0

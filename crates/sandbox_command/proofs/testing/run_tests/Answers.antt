@@ -1,8 +1,11 @@
 use Rattle.std.proofs.Common.{Some, inl, inr, refl, sym, subst}
-use Rattle.wasm_module.specs.Module.{Spells}
+use Rattle.wasm_module.specs.declared.profile.Profile.{Profile}
+use Rattle.wasm_module.specs.declared.module.Module.{Module}
+use Rattle.wasm_module.specs.Module.{SpellsWith}
 use Rattle.wasm_valid.specs.Validity.{IsValid}
 use Rattle.run_report.specs.declared.fault.Fault.TheVariants as reason
 use Rattle.run_report.specs.declared.summary.Kept.TheVariants as kept
+use Rattle.sandbox_command.specs.Modules.{profile_for}
 use Rattle.sandbox_command.specs.Reporting.{not_run, session_reason}
 use Rattle.sandbox_command.specs.internal.Runnable.{module_in}
 use Rattle.sandbox_command.specs.Testing.{HasFailed, HasRun}
@@ -22,7 +25,8 @@ returns-in-Err-clause-runs g c =
 pub returns-then-run_all-clause-runs : goal.returns-then-run_all-clause-runs
 returns-then-run_all-clause-runs g c =
     let prepared = module_in c.new-runnable.result in
-    let found = subst (λ m. Spells c.args.«module».now m × IsValid m) (sym c.new-runnable.ensures.«module») c.in-Ok-load.ensures.found in
+    let found = subst (λ m. SpellsWith (profile_for c.args.run.now.floats) c.args.«module».now m × IsValid m) (sym c.new-runnable.ensures.«module»)
+    (subst (λ (p : Profile). SpellsWith p c.args.«module».now c.in-Ok-load_with.valid × IsValid c.in-Ok-load_with.valid) c.profile_for.ensures c.in-Ok-load_with.ensures.found) in
     inr (inr (
       prepared,
       found.0,
@@ -37,10 +41,11 @@ returns-then-run_all-clause-runs g c =
     ))
 
 -- or not in each
-pub returns-in-Ok-load-clause-runs : goal.returns-in-Ok-load-clause-runs
-returns-in-Ok-load-clause-runs g c =
+pub returns-in-Ok-load_with-clause-runs : goal.returns-in-Ok-load_with-clause-runs
+returns-in-Ok-load_with-clause-runs g c =
     let prepared = module_in c.new-runnable.result in
-    let found = subst (λ m. Spells c.args.«module».now m × IsValid m) (sym c.new-runnable.ensures.«module») c.in-Ok-load.ensures.found in
+    let found = subst (λ m. SpellsWith (profile_for c.args.run.now.floats) c.args.«module».now m × IsValid m) (sym c.new-runnable.ensures.«module»)
+    (subst (λ (p : Profile). SpellsWith p c.args.«module».now c.in-Ok-load_with.valid × IsValid c.in-Ok-load_with.valid) c.profile_for.ensures c.in-Ok-load_with.ensures.found) in
     inr (inr (
       prepared,
       found.0,
@@ -58,7 +63,7 @@ returns-in-Ok-load-clause-runs g c =
 pub returns-clause-runs : goal.returns-clause-runs
 returns-clause-runs g c =
     inr (inl (
-      Some (not_run c.args.run.now (reason.Module c.in-Err-load.fault) kept.None c.load_status.result),
-      record { preopens = c.in-Ok.supplies.preopens.items; are_cut = c.in-Ok.ensures.given.preopens; fault = c.in-Err-load.fault; refused = c.in-Err-load.ensures.no; spells_none = c.in-Err-load.ensures.refused; ends = c.load_status.ensures; summary_is = refl },
+      Some (not_run c.args.run.now (reason.Module c.in-Err-load_with.fault) kept.None c.load_status.result),
+      record { preopens = c.in-Ok.supplies.preopens.items; are_cut = c.in-Ok.ensures.given.preopens; fault = c.in-Err-load_with.fault; refused = λ other. subst (λ (p : Profile). (m : Module) → SpellsWith p c.args.«module».now m → IsValid m → ⊥) c.profile_for.ensures (c.in-Err-load_with.ensures.no other); spells_none = λ decoding. subst (λ (p : Profile). (m : Module) → SpellsWith p c.args.«module».now m → ⊥) c.profile_for.ensures (c.in-Err-load_with.ensures.refused decoding); ends = c.load_status.ensures; summary_is = refl },
       refl,
     ))

@@ -20,6 +20,7 @@ returns c dirs env words = record {
   stdout = c.option_text-6.ensures;
   stderr = c.option_text-7.ensures;
   interactive = c.is_flagged.ensures;
+  floats = c.is_flagged-2.ensures;
   name = c.option_text-8.ensures;
   report = c.option_text-9.ensures;
   frames = c.unwrap_or-5.ensures ∙ ap (λ (o : Option ℕ). unwrap_or o 16) c.number-3.ensures;

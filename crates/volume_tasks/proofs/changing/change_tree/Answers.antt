@@ -1,5 +1,7 @@
 use Rattle.volume_tasks.proofs.Changed.{change_refused, sync_left, sync_refused, synced}
 use Rattle.vol_tree.proofs.GoingOn.{goes_then}
+use Rattle.volume_tasks.proofs.Blamed.{blame}
+use Rattle.volume_tasks.specs.declared.failure.Failure.TheVariants.{Tree}
 use Rattle.volume_tasks.proofs.changing.change_tree.Goals as goal
 
 pub returns-in_err-apply-clause-changes : goal.returns-in_err-apply-clause-changes
@@ -45,3 +47,9 @@ returns-in_err-sync-clause-goes_on g c = goes_then g.D.Device.goes_on c.args.vol
 
 pub returns-clause-goes_on : goal.returns-clause-goes_on
 returns-clause-goes_on g c = goes_then g.D.Device.goes_on c.args.volume.now c.apply.new.volume c.sync.new.self c.in_ok-apply.ensures.kept.numbers c.in_ok-apply.ensures.goes c.in_ok-sync.ensures.goes_on
+
+pub returns-in_err-apply-clause-unblamed : goal.returns-in_err-apply-clause-unblamed
+returns-in_err-apply-clause-unblamed g c = blame c.from_residual.result (Tree c.in_err-apply.field-0.0) c.from_residual.ensures.1
+
+pub returns-in_err-sync-clause-unblamed : goal.returns-in_err-sync-clause-unblamed
+returns-in_err-sync-clause-unblamed g c = blame c.from_residual-in_err-sync.result (Tree c.in_err-sync.field-0.0) c.from_residual-in_err-sync.ensures.1

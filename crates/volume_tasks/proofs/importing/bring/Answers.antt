@@ -4,9 +4,14 @@ use Rattle.std.proofs.Common.{false, subst}
 use Rattle.vol_tree.specs.Tree.{Tree}
 use Rattle.vol_tree.specs.declared.superblock.Superblock.{Superblock}
 use Rattle.vol_tree.specs.Opened.{geometry}
-use Rattle.volume_archive.specs.Import.{Imports}
+use Rattle.volume_archive.specs.Import.{Imports, is_stream}
 use Rattle.volume_archive.proofs.Kept.{keeps_then}
 use Rattle.vol_tree.proofs.GoingOn.{goes_then}
+use Rattle.stream_answers.specs.Hearing.{Moves, stays}
+use Rattle.volume_archive.proofs.Blamed.{hears_none, hears_so}
+use Rattle.volume_tasks.proofs.Blamed.{blame_import}
+use Rattle.volume_tasks.specs.Importing.{blames_input}
+use Rattle.volume_tasks.specs.declared.importing.ImportFailure.TheVariants.{Path, Halted}
 use Rattle.volume_tasks.proofs.importing.bring.Goals as goal
 
 pub returns-clause-crash : goal.returns-clause-crash
@@ -45,3 +50,17 @@ returns-clause-goes_on g c = goes_then g.D.Device.goes_on c.args.volume.now c.di
 
 pub returns-in_err-import-clause-goes_on : goal.returns-in_err-import-clause-goes_on
 returns-in_err-import-clause-goes_on g c = goes_then g.D.Device.goes_on c.args.volume.now c.directory_named.new.volume c.import.new.volume c.in_ok-directory.ensures.asked.kept.numbers c.in_ok-directory.ensures.asked.goes c.in_err-import.ensures.goes_on
+
+pub returns-in_err-directory-clause-heard : goal.returns-in_err-directory-clause-heard
+returns-in_err-directory-clause-heard g c =
+    let r = c.from_residual.result in
+    hears_none (Moves g.R.Inlet.gave) g.R.Inlet.refused (blames_input r) (blame_import r (Path c.in_err-directory.field-0.0) c.from_residual.ensures.1) _ _ stays
+
+pub returns-in_err-import-clause-heard : goal.returns-in_err-import-clause-heard
+returns-in_err-import-clause-heard g c =
+    let r = c.from_residual-in_err-import.result in
+    let halted = c.in_err-import.field-0.0 in
+    hears_so (Moves g.R.Inlet.gave) g.R.Inlet.refused (blames_input r) (is_stream halted.refusal.why) (blame_import r (Halted halted) c.from_residual-in_err-import.ensures.1) _ _ _ stays c.in_err-import.ensures.heard
+
+pub returns-clause-heard : goal.returns-clause-heard
+returns-clause-heard g c = c.in_ok-import.ensures.heard

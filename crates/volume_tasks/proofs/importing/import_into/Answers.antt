@@ -6,6 +6,7 @@ use Rattle.volume_tasks.proofs.PastVolumes.{past_opened}
 use Rattle.volume_tasks.specs.Importing.{IsPartOfBringing, PerformsImport, blames_import}
 use Rattle.volume_tasks.proofs.Brought.{opened_then}
 use Rattle.volume_tasks.proofs.FreshVolume.{refused_open}
+use Rattle.stream_answers.specs.Hearing.{stays}
 use Rattle.volume_tasks.proofs.importing.import_into.Goals as goal
 
 -- the volume was opened, and the stream brought in
@@ -66,3 +67,9 @@ returns-in-Ok-clause-goes_on g c end past first from =
 
 pub returns-in-Err-clause-goes_on : goal.returns-in-Err-clause-goes_on
 returns-in-Err-clause-goes_on g c = c.in-Err.ensures.goes_on_err
+
+pub returns-in-Ok-clause-heard : goal.returns-in-Ok-clause-heard
+returns-in-Ok-clause-heard g c = c.bring-done.ensures.heard
+
+pub returns-in-Err-clause-heard : goal.returns-in-Err-clause-heard
+returns-in-Err-clause-heard g c = stays

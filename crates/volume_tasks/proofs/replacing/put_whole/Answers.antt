@@ -1,9 +1,12 @@
-use Rattle.std.proofs.Common.{◌∙◌}
+use Rattle.std.proofs.Common.{◌∙◌, refl}
 use Rattle.vol_log.proofs.Moments.{leaves_any}
 use Rattle.volume_archive.proofs.Moments.{any_after}
 use Rattle.volume_tasks.specs.Replacing.{IsPartOfWhole, path_beside}
 use Rattle.volume_tasks.proofs.Replaced.{whole_same}
 use Rattle.vol_tree.proofs.GoingOn.{goes_then}
+use Rattle.stream_answers.specs.Hearing.{Moves, stays}
+use Rattle.volume_tasks.proofs.Blamed.{blame, unblamed}
+use Rattle.volume_tasks.specs.declared.failure.Failure.TheVariants.{Tree}
 use Rattle.volume_tasks.proofs.replacing.put_whole.Goals as goal
 
 pub returns-in-Ok-clause-crash : goal.returns-in-Ok-clause-crash
@@ -21,3 +24,10 @@ returns-in-Ok-clause-crash g c h =
 
 pub returns-in-Ok-clause-goes_on : goal.returns-in-Ok-clause-goes_on
 returns-in-Ok-clause-goes_on g c = goes_then g.D.Device.goes_on c.args.volume.now c.ask_place.new.volume c.write_beside.new.volume c.in_ok-ask_place.ensures.asked.kept.numbers c.in_ok-ask_place.ensures.asked.goes c.write_beside.ensures.goes_on
+
+pub returns-in_err-ask_place-clause-heard : goal.returns-in_err-ask_place-clause-heard
+returns-in_err-ask_place-clause-heard g c =
+    unblamed (Moves g.R.Inlet.gave) g.R.Inlet.refused c.from_residual.result (blame c.from_residual.result (Tree c.in_err-ask_place.field-0.0) c.from_residual.ensures.1) _ _ stays
+
+pub returns-in-Err-clause-heard : goal.returns-in-Err-clause-heard
+returns-in-Err-clause-heard g c = unblamed (Moves g.R.Inlet.gave) g.R.Inlet.refused _ refl _ _ stays

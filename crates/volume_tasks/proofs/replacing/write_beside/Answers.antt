@@ -1,9 +1,11 @@
-use Rattle.std.proofs.Common.{inl, refl}
+use Rattle.std.proofs.Common.{inl, refl, Err}
 use Rattle.volume_archive.proofs.Moments.{any_after, any_same}
 use Rattle.volume_tasks.specs.Replacing.{IsPartOfWhole, IsRemovalPart}
 use Rattle.volume_tasks.specs.Tasks.{IsPartOfPut}
 use Rattle.volume_tasks.proofs.Replaced.{moved_part, put_part, taken_part}
 use Rattle.vol_tree.proofs.GoingOn.{goes_then}
+use Rattle.stream_answers.specs.Hearing.{Moves, stays}
+use Rattle.volume_tasks.proofs.Blamed.{behind, exactly, unblamed}
 use Rattle.volume_tasks.proofs.replacing.write_beside.Goals as goal
 
 pub returns-in-Ok-clause-crash : goal.returns-in-Ok-clause-crash
@@ -47,3 +49,12 @@ returns-in-Ok-clause-goes_on g c = goes_then g.D.Device.goes_on c.args.volume.no
 
 pub returns-in-Err-2-clause-goes_on : goal.returns-in-Err-2-clause-goes_on
 returns-in-Err-2-clause-goes_on g c = goes_then g.D.Device.goes_on c.args.volume.now c.put.new.volume c.take_back.new.volume c.put.ensures.kept.numbers c.put.ensures.goes_on c.take_back.ensures.goes_on
+
+pub returns-in-Ok-clause-heard : goal.returns-in-Ok-clause-heard
+returns-in-Ok-clause-heard g c = unblamed (Moves g.R.Inlet.gave) g.R.Inlet.refused c.change_tree.result c.change_tree.ensures.unblamed _ _ c.in-Ok.ensures.heard
+
+pub returns-in-Err-clause-heard : goal.returns-in-Err-clause-heard
+returns-in-Err-clause-heard g c = exactly (Moves g.R.Inlet.gave) g.R.Inlet.refused (Err c.in-Err.failure) _ _ c.in-Err.ensures.heard
+
+pub returns-in-Err-2-clause-heard : goal.returns-in-Err-2-clause-heard
+returns-in-Err-2-clause-heard g c = behind (Moves g.R.Inlet.gave) g.R.Inlet.refused c.in-Err-2.failure c.take_back.result c.take_back.ensures.unblamed _ _ c.in-Err-2.ensures.heard

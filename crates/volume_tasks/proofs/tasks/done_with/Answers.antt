@@ -1,4 +1,4 @@
-use Rattle.std.proofs.Common.{◌⊎◌, inl, Bool, ap, sym, subst, arith}
+use Rattle.std.proofs.Common.{◌⊎◌, inl, Bool, ap, sym, subst, arith, ◌∙◌}
 use Rattle.std.proofs.KnownBytes.{Keeps-refl}
 use Rattle.std.proofs.lemmas.Grind.{common_steps}
 use Rattle.vol_sector.specs.Disk.{Leaves, counted}
@@ -8,9 +8,12 @@ use Rattle.sandbox_words.specs.declared.request.Task.{Task}
 use Rattle.volume_tasks.specs.Tasks.{ReflectsAny, IsPartOfPut}
 use Rattle.volume_tasks.specs.Changes.{IsPartOfChange}
 use Rattle.volume_tasks.specs.Replacing.{IsPartOfWhole, path_beside}
-use Rattle.volume_tasks.specs.Doing.{IsPartOf, IsRaised, version_after}
+use Rattle.volume_tasks.specs.Doing.{IsPartOf, IsRaised, version_after, reads_input}
 use Rattle.volume_archive.proofs.Moments.{leaves_more}
 use Rattle.volume_tasks.proofs.Beginning.{upgrade_any}
+use Rattle.stream_answers.specs.Hearing.{Moves}
+use Rattle.volume_tasks.proofs.Blamed.{exactly}
+use Rattle.std.proofs.lemmas.Bool.{false≢true}
 use Rattle.volume_tasks.proofs.tasks.done_with.Goals as goal
 
 pub returns-in-Put-clause-crash : goal.returns-in-Put-clause-crash
@@ -73,3 +76,33 @@ returns-in_err-upgrade-in-Upgrade-clause-prints_nothing g c nothing = Keeps-refl
 
 pub returns-in_ok-upgrade-in-Upgrade-clause-prints_nothing : goal.returns-in_ok-upgrade-in-Upgrade-clause-prints_nothing
 returns-in_ok-upgrade-in-Upgrade-clause-prints_nothing g c nothing = Keeps-refl (g.W.Write.contents c.args.out.now)
+
+pub returns-in-List-clause-heard : goal.returns-in-List-clause-heard
+returns-in-List-clause-heard g c is = absurd (false≢true (sym (ap reads_input c.in-List.is) ∙ is))
+
+pub returns-in-ListAs-clause-heard : goal.returns-in-ListAs-clause-heard
+returns-in-ListAs-clause-heard g c is = absurd (false≢true (sym (ap reads_input c.in-ListAs.is) ∙ is))
+
+pub returns-in-Get-clause-heard : goal.returns-in-Get-clause-heard
+returns-in-Get-clause-heard g c is = absurd (false≢true (sym (ap reads_input c.in-Get.is) ∙ is))
+
+pub returns-in-Check-clause-heard : goal.returns-in-Check-clause-heard
+returns-in-Check-clause-heard g c is = absurd (false≢true (sym (ap reads_input c.in-Check.is) ∙ is))
+
+pub returns-in-Stat-clause-heard : goal.returns-in-Stat-clause-heard
+returns-in-Stat-clause-heard g c is = absurd (false≢true (sym (ap reads_input c.in-Stat.is) ∙ is))
+
+pub returns-in-Change-clause-heard : goal.returns-in-Change-clause-heard
+returns-in-Change-clause-heard g c is = absurd (false≢true (sym (ap reads_input c.in-Change.is) ∙ is))
+
+pub returns-in_err-upgrade-in-Upgrade-clause-heard : goal.returns-in_err-upgrade-in-Upgrade-clause-heard
+returns-in_err-upgrade-in-Upgrade-clause-heard g c is = absurd (false≢true (sym (ap reads_input c.in-Upgrade.is) ∙ is))
+
+pub returns-in_ok-upgrade-in-Upgrade-clause-heard : goal.returns-in_ok-upgrade-in-Upgrade-clause-heard
+returns-in_ok-upgrade-in-Upgrade-clause-heard g c is = absurd (false≢true (sym (ap reads_input c.in-Upgrade.is) ∙ is))
+
+pub returns-in-Put-clause-heard : goal.returns-in-Put-clause-heard
+returns-in-Put-clause-heard g c is = exactly (Moves g.R.Inlet.gave) g.R.Inlet.refused c.put.result _ _ c.put.ensures.heard
+
+pub returns-in-PutWhole-clause-heard : goal.returns-in-PutWhole-clause-heard
+returns-in-PutWhole-clause-heard g c is = c.put_whole.ensures.heard

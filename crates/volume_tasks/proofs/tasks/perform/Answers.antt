@@ -7,6 +7,8 @@ use Rattle.volume_tasks.specs.Doing.{IsPartOf, IsRaised, Performs}
 use Rattle.volume_tasks.proofs.Beginning.{task_after}
 use Rattle.volume_tasks.proofs.Opened.{refused_by, whole_is_part}
 use Rattle.volume_tasks.proofs.Refusals.{holds_nothing}
+use Rattle.stream_answers.specs.Hearing.{Moves, stays}
+use Rattle.volume_tasks.proofs.Blamed.{unblamed}
 use Rattle.volume_tasks.proofs.tasks.perform.Goals as goal
 
 -- the volume was opened, and the task was done with it
@@ -77,3 +79,9 @@ returns-in-Ok-clause-goes_on g c end past first from =
 
 pub returns-in-Err-clause-goes_on : goal.returns-in-Err-clause-goes_on
 returns-in-Err-clause-goes_on g c = c.in-Err.ensures.goes_on_err
+
+pub returns-in-Ok-clause-heard : goal.returns-in-Ok-clause-heard
+returns-in-Ok-clause-heard g c = c.done_with-done.ensures.heard
+
+pub returns-in-Err-clause-heard : goal.returns-in-Err-clause-heard
+returns-in-Err-clause-heard g c reads = unblamed (Moves g.R.Inlet.gave) g.R.Inlet.refused _ refl _ _ stays

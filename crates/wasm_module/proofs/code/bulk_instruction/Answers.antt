@@ -1,6 +1,7 @@
-use Rattle.std.proofs.Common.{refl}
+use Rattle.std.proofs.Common.{refl, rules}
 use Rattle.wasm_module.specs.internal.CodeReading.{bulk_after}
 use Rattle.wasm_module.proofs.Exits.{handed_on}
+use Rattle.wasm_module.proofs.Operands.{saturations_given}
 use Rattle.wasm_module.proofs.code.bulk_instruction.Goals as goal
 
 pub returns-in_err-zero-in-10 : goal.returns-in_err-zero-in-10
@@ -22,3 +23,6 @@ returns-in_err-zero-in-11 c = handed_on _ _ c.from_residual-in_err-zero-in-11.re
 pub returns-in_ok-zero-in-11 : goal.returns-in_ok-zero-in-11
 unfolding bulk_after
 returns-in_ok-zero-in-11 c = rw (c.in-11.is, c.in_ok-zero-in-11.ensures) refl
+
+pub returns-in_default : goal.returns-in_default
+returns-in_default c = saturations_given c.args.profile c.args.number c.args.cursor.now c.saturating.result (search rules) (search rules) c.saturating.ensures

@@ -25,16 +25,16 @@ unfolding control_after
 returns-in-15 c = rw c.in-15.is refl
 
 pub returns-in_err-decode-in-2-to-4 : goal.returns-in_err-decode-in-2-to-4
-returns-in_err-decode-in-2-to-4 c = handed_on _ _ c.from_residual-in_err-decode-in-2-to-4.result _ c.from_residual-in_err-decode-in-2-to-4.ensures.1 (λ other. blocks_none c.args.byte _ (search rules) (search rules) (c.in_err-decode-in-2-to-4.ensures other))
+returns-in_err-decode-in-2-to-4 c = handed_on _ _ c.from_residual-in_err-decode-in-2-to-4.result _ c.from_residual-in_err-decode-in-2-to-4.ensures.1 (λ other. blocks_none c.args.profile c.args.byte _ (search rules) (search rules) (c.in_err-decode-in-2-to-4.ensures other))
 
 pub returns-in_ok-decode-in-2-to-4 : goal.returns-in_ok-decode-in-2-to-4
-returns-in_ok-decode-in-2-to-4 c = blocks_given c.args.byte _ _ _ _ (search rules) (search rules) c.in_ok-decode-in-2-to-4.ensures c.block_with.ensures
+returns-in_ok-decode-in-2-to-4 c = blocks_given c.args.profile c.args.byte _ _ _ _ (search rules) (search rules) c.in_ok-decode-in-2-to-4.ensures c.block_with.ensures
 
 pub returns-in_err-u32-in-12-to-13 : goal.returns-in_err-u32-in-12-to-13
-returns-in_err-u32-in-12-to-13 c = handed_on _ _ c.from_residual-in_err-u32-in-12-to-13.result _ c.from_residual-in_err-u32-in-12-to-13.ensures.1 (λ other. branches_none c.args.byte _ (search rules) (search rules) (c.in_err-u32-in-12-to-13.ensures other))
+returns-in_err-u32-in-12-to-13 c = handed_on _ _ c.from_residual-in_err-u32-in-12-to-13.result _ c.from_residual-in_err-u32-in-12-to-13.ensures.1 (λ other. branches_none c.args.profile c.args.byte _ (search rules) (search rules) (c.in_err-u32-in-12-to-13.ensures other))
 
 pub returns-in_ok-u32-in-12-to-13 : goal.returns-in_ok-u32-in-12-to-13
-returns-in_ok-u32-in-12-to-13 c = branches_given c.args.byte _ _ _ _ (search rules) (search rules) c.in_ok-u32-in-12-to-13.ensures c.branch_with.ensures
+returns-in_ok-u32-in-12-to-13 c = branches_given c.args.profile c.args.byte _ _ _ _ (search rules) (search rules) c.in_ok-u32-in-12-to-13.ensures c.branch_with.ensures
 
 pub returns-in-14 : goal.returns-in-14
 unfolding control_after

@@ -18,6 +18,6 @@ returns c =
     c.after_instructions-left.ensures
     ∙ ap (λ is. after_instructions is c.after_numbers-code.result.now) (ap (λ n. take n code) c.min.ensures ∙ take_min index code ∙ ap (take index) c.as_slice-instructions.ensures)
     ∙ ap (after_instructions (take index body.code)) behind in
-    λ before k.
-    place_is body index c.saturating_sub.result c.after_instructions-left.result.now before left
+    λ p before k.
+    place_is p body index c.saturating_sub.result c.after_instructions-left.result.now before left
     (c.saturating_sub.ensures ∙ ap (λ (bytes : List ℕ). length bytes - length c.after_instructions-left.result.now) c.as_slice-bytes.ensures) k

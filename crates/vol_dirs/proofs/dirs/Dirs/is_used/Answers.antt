@@ -1,7 +1,7 @@
 use Rattle.std.proofs.Common.{◌≡◌, ◌-◌, true, false, slice_index_or, sym, ◌∙◌}
 use Rattle.std.proofs.lemmas.Bool.{false≢true}
 use Rattle.vol_dirs.specs.SlotMarks.{flags_of}
-use Rattle.vol_dirs.specs.NameOrder.{keys_of}
+use Rattle.vol_dirs.specs.SerialOrder.{keys_of}
 use Rattle.vol_dirs.specs.Key.{key_of}
 use Rattle.vol_dirs.proofs.Listings.{key_free}
 use Rattle.vol_dirs.proofs.dirs.Dirs.is_used.Goals as goal
@@ -12,7 +12,7 @@ returns-clause-used c is free =
     let s = c.args.serial in
     let mark_is = rw c.number.ensures at c.is_marked.ensures in
     let flag : slice_index_or (flags_of dirs.used) (s - 1) false ≡ true = sym mark_is ∙ is in
-    dirs.marked.only s c.requires.first flag (key_free dirs.slots (keys_of dirs.keys) dirs.children.items dirs.listing s free)
+    dirs.marked.only s c.requires.first flag (key_free dirs.slots (keys_of dirs.keys) (keys_of dirs.children) dirs.listing s free)
 
 pub returns-clause-free : goal.returns-clause-free
 returns-clause-free c is p n held =

@@ -3,7 +3,7 @@ use Rattle.std.specs.List.{Contains}
 use Rattle.std.proofs.lemmas.Bool.{false≢true}
 use Rattle.std.proofs.lemmas.Slice.Eq.{bytes_eq-Decides}
 use Rattle.vol_dirs.specs.Key.{key_of}
-use Rattle.vol_dirs.specs.NameOrder.{keys_of}
+use Rattle.vol_dirs.specs.SerialOrder.{keys_of}
 use Rattle.vol_dirs.specs.internal.Listing.{key_order}
 use Rattle.vol_dirs.specs.internal.Rising.{IsLeastOver}
 use Rattle.vol_dirs.proofs.Spelled.{plain_name}

@@ -6,7 +6,9 @@ use Rattle.std.proofs.lemmas.Grind.{common_steps}
 use Rattle.wasm_module.specs.declared.instruction.Instruction.{Instruction}
 use Rattle.wasm_num.specs.declared.trap.Trap.{Trap}
 use Rattle.wasm_num.specs.declared.trap.Trap.TheVariants as traps
+use Rattle.wasm_valid.specs.Typing.{float_takes}
 use Rattle.wasm_interp.specs.internal.Plain.Performing.{IsReady, Performs, Traps}
+use Rattle.wasm_interp.proofs.PlainSteps.FloatOperands.{are_there, some_taken}
 use Rattle.wasm_interp.proofs.plain.work.work.Goals as goal
 
 -- what is said of the instruction that it is
@@ -165,6 +167,18 @@ returns-then-not-load_top c = trapped c.args.most traps.OutOfBoundsMemory c.args
 
 pub returns-in-Err : goal.returns-in-Err
 returns-in-Err c = trapped c.args.most c.in-Err.trap c.args.values.now c.binary_top.new.values c.args.memory.now c.args.memory.now c.requires.spare c.in-Binary.is c.in-Err.ensures.traps.0 c.in-Err.ensures.traps.1 refl c.binary_top.ensures.room
+
+pub float_top-requires : goal.float_top-requires
+float_top-requires c = is_ready (reverse c.args.values.now.items) c.in-Float.is c.requires.ready
+
+pub returns-in_default-float_top : goal.returns-in_default-float_top
+returns-in_default-float_top c =
+    let o = c.in-Float.operator in
+    put c.args.most c.args.limit c.args.values.now c.float_top.new.values c.args.memory.now _ (length (float_takes o)) c.requires.spare c.in-Float.is c.requires.ready (some_taken o)
+    (λ r. are_there (float_takes o) (reverse c.args.values.now.items) r) (c.in_default-float_top.ensures.given, refl) c.in_default-float_top.ensures.given.2.0 c.float_top.ensures.room
+
+pub returns-in-Err-float_top : goal.returns-in-Err-float_top
+returns-in-Err-float_top c = trapped c.args.most c.in-Err-float_top.trap c.args.values.now c.float_top.new.values c.args.memory.now c.args.memory.now c.requires.spare c.in-Float.is c.in-Err-float_top.ensures.traps.0 c.in-Err-float_top.ensures.traps.1 refl c.float_top.ensures.room
 
 pub remove-requires : goal.remove-requires
 remove-requires c = grind (arith, common_steps)

@@ -1,7 +1,7 @@
 use Rattle.std.proofs.Common.{refl, rules}
 use Rattle.wasm_module.specs.internal.CodeReading.{instruction_at, instruction_after}
 use Rattle.wasm_module.proofs.Exits.{handed_on}
-use Rattle.wasm_module.proofs.Opcodes.{control_read, variable_read, load_read, store_read, size_read, numeric_read}
+use Rattle.wasm_module.proofs.Opcodes.{control_read, variable_read, load_read, store_read, size_read, operator_read}
 use Rattle.wasm_module.proofs.code.InstructionDecode.decode.Goals as goal
 
 pub returns-in_err-byte : goal.returns-in_err-byte
@@ -30,24 +30,24 @@ returns-in-252 c = rw (c.in_ok-byte.ensures, c.in-252.is) c.bulk.ensures
 
 pub returns-in-0-to-17 : goal.returns-in-0-to-17
 unfolding instruction_at
-returns-in-0-to-17 c = rw (c.in_ok-byte.ensures, control_read c.in_ok-byte.byte _ (search rules)) c.control.ensures
+returns-in-0-to-17 c = rw (c.in_ok-byte.ensures, control_read c.args.profile c.in_ok-byte.byte _ (search rules)) c.control.ensures
 
 pub returns-in-18-to-39 : goal.returns-in-18-to-39
 unfolding instruction_at
-returns-in-18-to-39 c = rw (c.in_ok-byte.ensures, variable_read c.in_ok-byte.byte _ (search rules) (search rules)) c.variable.ensures
+returns-in-18-to-39 c = rw (c.in_ok-byte.ensures, variable_read c.args.profile c.in_ok-byte.byte _ (search rules) (search rules)) c.variable.ensures
 
 pub returns-in-40-to-53 : goal.returns-in-40-to-53
 unfolding instruction_at
-returns-in-40-to-53 c = rw (c.in_ok-byte.ensures, load_read c.in_ok-byte.byte _ (search rules) (search rules)) c.load.ensures
+returns-in-40-to-53 c = rw (c.in_ok-byte.ensures, load_read c.args.profile c.in_ok-byte.byte _ (search rules) (search rules)) c.load.ensures
 
 pub returns-in-54-to-62 : goal.returns-in-54-to-62
 unfolding instruction_at
-returns-in-54-to-62 c = rw (c.in_ok-byte.ensures, store_read c.in_ok-byte.byte _ (search rules) (search rules)) c.store.ensures
+returns-in-54-to-62 c = rw (c.in_ok-byte.ensures, store_read c.args.profile c.in_ok-byte.byte _ (search rules) (search rules)) c.store.ensures
 
 pub returns-in-63-to-64 : goal.returns-in-63-to-64
 unfolding instruction_at
-returns-in-63-to-64 c = rw (c.in_ok-byte.ensures, size_read c.in_ok-byte.byte _ (search rules) (search rules)) c.memory_size.ensures
+returns-in-63-to-64 c = rw (c.in_ok-byte.ensures, size_read c.args.profile c.in_ok-byte.byte _ (search rules) (search rules)) c.memory_size.ensures
 
-pub returns-in-Some : goal.returns-in-Some
+pub returns-in_default : goal.returns-in_default
 unfolding instruction_at
-returns-in-Some c = rw (c.in_ok-byte.ensures) (numeric_read c.in_ok-byte.byte _ _ (search rules) (search rules) (search rules) (search rules) (search rules))
+returns-in_default c = rw (c.in_ok-byte.ensures, operator_read c.args.profile c.in_ok-byte.byte _ (search rules) (search rules) (search rules) (search rules)) c.operator.ensures

@@ -12,23 +12,23 @@ pub returns-in_err-one_more : goal.returns-in_err-one_more
 unfolding code_at
 returns-in_err-one_more c =
     handed_on _ _ c.from_residual-in_err-one_more.result _ c.from_residual-in_err-one_more.ensures.1
-    (λ other. code_no_more c.loop.code.items c.len-end.result c.loop.counter c.loop.blocks c.loop.self _ c.loop-test.true (c.in_err-one_more.ensures other) (rw (← c.len-end.ensures) c.loop.invariant))
+    (λ other. code_no_more c.args.profile c.loop.code.items c.len-end.result c.loop.counter c.loop.blocks c.loop.self _ c.loop-test.true (c.in_err-one_more.ensures other) (rw (← c.len-end.ensures) c.loop.invariant))
 
 pub loop-init : goal.loop-init
-loop-init c = rw (c.in_ok-blocks.ensures) (begins_loop c.new-code.result.items (λ n. code_from n (Plain ∷ []) c.args.self.now) c.len-end.result c.new-code.ensures.items)
+loop-init c = rw (c.in_ok-blocks.ensures) (begins_loop c.new-code.result.items (λ n. code_from c.args.profile n (Plain ∷ []) c.args.self.now) c.len-end.result c.new-code.ensures.items)
 
 pub loop-preserved : goal.loop-preserved
 loop-preserved c =
-    code_goes_on c.loop.code.items c.one_more.new.code.items c.len-end.result c.loop.counter c.loop.blocks c.one_more.new.blocks c.loop.self c.one_more.new.self _ c.loop-test.true
+    code_goes_on c.args.profile c.loop.code.items c.one_more.new.code.items c.len-end.result c.loop.counter c.loop.blocks c.one_more.new.blocks c.loop.self c.one_more.new.self _ c.loop-test.true
     c.in_ok-one_more.ensures c.if-is_empty.ensures c.loop.invariant
 
 pub returns-then-is_empty : goal.returns-then-is_empty
 unfolding code_at
 returns-then-is_empty c =
     rw c.from_vec.ensures
-    (code_closes c.loop.code.items c.one_more.new.code.items c.len-end.result c.loop.counter c.loop.blocks c.one_more.new.blocks c.loop.self c.one_more.new.self _ c.loop-test.true
+    (code_closes c.args.profile c.loop.code.items c.one_more.new.code.items c.len-end.result c.loop.counter c.loop.blocks c.one_more.new.blocks c.loop.self c.one_more.new.self _ c.loop-test.true
     c.in_ok-one_more.ensures c.if-is_empty.ensures (rw (← c.len-end.ensures) c.loop.invariant))
 
 pub returns : goal.returns
 unfolding code_at
-returns c = λ other. code_breaks_off c.loop.code.items c.len-end.result c.loop.counter c.loop.blocks c.loop.self _ c.loop-test.false (rw (← c.len-end.ensures) c.loop.invariant)
+returns c = λ other. code_breaks_off c.args.profile c.loop.code.items c.len-end.result c.loop.counter c.loop.blocks c.loop.self _ c.loop-test.false (rw (← c.len-end.ensures) c.loop.invariant)
