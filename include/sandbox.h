@@ -66,7 +66,7 @@
 extern "C" {
 #endif
 
-#define SANDBOX_VERSION_NUMBER 9010 /* 0.9.10 */
+#define SANDBOX_VERSION_NUMBER 9011 /* 0.9.11 */
 #define SANDBOX_STACK 65536 /* of a thread; 24 KB were measured, whatever the guest recurses */
 
 typedef struct sandbox_session sandbox_session; /* opaque */
