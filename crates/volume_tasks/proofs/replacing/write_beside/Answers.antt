@@ -4,7 +4,7 @@ use Rattle.volume_tasks.specs.Replacing.{IsPartOfWhole, IsRemovalPart}
 use Rattle.volume_tasks.specs.Tasks.{IsPartOfPut}
 use Rattle.volume_tasks.proofs.Replaced.{moved_part, put_part, taken_part}
 use Rattle.vol_tree.proofs.GoingOn.{goes_then}
-use Rattle.stream_answers.specs.Hearing.{Moves, stays}
+use Rattle.stream_answers.specs.Hearing.{Moves}
 use Rattle.volume_tasks.proofs.Blamed.{behind, exactly, unblamed}
 use Rattle.volume_tasks.proofs.replacing.write_beside.Goals as goal
 
