@@ -57,4 +57,4 @@ pub returns-in-Err-clause-heard : goal.returns-in-Err-clause-heard
 returns-in-Err-clause-heard g c = exactly (Moves g.R.Inlet.gave) g.R.Inlet.refused (Err c.in-Err.failure) _ _ c.in-Err.ensures.heard
 
 pub returns-in-Err-2-clause-heard : goal.returns-in-Err-2-clause-heard
-returns-in-Err-2-clause-heard g c = behind (Moves g.R.Inlet.gave) g.R.Inlet.refused c.in-Err-2.failure c.take_back.result c.take_back.ensures.unblamed _ _ c.in-Err-2.ensures.heard
+returns-in-Err-2-clause-heard g c = behind (Moves g.R.Inlet.gave) g.R.Inlet.refused c.in-Err.failure c.take_back.result c.take_back.ensures.unblamed _ _ c.in-Err.ensures.heard
