@@ -27,7 +27,7 @@ import judge_known
 
 PIECE = 65_536                                 # bytes of a piece, which a pipe holds at once
 PLAIN, LARGEST = 8_000_000, 1 << 29            # bytes of the input and the answer together for which a volume of version 2 does; the most
-VALIDATOR = ["--fuel", "20000000000", "--output", "67108864"]
+VALIDATOR = ["--floats", "--fuel", "20000000000", "--output", "67108864"]
 F_GETPIPE_SZ, PR_SET_PDEATHSIG = 1032, 1
 LIBC = ctypes.CDLL(None)
 
