@@ -6,10 +6,13 @@
 #include <cfenv>
 #include <cfloat>
 #include <cinttypes>
+#include <ciso646>
 #include <climits>
 #include <clocale>
 #include <cmath>
+#include <csignal>
 #include <cstdarg>
+#include <cstdbool>
 #include <cstddef>
 #include <cstdint>
 #include <cstdio>
@@ -27,6 +30,7 @@
 #include <bitset>
 #include <charconv>
 #include <chrono>
+#include <codecvt>
 #include <compare>
 #include <complex>
 #include <concepts>
@@ -57,6 +61,7 @@
 #include <ranges>
 #include <ratio>
 #include <regex>
+#include <scoped_allocator>
 #include <set>
 #include <span>
 #include <sstream>
@@ -76,3 +81,18 @@
 #include <valarray>
 #include <variant>
 #include <vector>
+
+// Two names of GCC's library that submissions call, though no standard has them.
+namespace std {
+template <signed_integral T>
+constexpr T __gcd(T a, T b) {
+  while (b != 0)
+    a = exchange(b, a % b);
+  return a;
+}
+
+template <integral T>
+constexpr T __lg(T n) {
+  return bit_width(static_cast<make_unsigned_t<T>>(n)) - 1;
+}
+} // namespace std
