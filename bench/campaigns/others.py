@@ -135,6 +135,11 @@ def json_headers(folder):
     headers({"include/yajl/yajl_version.h": "#define YAJL_MAJOR 2\n#define YAJL_MINOR 1\n#define YAJL_MICRO 0\n#define YAJL_VERSION 20100\nint yajl_version(void);\n"})(folder)
 
 
+def jq_headers(folder):
+    shell(r"""sed -e 's/\\/\\\\/g' -e 's/"/\\"/g' -e 's/^/"/' -e 's/$/\\n"/' src/builtin.jq >src/builtin.inc""")(folder)
+    headers({"src/version.h": '#define JQ_VERSION "1.6"\n'})(folder)
+
+
 SQLITE = "-DSQLITE_OMIT_LOAD_EXTENSION -DSQLITE_THREADSAFE=0 -DSQLITE_OMIT_POPEN -DSQLITE_NOHAVE_SYSTEM -DSQLITE_OMIT_WAL -DHAVE_READLINE=0".split()
 SQLITE_WASI = ["-DSQLITE_OS_UNIX=1"]
 CMARK = {
@@ -150,6 +155,23 @@ BYACC += "#define GCC_PRINTFLIKE(a,b)\n#define HAVE_GETOPT_H 1\n#define HAVE_GET
 
 BASEZ = "".join(f'#define {it} "0"\n' for it in "APPNAME VERSION PKGNAME COPYRIGHT_YEARS COPYRIGHT_NAMES TRADEMARKS EMAIL WEB AUTHORS ORG".split())
 BASEZ += "".join(f"#define {it} 0\n" for it in "TMCLAIM HAS_ORG B32 B64 UNHEX".split())
+
+JQ = "acos acosh asin asinh atan atan2 atanh cbrt ceil copysign cos cosh erf exp exp10 exp2 expm1 fabs fdim floor fma fmax fmin fmod frexp"
+JQ += " hypot j0 j1 ldexp lgamma log log10 log1p log2 logb modf nearbyint nextafter pow rint round scalbln sin sinh sqrt tan tanh tgamma"
+JQ += " trunc y0 y1 lgamma_r timegm gmtime_r gmtime strftime strptime"
+JQ_WORDS = (
+    '[range(1; 120) | . * 0.37 | [sin, cos, tan, atan, exp, log, log2, log10, sqrt, cbrt, pow(.; 1.7), exp2, tanh, floor, fabs, lgamma]] | .[], (map(add) | add)'
+)
+# what is compared with a native program of the same C library alone: its functions round as the guest's do
+FLOATS = {
+    "lua": "for i=1,400 do local x=i*0.37; print(string.format('%.17g %.17g %.17g %.17g %.17g %.17g %a', math.sin(x), math.cos(x), math.tan(x),"
+    " math.exp(x/9), math.log(x), x^1.7, math.sqrt(x))) print(math.fmod(x, 0.7), math.log(x, 10), math.atan(x, 2), math.asin(x/200), x//0.3, x%0.3) end"
+    " print(1/0, -1/0, math.mininteger + 0.0, 2^53 + 1, 1e308*10, 5e-324, 5e-324/2, tonumber('0x1.8p-1074'), tonumber('1e-400'))",
+    "awk": 'BEGIN { for (i = 1; i < 300; i++) { x = i * 0.37; printf "%.17g %.17g %.17g %.17g %.17g %.17g %d %e\n", sin(x), cos(x), atan2(x, 3), exp(x / 9),'
+    ' log(x), sqrt(x), int(x), x ^ 1.7 } }',
+    "sqlite3": "with recursive n(k) as (select 1 union all select k + 1 from n where k < 500) select k / 7.0, k * 0.37e-5, round(k / 3.0, 4), cast(k as real) * 1e300,"
+    " printf('%.17g %e', k / 11.0, k * 1e-310), cast(k * 0.7 as integer), k % 2.5 from n; select 1e308 * 10, -1e308 * 10, 0.1 + 0.2, 9007199254740993.0, '1e-400' + 0;",
+}
 
 PROGRAMS = {
     "lua": Program(
@@ -445,4 +467,24 @@ PROGRAMS = {
         ["-DHAVE_CONFIG_H", "-I."],
         prepare=headers({"config.h": BASEZ}),
     ),
+    "jq": Program(
+        "jq",
+        (["src"], all_but("jq_test.c", "inject_errors.c")),
+        [
+            case("picks", ["-c", ".numbers[:9], .text, (.numbers | map(. * 2.5) | add), (.deep | flatten)"], given=JSON),
+            case("sorts", ["-c", "[.numbers[] | {n: ., half: (. / 2)}] | group_by(.n % 7) | map(length, .[0])"], given=JSON),
+            case("texts", ["-r", "tojson | [splits(\",\")?] | length, (\"a-b\" | ascii_upcase, ltrimstr(\"a\"), @base64)"], given=JSON),
+        ],
+        ["-D_GNU_SOURCE", "-DIEEE_8087", "-DHAVE_MEMMEM", "-DHAVE_ALLOCA_H", "-DHAVE_MKSTEMP", *[f"-DHAVE_{it.upper()}" for it in JQ.split()]],
+        ["-Drealpath(path,room)=NULL"],
+        is_float=True,
+        prepare=jq_headers,
+    ),
+}
+# with `--musl`
+FLOATING = {
+    "lua": [case("floats", ["-e", FLOATS["lua"]])],
+    "awk": [case("floats", [FLOATS["awk"]])],
+    "sqlite3": [case("floats", ["-batch", "-vfs", "unix-none", ":memory:"], given=FLOATS["sqlite3"].encode())],
+    "jq": [case("floats", ["-n", "-c", JQ_WORDS])],
 }

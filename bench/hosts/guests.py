@@ -1,8 +1,9 @@
-"""Guests that take all that they can get, and one that makes each call, for bench/embed: bytes of modules, made by tools/wasm_binary.py.
+"""Guests that take all that they can get, one that makes each call, and one with floats, for bench/embed: bytes of modules, made by tools/wasm_binary.py.
 
 Each of the greedy ones goes on with what it does for as long as it gets anything; memory has the pages that it is given.
 """
 import os
+import struct
 import sys
 
 sys.path.insert(0, os.path.join(os.path.dirname(os.path.abspath(__file__)), "..", "..", "tools"))
@@ -141,6 +142,26 @@ def large(count):
     return module([], [(((I32,), ()), ((1, I32),), body)] * count + [start(b"")])
 
 
+def floating():
+    """Writes the bits of floats that every other rounding, flushing of subnormal numbers or raised exception changes or ends: of each
+    operator that rounds, over the quotients of small numbers, and near the least and the greatest of both types."""
+    f32, f64, i64 = 0x7D, 0x7C, I64
+    # of x at local 0 and y at local 1: add sub mul div, and sqrt; then by f32
+    binary, own = (0xA0, 0xA1, 0xA2, 0xA3), (0x92, 0x93, 0x94, 0x95)
+    kept = lambda code: get(3) + code + b"\x37\x03\0" + get(3) + number(8) + b"\x6a" + put(3)  # noqa: E731
+    bits, narrow = b"\xbd", b"\xb6"
+    code = b"".join(kept(get(0) + get(1) + bytes([op]) + bits) for op in binary) + kept(get(0) + b"\x9f" + bits)
+    code += b"".join(kept(get(0) + narrow + get(1) + narrow + bytes([op]) + b"\xbb" + bits) for op in own)
+    code += kept(get(0) + narrow + b"\x91\xbb" + bits) + kept(get(2) + b"\xb9" + bits) + kept(get(2) + b"\xb4\xbb" + bits)
+    of_numbers = b"\x44" + struct.pack("<d", 1.0) + get(2) + b"\xb9\xa3"  # 1 / n
+    sizes = [1.0, 2.0**-1022, -(2.0**1023), 2.0**-126, 2.0**-149, 1e300, -3.0, 0.0]
+    each = b"".join(of_numbers + b"\x44" + struct.pack("<d", it) + b"\xa2" + put(0) + of_numbers + b"\x44" + struct.pack("<d", 3.0) + b"\xa0" + put(1) + code for it in sizes)
+    step = get(2) + b"\x42\x07\x7c" + b"\x22" + u(2) + wide(7 * 60) + b"\x54"
+    told = number(0) + number(16) + b"\x36\x02\0" + number(0) + get(3) + number(16) + b"\x6b\x36\x02\x04"
+    body = number(16) + put(3) + wide(3) + put(2) + loop(each + step) + told + number(1) + number(0) + number(1) + number(8) + call(0) + b"\x1a"
+    return module(["fd_write"], [start(body, ((2, f64), (1, i64), (1, I32)))])
+
+
 def guests():
     """By their names the modules."""
     write = ["fd_write"]
@@ -160,6 +181,6 @@ def guests():
 
 
 if __name__ == "__main__":
-    for name, spelled in [*guests().items(), ("each call", all_calls())]:
+    for name, spelled in [*guests().items(), ("each call", all_calls()), ("floating", floating())]:
         with open(os.path.join(sys.argv[1], f"{name}.wasm"), "wb") as it:
             it.write(spelled)
