@@ -1,17 +1,15 @@
 -- What an item more or less does to items in rising order.
-use Rattle.std.proofs.Common.{◌≡◌, ◌⊎◌, inl, inr, ℕ, ◌+◌, ◌-◌, ◌≤◌, ◌<◌, List, [], ◌∷◌, length, get_or, sym, ◌∙◌, ap, subst, arith}
-use Rattle.std.specs.List.{Contains, HoldsAt, insert, remove}
-use Rattle.std.specs.List.Sorted.{IsPermutation, IsPartitionPoint}
+use Rattle.std.proofs.Common.{◌≡◌, inl, inr, ℕ, ◌+◌, ◌-◌, ◌≤◌, ◌<◌, List, length, get_or, ◌∙◌, ap, subst, arith}
+use Rattle.std.specs.List.{insert}
+use Rattle.std.specs.List.Sorted.{IsPartitionPoint}
 use Rattle.std.specs.Cmp.{IsTotalOrder}
 use Rattle.std.specs.declared.cmp.Ordering.{Ordering}
-use Rattle.std.specs.declared.cmp.Ordering.TheVariants.{Less, Equal, Greater}
+use Rattle.std.specs.declared.cmp.Ordering.TheVariants.{Less, Greater}
 use Rattle.std.proofs.lemmas.Bool.{cases_lt, cases_eq}
-use Rattle.std.proofs.lemmas.List.Edits.{length-insert, get_or-insert_below, get_or-insert_at, get_or-insert_above, get_or-remove_below, get_or-remove_above, length-remove}
-use Rattle.std.proofs.lemmas.List.Elements.{Contains-append_left, Contains-append_right, Contains-append_cases, Contains-push, Contains-push_cases}
-use Rattle.std.proofs.lemmas.List.Sorted.{IsPermutation-insert, IsPermutation-remove, IsPermutation-sym, Contains-permutation}
+use Rattle.std.proofs.lemmas.List.Edits.{length-insert, get_or-insert_below, get_or-insert_at, get_or-insert_above}
 use Rattle.vol_dirs.specs.internal.Rising.{Rises}
-use Rattle.vol_dirs.specs.internal.Rising.{TiesAreEqual, AddsItem, Drops}
-use Rattle.vol_dirs.proofs.Search.{less_back, not_itself}
+use Rattle.vol_dirs.specs.internal.Rising.{TiesAreEqual}
+use Rattle.vol_dirs.proofs.Search.{less_back}
 
 module _ {X : Type 0} {order : X → X → Ordering} (o : IsTotalOrder order) (ties : TiesAreEqual order) (xs : List X) (rises : Rises order xs) (x : X) (at : ℕ) where
   module _ (within : at ≤ length xs) (parted : IsPartitionPoint (λ y. order y x ≡ Less) (λ y. order y x ≡ Greater) xs at) where

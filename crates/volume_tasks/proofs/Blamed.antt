@@ -1,7 +1,7 @@
 -- What is heard of the input, where a refusal of a task may blame it.
-use Rattle.std.proofs.Common.{◌≡◌, ℕ, Bool, true, false, Result, Ok, Err, IsErrAnd, OnOk, refl, sym, ap, ◌∙◌, subst}
+use Rattle.std.proofs.Common.{◌≡◌, ℕ, true, false, Result, Ok, Err, IsErrAnd, refl, ap}
 use Rattle.std.proofs.lemmas.Bool.{false≢true}
-use Rattle.stream_answers.specs.Hearing.{Goes, Hears, stays}
+use Rattle.stream_answers.specs.Hearing.{Goes, Hears}
 use Rattle.volume_archive.proofs.Blamed.{hears_none}
 use Rattle.volume_tasks.specs.Blame.{IsCause, blames_stream, is_stream}
 use Rattle.volume_tasks.specs.Importing.{blames_input}

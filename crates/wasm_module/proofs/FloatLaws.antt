@@ -1,5 +1,5 @@
 -- The laws of the operators on floats.
-use Rattle.std.proofs.Common.{◌≡◌, ℕ, ◌+◌, ◌-◌, ◌*◌, ◌≤◌, List, ◌∷◌, Option, Some, None, refl, ap, subst, arith}
+use Rattle.std.proofs.Common.{◌≡◌, ℕ, ◌+◌, ◌-◌, ◌≤◌, List, ◌∷◌, Some, refl, subst, arith}
 use Rattle.wasm_module.specs.declared.profile.Profile.TheVariants.{Floats}
 use Rattle.wasm_module.specs.declared.number.Sign.{Sign}
 use Rattle.wasm_module.specs.declared.number.Sign.TheVariants.{Unsigned, Signed}
@@ -18,7 +18,6 @@ use Rattle.wasm_module.specs.declared.instruction.FloatOperator.TheVariants as f
 use Rattle.wasm_module.specs.declared.instruction.Instruction.TheVariants as op
 use Rattle.wasm_module.specs.Instructions.{float_comparison_number, float_unary_number, float_binary_number, float_opcode, saturation_number}
 use Rattle.wasm_module.specs.internal.CodeReading.{float_comparison_of, float_unary_of, float_binary_of, float_compared, float_of_one, float_of_two, conversion_of, saturation_of, float_operator_of, float_after, operator_after, bulk_after, instruction_after, instruction_at}
-use Rattle.wasm_module.specs.Reading.{◌>>=◌}
 use Rattle.wasm_module.proofs.Laws.{bind_some, some_is, picked, ended, ranged}
 
 -- ---- operators by their numbers

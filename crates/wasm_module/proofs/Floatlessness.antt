@@ -1,5 +1,5 @@
 -- What is spelled without floats has none.
-use Rattle.std.proofs.Common.{◌≡◌, ℕ, List, [], ◌∷◌, ◌++◌, Option, Some, None, unwrap_or, refl, sym, subst}
+use Rattle.std.proofs.Common.{◌≡◌, ℕ, List, [], ◌∷◌, ◌++◌, Option, Some, None, unwrap_or, sym, subst}
 use Rattle.std.specs.List.{AllByRecursion}
 use Rattle.wasm_module.specs.declared.profile.Profile.TheVariants.{Integers, Floats}
 use Rattle.wasm_module.specs.declared.instruction.ValueType.{ValueType}
@@ -9,7 +9,6 @@ use Rattle.wasm_module.specs.declared.instruction.BlockType.TheVariants.{Empty, 
 use Rattle.wasm_module.specs.declared.instruction.Instruction.{Instruction}
 use Rattle.wasm_module.specs.declared.instruction.Instruction.TheVariants as op
 use Rattle.wasm_module.specs.declared.module.FuncType.{FuncType}
-use Rattle.wasm_module.specs.declared.module.GlobalType.{GlobalType}
 use Rattle.wasm_module.specs.declared.module.ImportKind.{ImportKind}
 use Rattle.wasm_module.specs.declared.module.ImportKind.TheVariants as imported
 use Rattle.wasm_module.specs.declared.module.Import.{Import}
@@ -21,8 +20,8 @@ use Rattle.wasm_module.specs.declared.module.DataSegment.{DataSegment}
 use Rattle.wasm_module.specs.declared.module.Module.{Module}
 use Rattle.wasm_module.specs.Grammar.{Each, Vector, Sized}
 use Rattle.wasm_module.specs.Profile.{TakesType}
-use Rattle.wasm_module.specs.Types.{SpellsValueType, SpellsBlockType, SpellsFuncType, SpellsGlobalType}
-use Rattle.wasm_module.specs.Instructions.{Instructions, done, plain, block, loop, if_then, if_else, invoke, flatten, SpellsImmediates, SpellsInstruction, SpellsUpTo, SpellsExpression}
+use Rattle.wasm_module.specs.Types.{SpellsValueType, SpellsBlockType, SpellsFuncType}
+use Rattle.wasm_module.specs.Instructions.{Instructions, done, plain, block, loop, if_then, if_else, invoke, flatten, SpellsInstruction, SpellsUpTo, SpellsExpression}
 use Rattle.wasm_module.specs.Sections.{Section, SpellsImportKind, SpellsImport, SpellsGlobal, SpellsElements, SpellsLocals, BodyContent, SpellsData}
 use Rattle.wasm_module.specs.Module.{Sections, SpellsSections, Spells, module_of}
 use Rattle.wasm_module.specs.Floatless.{IsInteger, LeavesIntegers, IsFloatless, AreFloatless, HasIntegers, ImportsIntegers, IsFloatlessGlobal, IsFloatlessBody, HasNoFloat}

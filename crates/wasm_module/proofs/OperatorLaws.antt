@@ -1,5 +1,5 @@
 -- The laws of operators, which have nothing after their opcode.
-use Rattle.std.proofs.Common.{◌≡◌, ℕ, ◌+◌, ◌-◌, ◌≤◌, Bool, true, false, cond, eqb, leb, List, [], ◌∷◌, Option, None, Some, refl, ap, subst, arith}
+use Rattle.std.proofs.Common.{◌≡◌, ℕ, ◌+◌, ◌-◌, ◌≤◌, List, [], ◌∷◌, Some, refl, ap, subst, arith}
 use Rattle.wasm_module.specs.declared.profile.Profile.{Profile}
 use Rattle.wasm_module.specs.declared.instruction.IntegerType.{IntegerType}
 use Rattle.wasm_module.specs.declared.instruction.IntegerType.TheVariants.{I32, I64}

@@ -1,5 +1,5 @@
 -- What is spelled without floats is spelled so where they are taken.
-use Rattle.std.proofs.Common.{◌≡◌, ℕ, List, [], ◌∷◌, ◌++◌, Option, Some, None, refl, subst, sym, arith}
+use Rattle.std.proofs.Common.{◌≡◌, ℕ, List, [], ◌∷◌, Some, None, refl, subst, sym, arith}
 use Rattle.wasm_module.specs.declared.profile.Profile.TheVariants.{Integers, Floats}
 use Rattle.wasm_module.specs.declared.instruction.ValueType.{ValueType}
 use Rattle.wasm_module.specs.declared.instruction.ValueType.TheVariants.{I32, I64, F32, F64}
@@ -12,13 +12,10 @@ use Rattle.wasm_module.specs.declared.module.GlobalType.{GlobalType}
 use Rattle.wasm_module.specs.declared.module.ImportKind.{ImportKind}
 use Rattle.wasm_module.specs.declared.module.ImportKind.TheVariants as imported
 use Rattle.wasm_module.specs.declared.module.Import.{Import}
-use Rattle.wasm_module.specs.declared.module.GlobalEntry.{GlobalEntry}
-use Rattle.wasm_module.specs.declared.module.ElementSegment.{ElementSegment}
 use Rattle.wasm_module.specs.declared.module.Locals.{Locals}
 use Rattle.wasm_module.specs.declared.module.Body.{Body}
-use Rattle.wasm_module.specs.declared.module.DataSegment.{DataSegment}
 use Rattle.wasm_module.specs.declared.module.Module.{Module}
-use Rattle.wasm_module.specs.Grammar.{Byte, Then, Each, U32, Vector, Sized}
+use Rattle.wasm_module.specs.Grammar.{Then, Each, U32, Vector, Sized}
 use Rattle.wasm_module.specs.Profile.{TakesType}
 use Rattle.wasm_module.specs.Types.{SpellsValueType, SpellsBlockType, SpellsFuncType, SpellsGlobalType}
 use Rattle.wasm_module.specs.Instructions.{Instructions, done, plain, block, loop, if_then, if_else, invoke, SpellsOnlyTable, SpellsImmediates, SpellsInstruction, SpellsUpTo, SpellsExpression}

@@ -1,12 +1,11 @@
 -- What an operator on floats gives (sections 4.3.3 and 4.4.1), by the bits of its operands. `wasm_float` has the values;
 -- a NaN that is computed is always the positive canonical one, which the standard allows (`Allowed` of `wasm_float`).
-use Rattle.std.specs.Prelude.{◌≡◌, ℕ, ◌-◌, ◌%◌, ◌^◌, List, slice_index, Bool, Result, Ok, Err, pos, to_bits, from_bits}
+use Rattle.std.specs.Prelude.{ℕ, ◌-◌, List, slice_index, Bool, Result, Ok, Err, pos, to_bits, from_bits}
 use Rattle.std.specs.Float as floats
 use Rattle.std.specs.Float.Ieee as ieee
 use Rattle.std.specs.Float.Ieee.{Float, Format, binary32, binary64}
 use Rattle.wasm_module.specs.declared.number.Sign.{Sign}
 use Rattle.wasm_module.specs.declared.number.Sign.TheVariants.{Unsigned, Signed}
-use Rattle.wasm_module.specs.declared.instruction.IntegerType.{IntegerType}
 use Rattle.wasm_module.specs.declared.instruction.FloatType.{FloatType}
 use Rattle.wasm_module.specs.declared.instruction.FloatType.TheVariants as float_type
 use Rattle.wasm_module.specs.declared.instruction.FloatComparison.{FloatComparison}

@@ -1,6 +1,6 @@
-use Rattle.std.proofs.Common.{◌≡◌, ◌∙◌, ◌+◌, ◌-◌, ◌/◌, ◌<◌, ℕ, List, [], length, sym, ap, arith}
+use Rattle.std.proofs.Common.{◌∙◌, ◌+◌, ◌-◌, ◌/◌, ◌<◌, ℕ, List, [], length, sym, ap, arith}
 use Rattle.vol_dirs.specs.internal.Listing.{key_order}
-use Rattle.vol_dirs.specs.Serials.{key_at, keys_in}
+use Rattle.vol_dirs.specs.Serials.{keys_in}
 use Rattle.vol_dirs.proofs.Orders.{key_total}
 use Rattle.vol_dirs.proofs.Places.{as_many, key_there, less_is, less_not, over_after, none_before}
 use Rattle.vol_dirs.proofs.serials.first_over.Goals as goal

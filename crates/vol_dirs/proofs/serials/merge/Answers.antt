@@ -6,7 +6,7 @@ use Rattle.vol_dirs.specs.internal.Rising.{Rises, IsFirstOver, AreApart}
 use Rattle.vol_dirs.specs.internal.Listing.{key_order}
 use Rattle.vol_dirs.specs.Serials.{key_at, keys_in, AreSerials}
 use Rattle.vol_dirs.proofs.Places.{found_for}
-use Rattle.vol_dirs.proofs.Merging.{HasMerged, none_merged, long_merged, late_merged, all_merged, moved_all, in_order, order_rises, from_le, part_before, before_rest, part_fits}
+use Rattle.vol_dirs.proofs.Merging.{HasMerged, long_merged, late_merged, all_merged, moved_all, in_order, order_rises, from_le, part_before, before_rest, part_fits}
 use Rattle.vol_dirs.proofs.serials.merge.Goals as goal
 
 -- what was found for the key of a serial of the late list

@@ -15,7 +15,7 @@ use Rattle.volume_archive.proofs.Filled.{file_there, piece_written}
 use Rattle.volume_archive.proofs.Results.{consumed_begins}
 use Rattle.volume_tasks.proofs.Filled.{fill_refused}
 use Rattle.volume_tasks.proofs.Filled.{fill_stopped}
-use Rattle.stream_answers.specs.Hearing.{Moves}
+use Rattle.stream_answers.specs.Hearing.{Moves, stays}
 use Rattle.stream_answers.proofs.Hearing.{then}
 use Rattle.volume_archive.proofs.Blamed.{hears_none, hears_so}
 use Rattle.volume_tasks.proofs.Blamed.{blame}
@@ -71,6 +71,16 @@ returns-then-count-lt-PIECE-clause-fills g c h =
       c.in_ok-count.ensures.end (omega (arith, whole, c.if-count-lt-PIECE.true)),
       fits.is,
     )
+
+pub loop-offset-init : goal.loop-offset-init
+loop-offset-init g c = record {
+  working = grind (arith, common_steps);
+  heard = stays;
+  kept = grind (arith, common_steps);
+  goes = grind (arith, common_steps);
+  filled = grind (arith, common_steps);
+  crash = grind (arith, common_steps);
+}
 
 pub loop-offset-preserved : goal.loop-offset-preserved
 loop-offset-preserved g c =

@@ -4,7 +4,7 @@ use Rattle.volume_tasks.specs.Replacing.{IsPartOfWhole, IsRemovalPart}
 use Rattle.volume_tasks.specs.Tasks.{IsPartOfPut}
 use Rattle.volume_tasks.proofs.Replaced.{moved_part, put_part, taken_part}
 use Rattle.vol_tree.proofs.GoingOn.{goes_then}
-use Rattle.stream_answers.specs.Hearing.{Moves, stays}
+use Rattle.stream_answers.specs.Hearing.{Moves}
 use Rattle.volume_tasks.proofs.Blamed.{behind, exactly, unblamed}
 use Rattle.volume_tasks.proofs.replacing.write_beside.Goals as goal
 
@@ -57,4 +57,4 @@ pub returns-in-Err-clause-heard : goal.returns-in-Err-clause-heard
 returns-in-Err-clause-heard g c = exactly (Moves g.R.Inlet.gave) g.R.Inlet.refused (Err c.in-Err.failure) _ _ c.in-Err.ensures.heard
 
 pub returns-in-Err-2-clause-heard : goal.returns-in-Err-2-clause-heard
-returns-in-Err-2-clause-heard g c = behind (Moves g.R.Inlet.gave) g.R.Inlet.refused c.in-Err-2.failure c.take_back.result c.take_back.ensures.unblamed _ _ c.in-Err-2.ensures.heard
+returns-in-Err-2-clause-heard g c = behind (Moves g.R.Inlet.gave) g.R.Inlet.refused c.in-Err.failure c.take_back.result c.take_back.ensures.unblamed _ _ c.in-Err.ensures.heard

@@ -5,7 +5,7 @@ use Rattle.wasm_store.specs.Instantiation.{RefusedFor}
 use Rattle.wasi_calls.specs.host.Links.{link}
 use Rattle.sandbox_core.specs.Session.{IsRefused, given}
 use Rattle.sandbox_core.specs.declared.fault.SessionFault.{SessionFault}
-use Rattle.sandbox_core.proofs.Refusing.{by_instance, hands_back}
+use Rattle.sandbox_core.proofs.Refusing.{by_instance, by_preopen, hands_back}
 use Rattle.sandbox_core.proofs.shared.SharedSession.new.Goals as goal
 
 pub returns-in-Ok-preopen-clause-opens : goal.returns-in-Ok-preopen-clause-opens
@@ -40,3 +40,13 @@ returns-clause-hands_back g c =
     hands_back (Unit {0}) g.D.Device c.args.shared.now.valid parts c.in-Ok.host c.preopen.new.self c.in-Ok.ensures.made no.ensures.streams
     no.fault no.ensures.reads no.ensures.refused c.into_parts-in-Err-preopen.result c.into_parts-in-Err-preopen.ensures
     c.of_host-in-Err-preopen.result c.of_host-in-Err-preopen.ensures
+
+pub returns-clause-refused : goal.returns-clause-refused
+returns-clause-refused g c =
+    let parts = given c.args.settings c.args.volume c.args.input c.args.out c.args.err in
+    let made = c.in-Ok.ensures.made in
+    let starts = subst (λ (pages : ℕ). Starts link pages c.args.shared.now.valid c.in-Ok-new.machine) (sym c.requires)
+    (subst (λ (r : Ready). Starts link r.pages r.valid c.in-Ok-new.machine) c.shared.view_is c.in-Ok-new.ensures.starts) in
+    subst (λ (f : SessionFault). IsRefused g.D.Device.honest f c.args.shared.now.valid parts) (sym c.of_host-in-Err-preopen.ensures)
+    (by_preopen g.D.Device.honest c.args.shared.now.valid parts made.fits c.in-Ok.host c.preopen.new.self made.volume made.settings
+    (c.in-Ok-new.machine, starts) c.in-Err-preopen.fault c.in-Err-preopen.ensures.refused)

@@ -1,4 +1,4 @@
-use Rattle.std.proofs.Common.{◌≡◌, ◌∙◌, inl, inr, List, ℕ, sym, subst, arith}
+use Rattle.std.proofs.Common.{◌≡◌, inl, inr, List, ℕ, sym, subst, arith}
 use Rattle.std.specs.List.{Contains}
 use Rattle.byteorder.specs.Endian.{big_bytes}
 use Rattle.vol_inode.specs.Entry.{name_of}

@@ -1,10 +1,10 @@
-use Rattle.std.proofs.Common.{◌≡◌, ◌<◌, ◌++◌, ℕ, List, Option, IfSome, IfNone, Some, None, refl, sym, subst, arith}
+use Rattle.std.proofs.Common.{◌≡◌, ◌++◌, ℕ, List, Option, IfSome, IfNone, Some, None, subst, arith}
 use Rattle.std.specs.List.{Contains}
 use Rattle.std.proofs.lemmas.List.Elements.{Contains-append_left, Contains-append_right}
 use Rattle.vol_dirs.specs.internal.Rising.{IsLeastOver, NoneIsOver}
 use Rattle.vol_dirs.specs.internal.Listing.{key_order}
 use Rattle.vol_dirs.specs.Serials.{key_at, keys_in, IsHeldIn}
-use Rattle.vol_dirs.specs.SerialOrder.{keys_of, key_with}
+use Rattle.vol_dirs.specs.SerialOrder.{key_with}
 use Rattle.vol_dirs.proofs.Late.{none_found, long_found, late_found, lesser_found, lesser_held}
 use Rattle.vol_dirs.proofs.serial_order.SerialOrder.least_over.Goals as goal
 

@@ -1,10 +1,8 @@
-use Rattle.std.proofs.Common.{◌≡◌, ◌<◌, ◌≤◌, ◌*◌, ◌-◌, inl, inr, ℕ, List, [], length, get_or, refl, sym, ◌∙◌, ap, arith}
+use Rattle.std.proofs.Common.{◌≡◌, ◌<◌, ◌≤◌, ◌*◌, ◌-◌, inl, inr, ℕ, List, [], get_or, refl, sym, ◌∙◌, ap, arith}
 use Rattle.std.specs.Prelude.{vec_len}
 use Rattle.std.specs.List.{Contains}
-use Rattle.std.specs.declared.cmp.Ordering.TheVariants.{Less}
 use Rattle.std.proofs.lemmas.List.{get_or_default}
 use Rattle.vol_dirs.specs.internal.Listing.{key_order}
-use Rattle.vol_dirs.specs.Serials.{key_at}
 use Rattle.vol_dirs.specs.SerialOrder.{serials_of, key_with}
 use Rattle.vol_dirs.specs.declared.serial_order.SerialOrder.{SerialOrder}
 use Rattle.vol_dirs.proofs.Places.{serial_in, serials_joined, less_is, less_not}

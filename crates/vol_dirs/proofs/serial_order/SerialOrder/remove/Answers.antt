@@ -1,8 +1,7 @@
-use Rattle.std.proofs.Common.{◌≡◌, ◌<◌, ◌≤◌, ◌*◌, ◌∷◌, ◌++◌, ℕ, List, [], length, refl, sym, ◌∙◌, ap, subst, arith}
-use Rattle.std.specs.Prelude.{vec_len, vec_capacity}
+use Rattle.std.proofs.Common.{◌≡◌, ◌<◌, ◌≤◌, ◌*◌, ◌∷◌, ◌++◌, ℕ, List, length, refl, sym, ap, subst, arith}
+use Rattle.std.specs.Prelude.{vec_len}
 use Rattle.std.specs.List.Sorted.{IsPermutation}
-use Rattle.vol_dirs.specs.internal.Rising.{Rises, AreApart, Drops}
-use Rattle.vol_dirs.specs.internal.Listing.{key_order}
+use Rattle.vol_dirs.specs.internal.Rising.{AreApart, Drops}
 use Rattle.vol_dirs.specs.Serials.{keys_in, AreSerials}
 use Rattle.vol_dirs.specs.SerialOrder.{serials_of, keys_of, key_with}
 use Rattle.vol_dirs.specs.declared.serial_order.SerialOrder.{SerialOrder}

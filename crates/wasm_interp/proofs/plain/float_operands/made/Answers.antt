@@ -4,12 +4,11 @@ use Rattle.std.proofs.lemmas.List.{length-reverse}
 use Rattle.wasm_module.specs.Types.{float, integer}
 use Rattle.wasm_module.specs.declared.instruction.FloatOperator.{FloatOperator}
 use Rattle.wasm_num.specs.declared.trap.Trap.{Trap}
-use Rattle.wasm_valid.specs.Typing.{as_wide, float_takes, float_gives}
+use Rattle.wasm_valid.specs.Typing.{float_gives}
 use Rattle.wasm_float.specs.Floats.{demoted, promoted}
 use Rattle.wasm_steps.specs.Operators.{width}
 use Rattle.wasm_steps.specs.FloatOperators.{converted, float_number, float_unary, format, saturated, whole_part}
-use Rattle.wasm_interp.specs.internal.Plain.Performing.{HasOne}
-use Rattle.wasm_interp.proofs.PlainSteps.FloatOperands.{bits_of_float, float_of_bits, has_one, has_two, on_top_of, one_there}
+use Rattle.wasm_interp.proofs.PlainSteps.FloatOperands.{has_one, has_two, on_top_of, one_there}
 use Rattle.wasm_interp.proofs.plain.float_operands.made.Goals as goal
 
 -- what is ensured of the number
