@@ -49,6 +49,7 @@ class Setting:
     def __init__(self, program, room, is_quick, seed, jobs, sqlite=None):
         self.program, self.room, self.is_quick, self.seed, self.jobs, self.sqlite = program, room, is_quick, seed, jobs, sqlite
         self.kept, self.limits = f"{TOP}/out/hostile", []
+        self.wasmi = None  # its program, for rows that run beside it
         self.done = 0  # of the row so far, where its answers come from `each`
 
     def keep(self, name, content):

@@ -167,7 +167,7 @@ FLOATS = {
     "lua": "for i=1,400 do local x=i*0.37; print(string.format('%.17g %.17g %.17g %.17g %.17g %.17g %a', math.sin(x), math.cos(x), math.tan(x),"
     " math.exp(x/9), math.log(x), x^1.7, math.sqrt(x))) print(math.fmod(x, 0.7), math.log(x, 10), math.atan(x, 2), math.asin(x/200), x//0.3, x%0.3) end"
     " print(1/0, -1/0, math.mininteger + 0.0, 2^53 + 1, 1e308*10, 5e-324, 5e-324/2, tonumber('0x1.8p-1074'), tonumber('1e-400'))",
-    "awk": 'BEGIN { for (i = 1; i < 300; i++) { x = i * 0.37; printf "%.17g %.17g %.17g %.17g %.17g %.17g %d %e\n", sin(x), cos(x), atan2(x, 3), exp(x / 9),'
+    "awk": 'BEGIN { for (i = 1; i < 300; i++) { x = i * 0.37; printf "%.17g %.17g %.17g %.17g %.17g %.17g %d %e\\n", sin(x), cos(x), atan2(x, 3), exp(x / 9),'
     ' log(x), sqrt(x), int(x), x ^ 1.7 } }',
     "sqlite3": "with recursive n(k) as (select 1 union all select k + 1 from n where k < 500) select k / 7.0, k * 0.37e-5, round(k / 3.0, 4), cast(k as real) * 1e300,"
     " printf('%.17g %e', k / 11.0, k * 1e-310), cast(k * 0.7 as integer), k % 2.5 from n; select 1e308 * 10, -1e308 * 10, 0.1 + 0.2, 9007199254740993.0, '1e-400' + 0;",
@@ -475,7 +475,7 @@ PROGRAMS = {
             case("sorts", ["-c", "[.numbers[] | {n: ., half: (. / 2)}] | group_by(.n % 7) | map(length, .[0])"], given=JSON),
             case("texts", ["-r", "tojson | [splits(\",\")?] | length, (\"a-b\" | ascii_upcase, ltrimstr(\"a\"), @base64)"], given=JSON),
         ],
-        ["-D_GNU_SOURCE", "-DIEEE_8087", "-DHAVE_MEMMEM", "-DHAVE_ALLOCA_H", "-DHAVE_MKSTEMP", *[f"-DHAVE_{it.upper()}" for it in JQ.split()]],
+        ["-I.", "-D_GNU_SOURCE", "-DIEEE_8087", "-DHAVE_MEMMEM", "-DHAVE_ALLOCA_H", "-DHAVE_MKSTEMP", *[f"-DHAVE_{it.upper()}" for it in JQ.split()]],
         ["-Drealpath(path,room)=NULL"],
         is_float=True,
         prepare=jq_headers,

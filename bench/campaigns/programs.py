@@ -347,6 +347,10 @@ def tried(setting, seed, writer=Writer):
         wanted = (120, b"", f"sandbox: trap: {trap}\n") if trap else (0, value.to_bytes(8, "little"), "")
         if (status, out, said) != wanted:
             raise Wrong(f"{(status, out, said)} with {units} units, wasm-interp {wanted}")
+        if setting.wasmi:
+            theirs = subprocess.run([setting.wasmi, path], capture_output=True, timeout=600)
+            if (theirs.returncode == 0, theirs.stdout) != (trap is None, wanted[1]):
+                raise Wrong(f"{(status, out, said)}, wasmi {theirs}")
         less = answer(setting, ["run", *writer.options, "--pages", "16", "--fuel", str(units - 1), path], seconds=20)
         if less[0] != 121:
             raise Wrong(f"{less} with {units - 1} units of {units}")
