@@ -41,6 +41,14 @@
  *   sessions, hold that part once in all, until the last of them is gone; sandbox_prepare also takes the memory that its guest
  *   begins with, and gives it back. What is marked `kept` is the caller's own.
  *
+ * FLOATS
+ *   A module may have floats where sandbox_load_with or sandbox_prepare_with loads it so; else a float is fault 10. Its sessions compute
+ *   as IEEE 754 says, with the same bits everywhere, whatever floating-point mode the host has: sandbox_run, sandbox_open,
+ *   sandbox_open_loaded and sandbox_resume set that of their thread (MXCSR) to the one in which Linux starts a process, to nearest,
+ *   with subnormal numbers and without exceptions, and the host's own again, with its flags, when they come back. So a host may be
+ *   linked with -ffast-math, call fesetround, or raise exceptions. Its malloc, realloc and free are called in that mode, and leave it
+ *   as it is.
+ *
  * THREADS
  *   Sessions and modules share nothing that a caller could see (of one prepared module, what was made once: it is read alone,
  *   and its owners are counted by one atomic number), so each thread can have its own at the same time. One may move to another thread
@@ -204,10 +212,8 @@ uint32_t sandbox_open(sandbox_session **session, const uint8_t *module, size_t m
 /* Decodes and validates a module once, for many sessions one after another. The bytes are kept. */
 uint32_t sandbox_load(sandbox_module **module, const uint8_t *bytes, size_t length, sandbox_why *why);
 
-/* The same; where `floats` isn't 0, the module may have types, constants and instructions of floating point, which are fault 10
- * else. Its sessions compute as IEEE 754 says where the thread's floating-point mode is the one in which Linux starts a process:
- * to nearest, with subnormal numbers. A host that is linked with -ffast-math, or calls fesetround, has another one, and what floats
- * are then is not said. */
+/* The same; where `floats` isn't 0, the module may have types, constants and instructions of floating point (FLOATS, at the head),
+ * which are fault 10 else. */
 uint32_t sandbox_load_with(sandbox_module **module, const uint8_t *bytes, size_t length, uint32_t floats, sandbox_why *why);
 
 /* sandbox_load, and makes all once that sessions of the module look up, so that each opens in the time of its memory, however
