@@ -49,7 +49,7 @@ class Limits:
 
     def seconds(self, test):
         """Of the processor, for a submission, as judge-tests has them."""
-        return min(self.wall, 5 + test["fuel"] // self.pace + test["pages"] // 8_192)
+        return judge_known.seconds(test, self.pace, self.wall)
 
 
 def bounded(seconds, memory):
