@@ -28,7 +28,7 @@ import judge_known
 
 PIECE = 65_536                                 # bytes of a piece, which a pipe holds at once
 PLAIN, LARGEST = 8_000_000, 1 << 29            # bytes of the input and the answer together for which a volume of version 2 does; the most
-VALIDATOR = ["--floats", "--fuel", "20000000000", "--output", "67108864"]
+VALIDATOR = ["--floats", "--seed", "1", "--fuel", "20000000000", "--output", "67108864"]
 F_GETPIPE_SZ, PR_SET_PDEATHSIG = 1032, 1
 LIBC = ctypes.CDLL(None)
 
@@ -49,7 +49,7 @@ class Limits:
 
     def seconds(self, test):
         """Of the processor, for a submission, as judge-tests has them."""
-        return min(self.wall, 5 + test["fuel"] // self.pace + test["pages"] // 8_192)
+        return judge_known.seconds(test, self.pace, self.wall)
 
 
 def bounded(seconds, memory):
@@ -217,11 +217,12 @@ def tried(program, base, test, limits, room):
     for name, of in (("input", "stdin"), ("answer", "expect")):
         with open(os.path.join(base, test[of]), "rb") as file:
             files[name] = file.read()
-    for name, of in (("submission", test["module"]), ("validator", check["programs"][0])):
-        judge_files.linked(os.path.abspath(os.path.join(base, of)), f"{room}/{name}.wasm")
+    for name, of in (("submission.wasm", test["module"]), ("validator.wasm", check["programs"][0]), ("random", test.get("random"))):
+        if of:
+            judge_files.linked(os.path.abspath(os.path.join(base, of)), f"{room}/{name}")
     image(program, files, room)
-    floats = ["--floats"] if test.get("floats") else []
-    own = [program, *floats, "--fuel", str(test["fuel"]), "--pages", str(test["pages"]), "--output", "8388608", "submission.wasm"]
+    more = [*(["--floats"] if test.get("floats") else []), *(["--random", "random"] if test.get("random") else [])]
+    own = [program, *more, "--fuel", str(test["fuel"]), "--pages", str(test["pages"]), "--output", "8388608", "submission.wasm"]
     others = [program, *VALIDATOR, "--image", "volume", "validator.wasm", "--", "/in/input", "/in/answer", "/out/", *check.get("words", [])]
     try:
         guests.append(Guest("submission", own, room, bounded(limits.seconds(test), limits.memory)))
