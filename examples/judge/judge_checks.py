@@ -78,7 +78,7 @@ def said_by(program, test, output, base, store, sandbox):
         empty = os.path.join(room, "empty")
         open(empty, "wb").close()
         given = {name: where(of) if test.get(of) else empty for name, of in (("input", "stdin"), ("answer", "expect"))}
-        done = subprocess.run([STEP, "--sandbox", sandbox, "--keep", os.path.join(store, "checked"), "--exit", "42", "--exit", "43", "--fuel", "20000000000", "--wall", "60",
+        done = subprocess.run([STEP, "--sandbox", sandbox, "--keep", os.path.join(store, "checked"), "--exit", "42", "--exit", "43", "--floats", "--fuel", "20000000000", "--wall", "60",
                                "--in", f"input={given['input']}", "--in", f"answer={given['answer']}", "--stdin", f"{room}/said", "--report", f"{room}/report",
                                "--stdout", f"{room}/ignored", os.path.abspath(os.path.join(base, program)), "--", "/in/input", "/in/answer", "/out/", *test["check"].get("words", [])],
                               capture_output=True)

@@ -23,11 +23,12 @@ import tempfile
 import termios
 import time
 
+import judge_files
 import judge_known
 
 PIECE = 65_536                                 # bytes of a piece, which a pipe holds at once
 PLAIN, LARGEST = 8_000_000, 1 << 29            # bytes of the input and the answer together for which a volume of version 2 does; the most
-VALIDATOR = ["--fuel", "20000000000", "--output", "67108864"]
+VALIDATOR = ["--floats", "--fuel", "20000000000", "--output", "67108864"]
 F_GETPIPE_SZ, PR_SET_PDEATHSIG = 1032, 1
 LIBC = ctypes.CDLL(None)
 
@@ -208,19 +209,20 @@ def verdict(submission, validator):
     return ("accepted", "", own) if is_good else (own["end"], own.get("text") or own["code"], own)
 
 
-def tried(program, test, limits, room):
-    """One talk in the room, where `base` is the batch's folder."""
-    if os.path.getsize(f"{room}/base/{test['module']}") > limits.module:
+def tried(program, base, test, limits, room):
+    """One talk in the room. The program takes names in UTF-8 alone, and folders have any, so both modules are in the room."""
+    check, guests, files = test["check"], [], {}
+    if os.path.getsize(os.path.join(base, test["module"])) > limits.module:
         return "module too large", "", {}
-    files = {}
     for name, of in (("input", "stdin"), ("answer", "expect")):
-        with open(f"{room}/base/{test[of]}", "rb") as file:
+        with open(os.path.join(base, test[of]), "rb") as file:
             files[name] = file.read()
+    for name, of in (("submission", test["module"]), ("validator", check["programs"][0])):
+        judge_files.linked(os.path.abspath(os.path.join(base, of)), f"{room}/{name}.wasm")
     image(program, files, room)
-    check, guests = test["check"], []
     floats = ["--floats"] if test.get("floats") else []
-    own = [program, *floats, "--fuel", str(test["fuel"]), "--pages", str(test["pages"]), "--output", "8388608", f"base/{test['module']}"]
-    others = [program, *VALIDATOR, "--image", "volume", f"base/{check['programs'][0]}", "--", "/in/input", "/in/answer", "/out/", *check.get("words", [])]
+    own = [program, *floats, "--fuel", str(test["fuel"]), "--pages", str(test["pages"]), "--output", "8388608", "submission.wasm"]
+    others = [program, *VALIDATOR, "--image", "volume", "validator.wasm", "--", "/in/input", "/in/answer", "/out/", *check.get("words", [])]
     try:
         guests.append(Guest("submission", own, room, bounded(limits.seconds(test), limits.memory)))
         guests.append(Guest("validator", others, room, bounded(limits.wall, 6 << 30)))
@@ -249,9 +251,8 @@ def judged(program, base, test, limits):
     causes = []
     for _ in range(2):
         with tempfile.TemporaryDirectory(prefix="judge.", ignore_cleanup_errors=True) as room:
-            os.symlink(os.path.abspath(base), f"{room}/base")  # the program takes names in UTF-8 alone, and folders have any
             try:
-                return tried(program, test, limits, room)
+                return tried(program, base, test, limits, room)
             except Unsettled as unsettled:
                 causes.append(unsettled.cause)
             if not causes[1:] and not is_sound(program, room, limits.pace):

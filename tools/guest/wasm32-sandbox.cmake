@@ -1,5 +1,5 @@
 # For CMake: -DCMAKE_TOOLCHAIN_FILE=PREFIX/share/sandbox/guest/wasm32-sandbox.cmake
-# It compiles by sandbox-cc and sandbox-c++, and runs tests by sandbox-run.
+# It compiles by sandbox-cc and sandbox-c++, and runs tests by sandbox-run. -DSANDBOX_FLOATS=ON is for guests with floats.
 set(CMAKE_SYSTEM_NAME Generic)
 set(CMAKE_SYSTEM_PROCESSOR wasm32)
 get_filename_component(_sandbox_bin "${CMAKE_CURRENT_LIST_DIR}/../../../bin" ABSOLUTE)
@@ -16,6 +16,12 @@ set(CMAKE_EXECUTABLE_SUFFIX ".wasm")
 set(CMAKE_EXECUTABLE_SUFFIX_C ".wasm")
 set(CMAKE_EXECUTABLE_SUFFIX_CXX ".wasm")
 set(CMAKE_CROSSCOMPILING_EMULATOR "${_sandbox_bin}/sandbox-run")
+list(APPEND CMAKE_TRY_COMPILE_PLATFORM_VARIABLES SANDBOX_FLOATS)
+if(SANDBOX_FLOATS)
+  set(CMAKE_C_FLAGS_INIT --floats)
+  set(CMAKE_CXX_FLAGS_INIT --floats)
+  list(APPEND CMAKE_CROSSCOMPILING_EMULATOR --floats)
+endif()
 set(CMAKE_FIND_ROOT_PATH_MODE_PROGRAM NEVER)
 set(CMAKE_FIND_ROOT_PATH_MODE_LIBRARY ONLY)
 set(CMAKE_FIND_ROOT_PATH_MODE_INCLUDE ONLY)

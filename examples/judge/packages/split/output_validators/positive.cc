@@ -1,0 +1,16 @@
+// INPUT ANSWER FOLDER [FLAGS]: numbers of at least 1 whose sum is that of the input. It reads them as floats.
+#include <fstream>
+#include <iostream>
+
+int main(int argc, char **argv) {
+  double want, sum = 0, it;
+  std::ifstream input(argc < 4 ? "" : argv[1]);
+  if (!(input >> want))
+    return 1;
+  while (std::cin >> it) {
+    if (it < 1)
+      return 43;
+    sum += it;
+  }
+  return std::cin.eof() && sum == want ? 42 : 43;
+}
