@@ -469,7 +469,7 @@ PROGRAMS = {
     ),
     "jq": Program(
         "jq",
-        (["src"], all_but("jq_test.c", "inject_errors.c")),
+        (["src"], all_but("inject_errors.c")),
         [
             case("picks", ["-c", ".numbers[:9], .text, (.numbers | map(. * 2.5) | add), (.deep | flatten)"], given=JSON),
             case("sorts", ["-c", "[.numbers[] | {n: ., half: (. / 2)}] | group_by(.n % 7) | map(length, .[0])"], given=JSON),

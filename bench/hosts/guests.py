@@ -1,4 +1,5 @@
-"""Guests that take all that they can get, one that makes each call, and one with floats, for bench/embed: bytes of modules, made by tools/wasm_binary.py.
+"""Guests that take all that they can get, one that makes each call, and one with floats, for bench/embed: bytes of modules, made by
+tools/wasm_binary.py.
 
 Each of the greedy ones goes on with what it does for as long as it gets anything; memory has the pages that it is given.
 """
@@ -155,10 +156,12 @@ def floating():
     code += kept(get(0) + narrow + b"\x91\xbb" + bits) + kept(get(2) + b"\xb9" + bits) + kept(get(2) + b"\xb4\xbb" + bits)
     of_numbers = b"\x44" + struct.pack("<d", 1.0) + get(2) + b"\xb9\xa3"  # 1 / n
     sizes = [1.0, 2.0**-1022, -(2.0**1023), 2.0**-126, 2.0**-149, 1e300, -3.0, 0.0]
-    each = b"".join(of_numbers + b"\x44" + struct.pack("<d", it) + b"\xa2" + put(0) + of_numbers + b"\x44" + struct.pack("<d", 3.0) + b"\xa0" + put(1) + code for it in sizes)
+    y = of_numbers + b"\x44" + struct.pack("<d", 3.0) + b"\xa0" + put(1)  # 1 / n + 3
+    each = b"".join(of_numbers + b"\x44" + struct.pack("<d", it) + b"\xa2" + put(0) + y + code for it in sizes)
     step = get(2) + b"\x42\x07\x7c" + b"\x22" + u(2) + wide(7 * 60) + b"\x54"
     told = number(0) + number(16) + b"\x36\x02\0" + number(0) + get(3) + number(16) + b"\x6b\x36\x02\x04"
-    body = number(16) + put(3) + wide(3) + put(2) + loop(each + step) + told + number(1) + number(0) + number(1) + number(8) + call(0) + b"\x1a"
+    written = told + number(1) + number(0) + number(1) + number(8) + call(0) + b"\x1a"
+    body = number(16) + put(3) + wide(3) + put(2) + loop(each + step) + written
     return module(["fd_write"], [start(body, ((2, f64), (1, i64), (1, I32)))])
 
 
