@@ -30,7 +30,7 @@
  * MEMORY
  *   A session asks malloc for at most, in bytes,
  *         65,536 * pages + 8 * values + 2 * output    what its limits allow (sandbox_limits)
- *       + 256 * the bytes of its module               the module's tables
+ *       + 192 * the bytes of its module               the module's tables
  *       + 520 * the volume's sectors                  202 of a fresh one
  *       + 400 * the volume's sectors                  once more, of a huge one alone (SANDBOX_VOLUME_HUGE): its names
  *       + 1,040 * the writes and syncs so far         of a recorded volume alone (SANDBOX_VOLUME_RECORDED)
@@ -74,7 +74,7 @@
 extern "C" {
 #endif
 
-#define SANDBOX_VERSION_NUMBER 9011 /* 0.9.11 */
+#define SANDBOX_VERSION_NUMBER 9012 /* 0.9.12 */
 #define SANDBOX_STACK 65536 /* of a thread; 24 KB were measured, whatever the guest recurses */
 
 typedef struct sandbox_session sandbox_session; /* opaque */
@@ -312,7 +312,7 @@ static inline uint64_t sandbox_most_held(const sandbox_limits *limits, size_t mo
     const uint64_t counts[6] = {limits->pages ? limits->pages : 1024,
                                 limits->values ? (limits->values < 4097 ? 4097 : limits->values) : 1048576,
                                 limits->output ? limits->output : 16777216, module_length, sectors_count, operations};
-    static const uint64_t bytes[6] = {65536, 8, 2, 256, 520, 1040};
+    static const uint64_t bytes[6] = {65536, 8, 2, 192, 520, 1040};
     uint64_t sum = 8388608;
     for (int n = 0; n < 6; n++) {
         if (counts[n] > (UINT64_MAX - sum) / bytes[n])

@@ -31,7 +31,7 @@ Bounds:
   --entries N            entries for the guest beside its inputs (as many as these are and 1024 more, if there is room)
 
 Keeping results:
-  --keep STORE           keep the result in this folder under the SHA-256 of all that decides it, and take it from there
+  --keep STORE           keep the result in this folder under a digest of all that decides it, and take it from there
   --again                with --keep: do the step, and compare with what is kept
 
 The program:
@@ -58,9 +58,9 @@ import sys
 # `signal`, `argparse`, `subprocess`, `tempfile`, `shutil`, `re`, `json` and `hashlib` take longer to import than a small guest takes to run
 import _signal as signal
 
-from step_volume import MOST_FILE, MOST_SLOTS, SECTOR, Image, Left, Room, has_parents, make_volume, put, removed, shown, sizes
+from step_volume import MOST_FILE, MOST_SLOTS, SECTOR, Image, Left, Room, digest_of, has_parents, make_volume, put, removed, shown, sizes
 
-VERSION = b"2"                                 # of what a key says: another one, other keys
+VERSION = b"3"                                 # of what a key says: another one, other keys
 ROOTS = (b"in", b"out", b"tmp")                # what the guest has
 LISTS, TEXTS, FLAGS = ("in", "out", "out-dir", "env", "exit"), ("image", "stdin", "stdout", "report", "keep", "sandbox"), ("links", "again", "floats")
 U64 = (1 << 64) - 1
@@ -105,14 +105,6 @@ def tell(text):
             with_end = with_end[os.write(2, with_end):]
     except OSError:
         pass
-
-
-def sha(*parts):
-    from _hashlib import openssl_sha256        # here: a step that isn't kept needs none
-    whole = openssl_sha256()
-    for part in parts:
-        whole.update(part)
-    return whole.hexdigest().encode()
 
 
 def inner(path):
@@ -295,13 +287,15 @@ def under(host, links):
                 yield path, content(it.path, MOST_FILE, links)
 
 
-def given(inputs, links):
-    """The tree of /in: bytes or None by path."""
-    tree = {}
+def given(inputs, links, is_kept):
+    """The tree of /in, bytes or None by path; and of what is kept the digest of each file, taken while what was read is still at hand."""
+    tree, digests = {}, {}
     def add(path, inside):
         if path in tree and not (tree[path] is None and inside is None):
             raise Refused(f"{shown(path)}: given twice")
         tree[path] = inside
+        if is_kept and inside is not None:
+            digests[path] = digest_of(inside)
     for path, host in inputs:
         parts = inner(path)
         for depth in range(1, len(parts)):
@@ -317,7 +311,7 @@ def given(inputs, links):
             if not parts:
                 raise Refused(f"{shown(host)}: not a folder")
             add(path, inside)
-    return tree
+    return tree, digests
 
 
 def asked(of, act, *given):
@@ -624,14 +618,14 @@ class Store:
 
     def blob(self, digest):
         inside = self.read(b"cas", digest) if len(digest) == 64 and not digest.strip(b"0123456789abcdef") else None
-        if inside is None or sha(inside) != digest:
+        if inside is None or digest_of(inside) != digest:
             raise LookupError
         return inside
 
     def take(self, key, names):
         """A kept result; None where there is none, or not all of it as it was kept."""
         text, _, tail = (self.read(b"ac", key) or b"").rpartition(b"\n")
-        if tail != sha(key, b"\n", text):
+        if tail != digest_of(key, b"\n", text):
             return None
         result = {}
         try:
@@ -660,7 +654,7 @@ class Store:
             with Room(new) as room:
                 lines = []
                 def line(name, path, inside):
-                    digest = sha(inside)
+                    digest = digest_of(inside)
                     if self.read(b"cas", digest) != inside:
                         self.write(b"cas", digest, inside, room)
                     lines.append(b"\t".join((b"file", name, path, digest)))
@@ -672,27 +666,22 @@ class Store:
                     else:
                         line(name, b"", result[name])
                 text = b"\n".join(lines)
-                self.write(b"ac", key, text + b"\n" + sha(key, b"\n", text), room)
+                self.write(b"ac", key, text + b"\n" + digest_of(key, b"\n", text), room)
         except OSError as error:
             tell(b"sandbox-step: not kept: " + shown(os.fsencode(str(error))).encode())
 
 
-def key_of(it, program, module, stdin, tree, sectors, slots):
-    """The SHA-256 of all that decides the result, each part with its length."""
-    parts = [VERSION, sha(program), sha(module), sha(stdin), b"%d %d" % (sectors, slots)]
+def key_of(it, program, module, stdin, tree, digests, sectors, slots):
+    """The digest of all that decides the result, each part with its length; a file by its own digest."""
+    parts = [VERSION, digest_of(program), digest_of(module), digest_of(stdin), b"%d %d" % (sectors, slots)]
     for name in ("fuel", "pages", "values", "moment", "seed", "output", "memory"):
         parts.append(b"-" if it[name] is None else b"%d" % it[name])
     parts += [b"floats"] if it["floats"] else []
     parts += [b"image", it["image"].digest()] if it["image"] else []
     for some in (it["words"], it["env"], [b"%d" % one for one in sorted(set(it["exit"]))], *(sorted(path for path, _ in it[name]) for name in ("out", "out-dir"))):
         parts += [b"%d" % len(some), *some]
-    def files():
-        for path in sorted(tree):
-            inside = tree[path]
-            yield b"%d:%b6:folder0:" % (len(path), path) if inside is None else b"%d:%b4:file%d:" % (len(path), path, len(inside))
-            if inside:
-                yield inside
-    return sha(*(one for part in parts for one in (b"%d:" % len(part), part)), *files())
+    parts += [one for path in sorted(tree) for one in (path, digests.get(path, b"folder"))]
+    return digest_of(b"".join(b"%d:%b" % (len(part), part) for part in parts))
 
 
 def done_by(it, program, module, stdin, tree, sectors, slots):
@@ -718,12 +707,12 @@ def done_by(it, program, module, stdin, tree, sectors, slots):
 def step(it):
     program = content(it["sandbox"], 256 << 20)
     module, stdin = content(it["module"], 64 << 20), content(it["stdin"], 64 << 20) if it["stdin"] else b""
-    tree = given(it["in"], it["links"])
+    tree, digests = given(it["in"], it["links"], it["keep"])
     image = it["image"] = it["image"] and asked(f"--image {shown(it['image'])}: ", Image, it["image"])
     sectors, slots = (image.sectors, image.slots) if image else asked("", sizes, tree, it["room"], it["entries"], len(ROOTS))
     if not it["keep"]:
         return done_by(it, program, module, stdin, tree, sectors, slots), ""
-    store, key = Store(it["keep"]), key_of(it, program, module, stdin, tree, sectors, slots)
+    store, key = Store(it["keep"]), key_of(it, program, module, stdin, tree, digests, sectors, slots)
     former = store.take(key, {b"stdout", b"report", *(name for name, _ in outputs_of(it))})
     if former is not None and not it["again"]:
         return former, f"kept as {key[:16].decode()}"

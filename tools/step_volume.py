@@ -8,6 +8,10 @@ import fcntl
 import os
 import stat
 import struct
+try:
+    from _blake2 import blake2b                # `hashlib` takes longer to import
+except ImportError:
+    from hashlib import blake2b
 
 SECTOR, LOG = 512, 122
 FEW_SECTORS, FEW_SLOTS, SMALL_FILE = 65_536, 8_192, 8_483_840                     # the most of version 2
@@ -18,6 +22,12 @@ ZEROS, MOST_PARTS = bytes(SECTOR), 1_000           # of a write: the kernel take
 def shown(name):
     """Bytes as a text that moves no cursor."""
     return "".join(it if it.isprintable() else f"\\x{ord(it):02x}" for it in name.decode("utf-8", "backslashreplace"))
+
+
+def digest_of(*parts):
+    """BLAKE2b of 256 bits. SHA-256 takes longer where the processor has no instructions for it, and in Python a library that takes as long to load as a
+    megabyte to hash."""
+    return blake2b(b"".join(parts), digest_size=32).hexdigest().encode()
 
 
 def has_parents(tree):
@@ -193,9 +203,13 @@ class Image:
         self.table = os.pread(self.fd, self.slots * SECTOR, LOG * SECTOR)
 
     def digest(self):
-        """The SHA-256 of all its sectors."""
-        from _hashlib import openssl_sha256    # here: a step that isn't kept needs none
-        at, end, whole = 0, self.sectors * SECTOR, openssl_sha256()
+        """The digest of all its sectors. These are many bytes, and OpenSSL takes two thirds of the time, if it has this digest."""
+        try:
+            from _hashlib import new
+            whole = new("blake2b512")
+        except (ImportError, ValueError):
+            whole = blake2b()
+        at, end = 0, self.sectors * SECTOR
         while at < end and (part := os.pread(self.fd, min(1 << 22, end - at), at)):
             whole.update(part)
             at += len(part)

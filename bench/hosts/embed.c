@@ -221,7 +221,7 @@ static void limits(void) {
     want("a limit that can't be is 15", limited(&odd[n], &session, &told, &code) == 15 && !session);
   /* the sum, by hand: 64 MiB + 8 MiB + 2 * 16 MiB + 8 MiB and what is passed; 65,536 + 8 * 4,097 + 2 + 8 MiB */
   const sandbox_limits none = {0}, least = {.pages = 1, .values = 1, .output = 1}, most = {.output = UINT64_MAX};
-  want("the sum of the defaults", sandbox_most_held(&none, 0, 0, 0) == 117440512 && sandbox_most_held(&none, 10, 100, 1000) == 117440512 + 2560 + 52000 + 1040000);
+  want("the sum of the defaults", sandbox_most_held(&none, 0, 0, 0) == 117440512 && sandbox_most_held(&none, 10, 100, 1000) == 117440512 + 1920 + 52000 + 1040000);
   want("the sum of the least", sandbox_most_held(&least, 0, 0, 0) == 65536 + 32776 + 2 + 8388608);
   want("a sum past 2^64", sandbox_most_held(&most, 0, 0, 0) == UINT64_MAX && sandbox_most_held(&none, SIZE_MAX, 0, 0) == UINT64_MAX && sandbox_most_held(&none, 0, 0, SIZE_MAX) == UINT64_MAX);
   printf("limits: %u wrong\n", wrong);

@@ -1,5 +1,5 @@
 -- A run on a volume whose tree each crash leaves.
-use Rattle.std.proofs.Common.{◌≡◌, ◌⊎◌, ◌-◌, ◌^◌, ⊎_elim, ℕ, List, [], Option, Some, None, Result, Ok, Err, refl, sym, ◌∙◌, ap, subst, inl, inr}
+use Rattle.std.proofs.Common.{◌≡◌, ◌⊎◌, ⊎_elim, ℕ, List, [], Option, Some, None, Result, Ok, Err, refl, sym, ◌∙◌, ap, subst, inl, inr}
 use Rattle.std.specs.Borrow.{Bor}
 use Rattle.vol_sector.specs.Disk.{Image, Disk, Leaves}
 use Rattle.vol_sector.specs.declared.fault.Refused.{Refused}
@@ -18,14 +18,12 @@ use Rattle.wasm_steps.specs.Steps.{CallsOf, Reach, stays}
 use Rattle.sandbox_core.specs.Runs.{ComesBy}
 use Rattle.sandbox_core.specs.declared.fault.SessionFault.{SessionFault}
 use Rattle.sandbox_core.specs.declared.fault.SessionFault.TheVariants.{Setting, Instance as NoInstance, Device, Preopen, Memory}
-use Rattle.sandbox_core.specs.Session.{IsHandedBack, KeepsVolume, given}
+use Rattle.sandbox_core.specs.Session.{IsHandedBack, KeepsVolume}
 use Rattle.sandbox_core.proofs.Reaching.{Left}
 use Rattle.sandbox_words.specs.Request.{Text}
 use Rattle.volume_tasks.specs.Volumes.{IsOpenFor, LeftByOpening}
 use Rattle.sandbox_command.specs.declared.program.Executed.{Executed}
 use Rattle.sandbox_words.specs.declared.request.Run.{Run}
-use Rattle.run_report.specs.declared.counted.Counted.{Counted}
-use Rattle.sandbox_command.specs.Reporting.{counting, from_here, output_of}
 use Rattle.sandbox_command.specs.Running.{Launches, LeftByRun, returned_device, known_of}
 
 module _ (H : Type 0) (Calls : CallsOf H) (disk : H → Disk) (numbers : H → Superblock) (tree : H → Tree) where

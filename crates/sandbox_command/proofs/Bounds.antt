@@ -10,11 +10,18 @@ use Rattle.wasm_steps.specs.declared.pause.Outcome.{Outcome}
 use Rattle.wasm_steps.specs.declared.pause.Outcome.TheVariants.{Exited, Trapped, OutOfFuel, OutOfMemory}
 use Rattle.sandbox_core.specs.declared.fault.SessionFault.{SessionFault}
 use Rattle.sandbox_core.specs.declared.fault.SessionFault.TheVariants as opening
+use Rattle.volume_archive.specs.declared.reasons.Why.{Why}
+use Rattle.volume_archive.specs.declared.reasons.Why.TheVariants as archive
+use Rattle.volume_tasks.specs.declared.failure.Failure.TheVariants as failure
+use Rattle.volume_tasks.specs.declared.importing.ImportFailure.{ImportFailure}
+use Rattle.volume_tasks.specs.declared.importing.ImportFailure.TheVariants as importing
+use Rattle.volume_tasks.specs.declared.exporting.ExportFailure.{ExportFailure}
+use Rattle.volume_tasks.specs.declared.exporting.ExportFailure.TheVariants as exporting
 use Rattle.sandbox_words.specs.Request.{Text}
 use Rattle.sandbox_words.specs.declared.request.Run.{Run}
 use Rattle.sandbox_command.specs.declared.program.Executed.{Executed}
 use Rattle.sandbox_command.specs.Execution.{Runs}
-use Rattle.sandbox_command.specs.Status.{EndsWith, load_status, session_status, status_of, volume_status}
+use Rattle.sandbox_command.specs.Status.{EndsWith, export_status, failure_status, import_status, load_status, session_status, status_of, volume_status, why_status}
 
 pub of_session : (f : SessionFault) (n : ℕ) → n ≡ session_status f → n ≤ 124
 of_session opening.Memory n is = omega (arith, is)
@@ -22,6 +29,24 @@ of_session opening.Setting n is = omega (arith, is)
 of_session (opening.Instance f) n is = omega (arith, is)
 of_session opening.Device n is = omega (arith, is)
 of_session opening.Preopen n is = omega (arith, is)
+
+of_why : (w : Why) → why_status w ≤ 124
+of_why archive.Memory = omega arith
+of_why w = omega arith
+
+of_volume_failure : (f : VolumeFault) → failure_status (failure.Volume f) ≤ 124
+of_volume_failure volume.Memory = omega arith
+of_volume_failure f = omega arith
+
+pub import_within : (refusal : ImportFailure) → import_status refusal ≤ 124
+import_within (importing.Volume f) = of_volume_failure f
+import_within (importing.Path e) = omega arith
+import_within (importing.Halted halted) = of_why halted.refusal.why
+
+pub export_within : (refusal : ExportFailure) → export_status refusal ≤ 124
+export_within (exporting.Volume f) = of_volume_failure f
+export_within (exporting.Path e) = omega arith
+export_within (exporting.Stopped w) = of_why w
 
 of_volume : (f : VolumeFault) (n : ℕ) → n ≡ volume_status f → n ≤ 124
 of_volume volume.Memory n is = omega (arith, is)

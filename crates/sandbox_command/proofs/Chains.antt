@@ -8,6 +8,7 @@ use Rattle.std.specs.declared.io.Error.{Error}
 use Rattle.std.specs.declared.io.ErrorKind.{ErrorKind}
 use Rattle.sandbox_words.specs.Request.{Text}
 use Rattle.sandbox_words.specs.declared.request.Run.{Run}
+use Rattle.sandbox_command.specs.Reporting.{receiver_of}
 use Rattle.sandbox_command.specs.Places.{Access, Makes, Opens, Reads, Receives, Chain, ChainWithFailure, IsRefusedAmong, IsRefusedOfAll, medium_accesses, reads_of, run_accesses, where_named}
 use Rattle.sandbox_command.specs.internal.Tests.{AllEndAs, OneEndsAs}
 
@@ -92,6 +93,14 @@ named_refused asks refuses how N named file p q (Err e) is asked refused then =
 pub named_asked : {P : Type 0} (asks : Access → P → P → Type 0) (how : Text → Access) (named : Option (Bor Text)) (file : Bor Text) (p q : P) → named ≡ Some file → asks (how file.now) p q → Chain asks (where_named how named) p q
 named_asked asks how named file p q is asked = subst (λ (o : Option (Bor Text)). Chain asks (where_named how o) p q) (sym is) (q, asked, refl)
 
+-- of one that is named by this
+pub its_chain : {P : Type 0} (asks : Access → P → P → Type 0) (how : Text → Access) (p q : P) (named name : Option (Bor Text)) → named ≡ name → Chain asks (where_named how named) p q → Chain asks (where_named how name) p q
+its_chain asks how p q named name is chain = subst (λ (o : Option (Bor Text)). Chain asks (where_named how o) p q) is chain
+
+pub its_refusal : {P : Type 0} (asks : Access → P → P → Type 0) (refuses : Access → ErrorKind → P → P → Type 0) (how : Text → Access) (kind : ErrorKind) (p q : P) (named name : Option (Bor Text)) → named ≡ name
+    → IsRefusedAmong asks refuses (where_named how named) kind p q → IsRefusedAmong asks refuses (where_named how name) kind p q
+its_refusal asks refuses how kind p q named name is refused = subst (λ (o : Option (Bor Text)). IsRefusedAmong asks refuses (where_named how o) kind p q) is refused
+
 -- ---- all are asked for
 
 module _ {P : Type 0} (asks : Access → P → P → Type 0) (refuses : Access → ErrorKind → P → P → Type 0) where
@@ -110,19 +119,21 @@ module _ {P : Type 0} (asks : Access → P → P → Type 0) (refuses : Access �
   one_refused how (Some file) kind p q (inl (asked, refused)) = (q, asked, inl (refused, refl))
   one_refused how (Some file) kind p q (inr (m, asked, none)) = absurd none
 
-  medium_refused : (volume image : Option (Bor Text)) (kind : ErrorKind) (p q : P) → IsRefusedAmong asks refuses (medium_accesses volume image) kind p q → IsRefusedOfAll asks refuses (medium_accesses volume image) kind p q
-  medium_refused None image kind p q refused = one_refused Reads image kind p q refused
-  medium_refused (Some file) image kind p q (inl (asked, refused)) = (q, asked, inl (refused, refl))
-  medium_refused (Some file) image kind p q (inr (m, asked, none)) = absurd none
+  medium_refused : (volume archive image : Option (Bor Text)) (kind : ErrorKind) (p q : P) → IsRefusedAmong asks refuses (medium_accesses volume archive image) kind p q → IsRefusedOfAll asks refuses (medium_accesses volume archive image) kind p q
+  medium_refused None None image kind p q refused = one_refused Reads image kind p q refused
+  medium_refused None (Some file) image kind p q (inl (asked, refused)) = (q, asked, inl (refused, refl))
+  medium_refused None (Some file) image kind p q (inr (m, asked, none)) = absurd none
+  medium_refused (Some file) archive image kind p q (inl (asked, refused)) = (q, asked, inl (refused, refl))
+  medium_refused (Some file) archive image kind p q (inr (m, asked, none)) = absurd none
 
   -- the files of a run alone, one after the other
   module _ (run : Run) (p a b c d e f g q : P)
-      (bytes : asks (Reads run.module.now) p a) (random : Chain asks (reads_of run.random) a b) (medium : Chain asks (medium_accesses run.volume run.image) b c)
+      (bytes : asks (Reads run.module.now) p a) (random : Chain asks (reads_of run.random) a b) (medium : Chain asks (medium_accesses run.volume run.image_from run.image) b c)
       (input : Chain asks (where_named Opens run.stdin) c d) (out : Chain asks (where_named Makes run.stdout) d e) (err : Chain asks (where_named Makes run.stderr) e f)
-      (profile : Chain asks (where_named Makes run.profile) f g) (received : Chain asks (where_named Receives run.volume_out) g q) where
+      (profile : Chain asks (where_named Makes run.profile) f g) (received : Chain asks (where_named Receives (receiver_of run)) g q) where
     -- those from one on
     abbrev since_profile : List Access
-    since_profile = where_named Makes run.profile ++ where_named Receives run.volume_out
+    since_profile = where_named Makes run.profile ++ where_named Receives (receiver_of run)
 
     abbrev since_err : List Access
     since_err = where_named Makes run.stderr ++ since_profile
@@ -134,10 +145,10 @@ module _ {P : Type 0} (asks : Access → P → P → Type 0) (refuses : Access �
     since_input = where_named Opens run.stdin ++ since_out
 
     abbrev since_medium : List Access
-    since_medium = medium_accesses run.volume run.image ++ since_input
+    since_medium = medium_accesses run.volume run.image_from run.image ++ since_input
 
     from_profile : Chain asks since_profile f q
-    from_profile = Chain-join asks (where_named Makes run.profile) (where_named Receives run.volume_out) f g q profile received
+    from_profile = Chain-join asks (where_named Makes run.profile) (where_named Receives (receiver_of run)) f g q profile received
 
     from_err : Chain asks since_err e q
     from_err = Chain-join asks (where_named Makes run.stderr) since_profile e f q err from_profile
@@ -149,7 +160,7 @@ module _ {P : Type 0} (asks : Access → P → P → Type 0) (refuses : Access �
     from_input = Chain-join asks (where_named Opens run.stdin) since_out c d q input from_out
 
     from_medium : Chain asks since_medium b q
-    from_medium = Chain-join asks (medium_accesses run.volume run.image) since_input b c q medium from_input
+    from_medium = Chain-join asks (medium_accesses run.volume run.image_from run.image) since_input b c q medium from_input
 
     from_random : Chain asks (reads_of run.random ++ since_medium) a q
     from_random = Chain-join asks (reads_of run.random) since_medium a b q random from_medium
@@ -159,7 +170,7 @@ module _ {P : Type 0} (asks : Access → P → P → Type 0) (refuses : Access �
     after_random kind refused = (a, bytes, inr (refused-later (reads_of run.random) since_medium kind a b q random refused))
 
     after_medium : (kind : ErrorKind) → IsRefusedOfAll asks refuses since_input kind c q → IsRefusedOfAll asks refuses (run_accesses run) kind p q
-    after_medium kind refused = after_random kind (refused-later (medium_accesses run.volume run.image) since_input kind b c q medium refused)
+    after_medium kind refused = after_random kind (refused-later (medium_accesses run.volume run.image_from run.image) since_input kind b c q medium refused)
 
     after_input : (kind : ErrorKind) → IsRefusedOfAll asks refuses since_out kind d q → IsRefusedOfAll asks refuses (run_accesses run) kind p q
     after_input kind refused = after_medium kind (refused-later (where_named Opens run.stdin) since_out kind c d q input refused)
@@ -179,8 +190,8 @@ module _ {P : Type 0} (asks : Access → P → P → Type 0) (refuses : Access �
     pub random_lacks : (kind : ErrorKind) → IsRefusedAmong asks refuses (reads_of run.random) kind a b → IsRefusedOfAll asks refuses (run_accesses run) kind p q
     random_lacks kind refused = (a, bytes, inr (refused-first (reads_of run.random) since_medium kind a b q (one_refused Reads run.random kind a b refused) from_medium))
 
-    pub medium_lacks : (kind : ErrorKind) → IsRefusedAmong asks refuses (medium_accesses run.volume run.image) kind b c → IsRefusedOfAll asks refuses (run_accesses run) kind p q
-    medium_lacks kind refused = after_random kind (refused-first (medium_accesses run.volume run.image) since_input kind b c q (medium_refused run.volume run.image kind b c refused) from_input)
+    pub medium_lacks : (kind : ErrorKind) → IsRefusedAmong asks refuses (medium_accesses run.volume run.image_from run.image) kind b c → IsRefusedOfAll asks refuses (run_accesses run) kind p q
+    medium_lacks kind refused = after_random kind (refused-first (medium_accesses run.volume run.image_from run.image) since_input kind b c q (medium_refused run.volume run.image_from run.image kind b c refused) from_input)
 
     pub input_lacks : (kind : ErrorKind) → IsRefusedAmong asks refuses (where_named Opens run.stdin) kind c d → IsRefusedOfAll asks refuses (run_accesses run) kind p q
     input_lacks kind refused = after_medium kind (refused-first (where_named Opens run.stdin) since_out kind c d q (one_refused Opens run.stdin kind c d refused) from_out)
@@ -192,7 +203,7 @@ module _ {P : Type 0} (asks : Access → P → P → Type 0) (refuses : Access �
     err_lacks kind refused = after_out kind (refused-first (where_named Makes run.stderr) since_profile kind e f q (one_refused Makes run.stderr kind e f refused) from_profile)
 
     pub profile_lacks : (kind : ErrorKind) → IsRefusedAmong asks refuses (where_named Makes run.profile) kind f g → IsRefusedOfAll asks refuses (run_accesses run) kind p q
-    profile_lacks kind refused = after_err kind (refused-first (where_named Makes run.profile) (where_named Receives run.volume_out) kind f g q (one_refused Makes run.profile kind f g refused) received)
+    profile_lacks kind refused = after_err kind (refused-first (where_named Makes run.profile) (where_named Receives (receiver_of run)) kind f g q (one_refused Makes run.profile kind f g refused) received)
 
-    pub receiver_lacks : (kind : ErrorKind) → IsRefusedAmong asks refuses (where_named Receives run.volume_out) kind g q → IsRefusedOfAll asks refuses (run_accesses run) kind p q
-    receiver_lacks kind refused = after_err kind (refused-later (where_named Makes run.profile) (where_named Receives run.volume_out) kind f g q profile (one_refused Receives run.volume_out kind g q refused))
+    pub receiver_lacks : (kind : ErrorKind) → IsRefusedAmong asks refuses (where_named Receives (receiver_of run)) kind g q → IsRefusedOfAll asks refuses (run_accesses run) kind p q
+    receiver_lacks kind refused = after_err kind (refused-later (where_named Makes run.profile) (where_named Receives (receiver_of run)) kind f g q profile (one_refused Receives (receiver_of run) kind g q refused))

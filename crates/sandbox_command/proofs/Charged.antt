@@ -46,6 +46,11 @@ pub none_tells : (given : Option Stacks) (end : Option Stopped) → end ≡ None
 none_tells None end is = tt
 none_tells (Some stacks) end is = subst (λ (e : Option Stopped). TellsUse (Some stacks) e) (sym is) tt
 
+-- and of a run that didn't begin nothing is told
+pub untold : {X : Type 0} (given : Option X) → TellsUse given None
+untold None = tt
+untold (Some x) = tt
+
 -- ---- the stacks and the file that a run is given
 
 module _ {O : Type 0} (is_output : Text → O → Type 0) where

@@ -1,5 +1,5 @@
 -- A run alone that has ended: what it had is given up, and its status is none above 124.
-use Rattle.std.proofs.Common.{◌≡◌, ◌≤◌, ℕ, List, Option, Some, None, inl, inr, refl, sym, subst, arith}
+use Rattle.std.proofs.Common.{◌≡◌, ◌≤◌, ℕ, List, Option, Some, None, Result, Ok, Err, inl, inr, refl, sym, subst, arith}
 use Rattle.std.specs.Borrow.{Bor}
 use Rattle.std.specs.declared.io.ErrorKind.{ErrorKind}
 use Rattle.std.specs.declared.io.ErrorKind.TheVariants.{OutOfMemory}
@@ -8,6 +8,7 @@ use Rattle.std.specs.declared.io.Write.{Ghosts as Writer}
 use Rattle.vol_sector.specs.declared.device.Device.{Ghosts as Known}
 use Rattle.run_report.specs.declared.summary.Summary.{Summary}
 use Rattle.sandbox_device.specs.declared.ram_device.RamDevice.{RamDevice}
+use Rattle.volume_tasks.specs.declared.exporting.ExportFailure.{ExportFailure}
 use Rattle.sandbox_words.specs.declared.request.Run.{Run}
 use Rattle.sandbox_words.specs.declared.request.Invocation.{Invocation}
 use Rattle.sandbox_words.specs.declared.request.Invocation.TheVariants as asked
@@ -24,24 +25,24 @@ use Rattle.sandbox_command.specs.declared.streams.Spare.{Spare}
 use Rattle.sandbox_command.specs.declared.streams.Streams.{Streams}
 use Rattle.sandbox_command.specs.declared.profiling.FuelUse.{FuelUse}
 use Rattle.sandbox_command.specs.declared.stopping.Stopped.{Stopped}
-use Rattle.sandbox_command.specs.Alone.{Hands, HandsNothing, IsProfiled, IsTold, PrintsUse, RunsAlone, RunsOnMedium, RunsWith, left_of}
+use Rattle.sandbox_command.specs.Alone.{Gives, Hands, HandsAll, IsHandedOver, IsProfiled, IsTold, KeepsIt, PrintsUse, RunsAlone, RunsInMemory, RunsOnMedium, RunsWith, left_of, of_buffer}
 use Rattle.sandbox_command.specs.Around.{Around, in_memory}
 use Rattle.sandbox_command.specs.Execution.{Runs}
 use Rattle.sandbox_command.specs.Files.{Clashes, IsPerformed, RunsNamed}
 use Rattle.sandbox_command.specs.Flushing.{RunAnswered}
 use Rattle.sandbox_command.specs.Sources.{own_of, sink_answered, sink_contents, source_remaining}
-use Rattle.sandbox_command.specs.Status.{file_status}
+use Rattle.sandbox_command.specs.Status.{export_status, file_status, import_status}
 use Rattle.sandbox_command.specs.Modules.{profile_for}
 use Rattle.sandbox_command.specs.Stopping.{TellsLines}
 use Rattle.sandbox_command.specs.Streams.{AppendsSome}
 use Rattle.sandbox_command.specs.Testing.{RunsLines}
-use Rattle.sandbox_command.proofs.Bounds.{of_load, of_session, runs_within}
+use Rattle.sandbox_command.proofs.Bounds.{export_within, import_within, of_load, of_session, runs_within}
 use Rattle.sandbox_command.proofs.Lines.{lines_then}
 
 -- ---- what it had
 
 module _ {P I O V R W1 W2 : Type 0} (on : Around P I O V R W1 W2) {D : Type 0} (known : Known D)
-    (HandsIt : D → (before : ℕ) → Option Summary → P → P → (status : ℕ) → Option Summary → Type 0)
+    (HandsIt : D → (before : ℕ) → Option Summary → P → P → (status : ℕ) → Option Summary → D → Type 0)
     (run : Run) (device : D) (streams : Streams (Source I R) (Sink O W1) (Sink O W2)) (spare : Spare R W1 W2) (profile report : Option O) where
   abbrev Ended : (bytes random : List ℕ) → Executed D (Source I R) (Sink O W1) (Sink O W2) → Type 0
   Ended bytes random left = Runs known.honest known.disk known.size known.failures known.goes_on (source_remaining on.read.remaining on.input.remaining)
@@ -59,17 +60,18 @@ module _ {P I O V R W1 W2 : Type 0} (on : Around P I O V R W1 W2) {D : Type 0} (
       → (own : Sink O W2) → AppendsSome (told_in (own_of left.err spare.err)) (told_in own) → (all : Left D I O R W1 W2) → all ≡ left_of left spare own
       → (last : Sink O W2) → AppendsSome (told_in all.own) (told_in last)
       → (frames : Text) → TellsLines (profile_for run.floats) bytes run.frames left.stopped frames
-      → (handing : ℕ) (said : Option Summary) (before : ℕ) (summary : Option Summary) (p handed profiled told q : P) (status : ℕ) → HandsIt left.device left.status left.summary p handed handing said
+      → (settled : D) (handing : ℕ) (said : Option Summary) (before : ℕ) (summary : Option Summary) (p handed profiled told q : P) (status : ℕ) → HandsIt left.device left.status left.summary p handed handing said settled
       → IsProfiled on.places on.written bytes left.stopped run.profile profile handing said handed profiled before summary
-      → IsTold on.places on.written run.report report summary frames before profiled told status → on.places.ended (record all { own = last }) told q
+      → IsTold on.places on.written run.report report summary frames before profiled told status → on.places.ended (record all { device = settled; own = last }) told q
       → RunsWith on known HandsIt run items rest device streams spare profile report p q status
-  runs_with bytes items random rest first second left runs answered own lines all same last more frames are_lines handing said before summary p handed profiled told q status hands profiles tells ended = record {
+  runs_with bytes items random rest first second left runs answered own lines all same last more frames are_lines settled handing said before summary p handed profiled told q status hands profiles tells ended = record {
     left = left;
     runs = subst (λ (b : List ℕ). Ended b rest left) first (subst (λ (b : List ℕ). Ended bytes b left) second runs);
     answered = answered;
     handing = handing;
     said = said;
     handed = handed;
+    settled = settled;
     hands = hands;
     before = before;
     summary = summary;
@@ -81,7 +83,7 @@ module _ {P I O V R W1 W2 : Type 0} (on : Around P I O V R W1 W2) {D : Type 0} (
     tells = tells;
     own = last;
     lines = lines_then (told_in (own_of left.err spare.err)) (told_in own) (told_in last) lines (subst (λ (l : Left D I O R W1 W2). AppendsSome (told_in l.own) (told_in last)) same more);
-    ended = subst (λ (l : Left D I O R W1 W2). on.places.ended (record l { own = last }) told q) same ended;
+    ended = subst (λ (l : Left D I O R W1 W2). on.places.ended (record l { device = settled; own = last }) told q) same ended;
   }
 
 -- its streams
@@ -135,26 +137,48 @@ module _ {P I O V : Type 0} (places : Ghosts P I O V) where
   hands_within (Some name) device before said p q status summary (inr (asked, inl (handed, is, same))) most = within status before is most
   hands_within (Some name) device before said p q status summary (inr (asked, inr (kind, refused, fault, same))) most = omega (arith, fault)
 
+  gives_within : (name : Option (Bor Text)) (device : RamDevice) (before : ℕ) (said : Option Summary) (p q : P) (status : ℕ) (summary : Option Summary) (after : RamDevice) → Gives places name device before said p q status summary after → before ≤ 124 → status ≤ 124
+  gives_within None device before said p q status summary after is most = within status before is.0.1 most
+  gives_within (Some name) device before said p q status summary after (inl (none, is, same)) most = within status before is.1 most
+  gives_within (Some name) device before said p q status summary after (inr it) most = over it.done it.handed
+    where
+      over : (done : Result (Unit {0}) ExportFailure) → IsHandedOver places name.now it.stream done before said p q status summary → status ≤ 124
+      over (Ok x) (asked, inl (handed, is, same)) = within status before is most
+      over (Ok x) (asked, inr (kind, refused, fault, same)) = omega (arith, fault)
+      over (Err refusal) (nothing, is, same) = within status (export_status (of_buffer refusal)) is (export_within (of_buffer refusal))
+
+  all_within : (run : Run) (device : RamDevice) (before : ℕ) (said : Option Summary) (p q : P) (status : ℕ) (summary : Option Summary) (after : RamDevice) → HandsAll places run device before said p q status summary after → before ≤ 124 → status ≤ 124
+  all_within run device before said p q status summary after it most =
+      gives_within run.out_to device it.handing it.told it.handed q status summary after it.gives (hands_within run.volume_out device before said p it.handed it.handing it.told it.hands most)
+
 module _ {P I O V R W1 W2 : Type 0} (on : Around P I O V R W1 W2) where
-  with_within : {D : Type 0} (known : Known D) (HandsIt : D → (before : ℕ) → Option Summary → P → P → (status : ℕ) → Option Summary → Type 0)
-      → ((device : D) (before : ℕ) (said : Option Summary) (p q : P) (status : ℕ) (summary : Option Summary) → HandsIt device before said p q status summary → before ≤ 124 → status ≤ 124)
+  with_within : {D : Type 0} (known : Known D) (HandsIt : D → (before : ℕ) → Option Summary → P → P → (status : ℕ) → Option Summary → D → Type 0)
+      → ((device : D) (before : ℕ) (said : Option Summary) (p q : P) (status : ℕ) (summary : Option Summary) (after : D) → HandsIt device before said p q status summary after → before ≤ 124 → status ≤ 124)
       → (run : Run) (bytes : List ℕ) (random : Text) (device : D) (streams : Streams (Source I R) (Sink O W1) (Sink O W2)) (spare : Spare R W1 W2) (profile report : Option O) (p q : P) (status : ℕ)
       → RunsWith on known HandsIt run bytes random device streams spare profile report p q status → status ≤ 124
   with_within known HandsIt keeps run bytes random device streams spare profile report p q status it =
       told_within on.places on.written run.report report it.summary it.lines_of_frames it.before it.profiled it.told status it.tells
       (profiled_within on.places on.written bytes it.left.stopped run.profile profile it.handing it.said it.handed it.profiled it.before it.summary it.profiles
-      (keeps it.left.device it.left.status it.left.summary p it.handed it.handing it.said it.hands
+      (keeps it.left.device it.left.status it.left.summary p it.handed it.handing it.said it.settled it.hands
       (runs_within known.honest known.disk known.size known.failures known.goes_on (source_remaining on.read.remaining on.input.remaining)
       (sink_contents on.written.contents on.out.contents) (sink_contents on.written.contents on.err.contents) run bytes random device streams.input streams.out streams.err it.left it.runs)))
 
+  memory_within : (run : Run) (bytes : List ℕ) (random : Text) (device : RamDevice) (streams : Streams (Source I R) (Sink O W1) (Sink O W2)) (spare : Spare R W1 W2) (profile report : Option O) (p q : P) (status : ℕ)
+      → RunsInMemory on run bytes random device streams spare profile report p q status → status ≤ 124
+  memory_within run bytes random device streams spare profile report p q status it =
+      with_within in_memory (λ left before said p q status summary after. HandsAll on.places run left before said p q status summary after)
+      (λ left before said p q status summary after is most. all_within on.places run left before said p q status summary after is most)
+      run bytes random device streams spare profile report p q status it
+
   medium_within : (m : Medium V) (run : Run) (opened : Opened I O V) (given : Streams R W1 W2) (report : Option O) (p q : P) (status : ℕ) → RunsOnMedium on m run opened given report p q status → status ≤ 124
   medium_within (medium.File device) run opened given report p q status it =
-      with_within on.volume (λ left before said p q status summary. HandsNothing on.places before said p q status summary) (λ left before said p q status summary is most. within status before is.1 most)
+      with_within on.volume (λ left before said p q status summary after. KeepsIt on.places left before said p q status summary after) (λ left before said p q status summary after is most. within status before is.0.1 most)
       run _ _ device _ _ _ report p q status it
-  medium_within (medium.Memory device) run opened given report p q status it =
-      with_within in_memory (λ left before said p q status summary. Hands on.places run.volume_out left before said p q status summary)
-      (λ left before said p q status summary is most. hands_within on.places run.volume_out left before said p q status summary is most)
-      run _ _ device _ _ _ report p q status it
+  medium_within (medium.Memory device) run opened given report p q status it = memory_within run _ _ device _ _ _ report p q status it
+  medium_within (medium.Archive bytes) run opened given report p q status (inl (device, fills, it)) = memory_within run _ _ device _ _ _ report p q status it
+  medium_within (medium.Archive bytes) run opened given report p q status (inr it) =
+      told_within on.places on.written run.report report it.summary it.lines_of_none it.before it.profiled it.told status it.tells
+      (profiled_within on.places on.written opened.«module».items None run.profile _ (import_status it.refusal) _ p it.profiled it.before it.summary it.profiles (import_within it.refusal))
 
   pub alone_within : (run : Run) (given : Streams R W1 W2) (p q : P) (status : ℕ) → RunsAlone on run given p q status → status ≤ 124
   alone_within run given p q status (inl untold) = elim untold.why [

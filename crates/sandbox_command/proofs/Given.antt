@@ -5,7 +5,7 @@ use Rattle.std.specs.IoError.{error_kind}
 use Rattle.std.specs.declared.io.Error.{Error}
 use Rattle.sandbox_device.specs.declared.ram_device.RamDevice.{RamDevice}
 use Rattle.sandbox_words.specs.Request.{Text}
-use Rattle.sandbox_command.specs.Places.{Access, Gave, Took, WasHandedOut, WasRefused, gave, took, was_handed_out, was_refused}
+use Rattle.sandbox_command.specs.Places.{Access, Gave, Took, WasHandedOut, WasHandedOver, WasRefused, gave, took, was_handed_out, was_handed_over, was_refused}
 
 pub given : {X Y : Type 0} (name : Text) (f : X → Y) (r : Result X Error) → IfOk r (λ x. Gave name (f x))
 given name f (Ok x) = gave name (f x)
@@ -18,6 +18,10 @@ taken name text (Err e) = tt
 pub handed : {X : Type 0} (name : Text) (device : RamDevice) (r : Result X Error) → OnOk r (WasHandedOut name device)
 handed name device (Ok x) = was_handed_out name device
 handed name device (Err e) = tt
+
+pub handed_over : {X : Type 0} (name bytes : Text) (r : Result X Error) → OnOk r (WasHandedOver name bytes)
+handed_over name bytes (Ok x) = was_handed_over name bytes
+handed_over name bytes (Err e) = tt
 
 -- of a file that doesn't tell its bytes nothing is known
 pub nothing_told : {X : Type 0} (text : Text) (r : Result X Error) → OnOk r (Appends None None text)

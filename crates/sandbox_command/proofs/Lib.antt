@@ -15,3 +15,5 @@ mod Seeding
 mod Charged
 mod Launching
 mod Upheld
+mod Arrived
+mod Filled

@@ -1,5 +1,5 @@
 -- A run of the program is a list of resumes of a session that begins, with a seed or without, interactive or not.
-use Rattle.std.proofs.Common.{◌≡◌, ℕ, [], ◌∷◌, Option}
+use Rattle.std.proofs.Common.{ℕ, [], ◌∷◌, Option}
 use Rattle.vol_sector.specs.Disk.{Image}
 use Rattle.vol_tree.specs.Stands.{StandsAs}
 use Rattle.wasm_module.specs.declared.module.Module.{Module}

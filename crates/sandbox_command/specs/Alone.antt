@@ -1,6 +1,6 @@
 -- A run alone, on the files that its words name (`docs/USING.md`, "The command `run`"), over any `Places`: what is asked for in
 -- turn, what the run begins with, how it ends, and that nothing follows on what it had.
-use Rattle.std.specs.Prelude.{◌≡◌, ◌⊎◌, ◌++◌, ℕ, List, Option, Some, None, IsSome, false, option_map}
+use Rattle.std.specs.Prelude.{◌≡◌, ◌⊎◌, ◌++◌, ℕ, List, [], Option, Some, None, Result, Ok, Err, IsSome, false, option_map, codes}
 use Rattle.std.specs.Borrow.{Bor}
 use Rattle.std.specs.Io.KnownBytes.{Appends}
 use Rattle.std.specs.declared.io.ErrorKind.{ErrorKind}
@@ -9,10 +9,16 @@ use Rattle.std.specs.declared.io.Write.{Ghosts as Writer}
 use Rattle.vol_sector.specs.declared.device.Device.{Ghosts as Known}
 use Rattle.wasm_steps.specs.declared.pause.Outcome.{Outcome}
 use Rattle.run_report.specs.declared.end.End.TheVariants.{Ran}
+use Rattle.run_report.specs.declared.summary.Kept.{Kept}
 use Rattle.run_report.specs.declared.summary.Kept.TheVariants as became
 use Rattle.run_report.specs.declared.summary.Summary.{Summary}
 use Rattle.run_report.specs.Reporting.{report_text}
 use Rattle.sandbox_device.specs.declared.ram_device.RamDevice.{RamDevice}
+use Rattle.volume_archive.specs.declared.reasons.Why.TheVariants as why
+use Rattle.volume_tasks.specs.declared.importing.ImportFailure.{ImportFailure}
+use Rattle.volume_tasks.specs.declared.exporting.ExportFailure.{ExportFailure}
+use Rattle.volume_tasks.specs.declared.exporting.ExportFailure.TheVariants as exporting
+use Rattle.volume_tasks.specs.Exporting.{PerformsExport}
 use Rattle.sandbox_words.specs.declared.request.Run.{Run}
 use Rattle.sandbox_words.specs.Request.{Text}
 use Rattle.sandbox_command.specs.declared.program.Executed.{Executed}
@@ -27,23 +33,46 @@ use Rattle.sandbox_command.specs.declared.opening.Medium.{Medium}
 use Rattle.sandbox_command.specs.declared.opening.Medium.TheVariants as medium
 use Rattle.sandbox_command.specs.declared.closing.Left.{Left}
 use Rattle.sandbox_command.specs.Around.{Around, EndsGiven, in_memory}
+use Rattle.sandbox_command.specs.Archive.{Fills, unfilled}
 use Rattle.sandbox_command.specs.Beginning.{IsImage, unread}
 use Rattle.sandbox_command.specs.Execution.{Runs}
-use Rattle.sandbox_command.specs.Places.{Chain, HandsOut, IsOfImage, IsOfName, IsOfRandom, IsRefusedAmong, IsRefusedOfAll, Prints, report_accesses, run_accesses}
+use Rattle.sandbox_command.specs.Places.{Chain, HandsOut, HandsOver, IsOfImage, IsOfName, IsOfRandom, IsRefusedAmong, IsRefusedOfAll, Prints, report_accesses, run_accesses}
 use Rattle.run_profile.specs.Stacks.{Stacks}
 use Rattle.sandbox_command.specs.declared.profiling.FuelUse.{FuelUse}
 use Rattle.sandbox_command.specs.declared.stopping.Stopped.{Stopped}
 use Rattle.sandbox_command.specs.Profiling.{IsProfileOf, no_stacks}
 use Rattle.sandbox_command.specs.Flushing.{RunAnswered}
 use Rattle.sandbox_command.specs.Sources.{guest_of, own_of, sink_answered, sink_contents, sink_of, source_of, source_remaining, spare_of}
-use Rattle.sandbox_command.specs.Status.{file_status}
+use Rattle.sandbox_command.specs.Status.{export_status, file_status, import_status}
 use Rattle.sandbox_command.specs.Modules.{profile_for}
 use Rattle.sandbox_command.specs.Stopping.{AreLinesOfNone, TellsLines}
 use Rattle.sandbox_command.specs.Streams.{AppendsSome}
 
+-- It begins with an empty volume in memory.
+abbrev pub IsFresh : Run → Type 0
+IsFresh run = (run.volume ≡ None) × (run.image_from ≡ None) × (run.image ≡ None)
+
 -- the report of a run whose volume couldn't be handed out
 abbrev pub lost : Summary → Summary
 lost summary = record summary { status = 124; volume = became.Failed }
+
+-- A buffer refuses bytes for want of memory alone.
+abbrev pub of_buffer : ExportFailure → ExportFailure
+of_buffer (exporting.Volume f) = exporting.Volume f
+of_buffer (exporting.Path e) = exporting.Path e
+of_buffer (exporting.Stopped why.Stream) = exporting.Stopped why.Memory
+of_buffer (exporting.Stopped w) = exporting.Stopped w
+
+-- what became of a tree that couldn't be printed: the guest is to blame for a name that no tar stream can have
+abbrev pub kept_of : ExportFailure → Kept
+kept_of (exporting.Volume f) = became.Failed
+kept_of (exporting.Path e) = became.Failed
+kept_of (exporting.Stopped (why.Tar fault)) = became.None
+kept_of (exporting.Stopped w) = became.Failed
+
+-- and the report of its run
+abbrev pub ungiven : ExportFailure → Summary → Summary
+ungiven refusal summary = record summary { status = export_status refusal; volume = kept_of refusal }
 
 -- the report of a run whose profile couldn't be printed
 abbrev pub unprofiled : Summary → Summary
@@ -65,18 +94,23 @@ file_of ledger = option_map (λ l. l.file) ledger
 module _ {P I O V : Type 0} (places : Ghosts P I O V) where
   -- ---- the files of a run
 
-  -- its volume is that of its file; or it is in memory, with the sectors of its image, or zeros
-  abbrev pub IsMedium : Known V → (volume image : Option (Bor Text)) → Medium V → Type 0
-  IsMedium known (Some file) image (medium.File device) = places.is_volume file.now device × (known.failures device ≡ 0)
-  IsMedium known (Some file) image (medium.Memory device) = ⊥
-  IsMedium known None image (medium.File device) = ⊥
-  IsMedium known None image (medium.Memory device) = IsImage image device.sectors × IsOfImage places.is_image image device
+  -- its volume is that of its file; or it is made of the tar stream of one; or it is in memory, with the sectors of its image, or zeros
+  abbrev pub IsMedium : Known V → (volume archive image : Option (Bor Text)) → Medium V → Type 0
+  IsMedium known (Some file) archive image (medium.File device) = places.is_volume file.now device × (known.failures device ≡ 0)
+  IsMedium known (Some file) archive image (medium.Memory device) = ⊥
+  IsMedium known (Some file) archive image (medium.Archive bytes) = ⊥
+  IsMedium known None (Some file) image (medium.File device) = ⊥
+  IsMedium known None (Some file) image (medium.Memory device) = ⊥
+  IsMedium known None (Some file) image (medium.Archive bytes) = places.is_beginning file.now 8589934592 bytes.items
+  IsMedium known None None image (medium.File device) = ⊥
+  IsMedium known None None image (medium.Memory device) = IsImage image device.sectors × IsOfImage places.is_image image device
+  IsMedium known None None image (medium.Archive bytes) = ⊥
 
   -- what the files of these names gave
   pub record AreOpened (known : Known V) (run : Run) (opened : Opened I O V) : Type 0 where
     pub its_module : places.is_beginning run.module.now 67108865 opened.module.items
     pub its_random : IsOfRandom (λ name. places.is_beginning name 67108864) run.random opened.random.items
-    pub its_medium : IsMedium known run.volume run.image opened.medium
+    pub its_medium : IsMedium known run.volume run.image_from run.image opened.medium
     pub its_input : IsOfName places.is_input run.stdin opened.stdin
     pub its_out : IsOfName places.is_output run.stdout opened.stdout
     pub its_err : IsOfName places.is_output run.stderr opened.stderr
@@ -85,7 +119,7 @@ module _ {P I O V : Type 0} (places : Ghosts P I O V) where
   -- All were asked for, and one was refused; or memory was wanting for the sectors of a run that names none, or for its stacks.
   abbrev pub Lacks : Run → ErrorKind → P → P → Type 0
   Lacks run kind p q = IsRefusedOfAll places.asked places.refused (run_accesses run) kind p q
-      ⊎ ((((run.volume ≡ None) × (run.image ≡ None)) ⊎ IsSome run.profile) × (kind ≡ OutOfMemory) × Chain places.asked (run_accesses run) p q)
+      ⊎ ((IsFresh run ⊎ IsSome run.profile) × (kind ≡ OutOfMemory) × Chain places.asked (run_accesses run) p q)
 
   -- ---- its report
 
@@ -107,6 +141,43 @@ module _ {P I O V : Type 0} (places : Ghosts P I O V) where
       ⊎ (places.asked (HandsOut name.now) p q
       × ((places.handed_out name.now device p q × (status ≡ before) × (summary ≡ said))
       ⊎ ((kind : ErrorKind) × places.refused (HandsOut name.now) kind p q × (status ≡ 124) × (summary ≡ option_map lost said))))
+
+  -- ---- its tree
+
+  -- What `export` prints was handed over, where it was printed whole; where it couldn't be, the status is 124. Else nothing was handed
+  -- over, and the status is that of the export.
+  abbrev pub IsHandedOver : (name stream : Text) → Result (Unit {0}) ExportFailure → (before : ℕ) → Option Summary → P → P → (status : ℕ) → Option Summary → Type 0
+  IsHandedOver name stream (Ok x) before said p q status summary = places.asked (HandsOver name) p q
+      × ((places.handed_over name stream p q × (status ≡ before) × (summary ≡ said))
+      ⊎ ((kind : ErrorKind) × places.refused (HandsOver name) kind p q × (status ≡ 124) × (summary ≡ option_map lost said)))
+  IsHandedOver name stream (Err refusal) before said p q status summary = (q ≡ p) × (status ≡ export_status (of_buffer refusal))
+      × (summary ≡ option_map (ungiven (of_buffer refusal)) said)
+
+  -- The root of the volume on the device was exported into a buffer, and that was handed over.
+  pub record GivesRoot (name : Text) (device : RamDevice) (before : ℕ) (said : Option Summary) (p q : P) (status : ℕ) (summary : Option Summary) (after : RamDevice) : Type 0 where
+    pub stream : Text
+    pub done : Result (Unit {0}) ExportFailure
+    pub exports : PerformsExport in_memory.honest in_memory.disk in_memory.size in_memory.failures (codes "/") device (Some []) (Some stream) after done
+    pub handed : IsHandedOver name stream done before said p q status summary
+
+  -- the same of a guest that ran, where that is asked for
+  abbrev pub Gives : Option (Bor Text) → RamDevice → (before : ℕ) → Option Summary → P → P → (status : ℕ) → Option Summary → RamDevice → Type 0
+  Gives None device before said p q status summary after = HandsNothing before said p q status summary × (after ≡ device)
+  Gives (Some name) device before said p q status summary after =
+      (((outcome : Outcome) (s : Summary) → said ≡ Some s → s.end ≡ Ran outcome → ⊥) × HandsNothing before said p q status summary × (after ≡ device))
+      ⊎ GivesRoot name.now device before said p q status summary after
+
+  -- nothing is handed out, and the device is as it was
+  abbrev pub KeepsIt : {D : Type 0} → D → (before : ℕ) → Option Summary → P → P → (status : ℕ) → Option Summary → D → Type 0
+  KeepsIt device before said p q status summary after = HandsNothing before said p q status summary × (after ≡ device)
+
+  -- the volume in memory is handed out, and then its tree is given, as the words of a run say
+  pub record HandsAll (run : Run) (device : RamDevice) (before : ℕ) (said : Option Summary) (p q : P) (status : ℕ) (summary : Option Summary) (after : RamDevice) : Type 0 where
+    pub handing : ℕ
+    pub told : Option Summary
+    pub handed : P
+    pub hands : Hands run.volume_out device before said p handed handing told
+    pub gives : Gives run.out_to device handing told handed q status summary after
 
 module _ {P I O V : Type 0} (places : Ghosts P I O V) (written : Writer O) where
   -- It was printed with these further lines into its file, which is at its end then; or that was refused, and the status is 124.
@@ -163,10 +234,22 @@ left_of ended spare own = record {
   spare_out = spare.out;
 }
 
+-- and when no guest ran
+abbrev pub unbegun_of : {I O R W1 W2 : Type 0} → Streams (Source I R) (Sink O W1) (Sink O W2) → Spare R W1 W2 → Sink O W2 → Left (Unit {0}) I O R W1 W2
+unbegun_of streams spare own = record {
+  device = tt;
+  input = streams.input;
+  out = streams.out;
+  guest = guest_of streams.err spare.err;
+  own = own;
+  spare_input = spare.input;
+  spare_out = spare.out;
+}
+
 module _ {P I O V R W1 W2 : Type 0} (on : Around P I O V R W1 W2) where
   -- A module was run on a device with these files and streams, and so it ended. Its volume was handed out where that is said, its
   -- profile and its report were printed, and all that it had was given up as it was then, but for lines of the program's own.
-  pub record RunsWith {D : Type 0} (known : Known D) (HandsIt : D → (before : ℕ) → Option Summary → P → P → (status : ℕ) → Option Summary → Type 0)
+  pub record RunsWith {D : Type 0} (known : Known D) (HandsIt : D → (before : ℕ) → Option Summary → P → P → (status : ℕ) → Option Summary → D → Type 0)
       (run : Run) (bytes : List ℕ) (random : Text) (device : D) (streams : Streams (Source I R) (Sink O W1) (Sink O W2)) (spare : Spare R W1 W2)
       (profile report : Option O) (p q : P) (status : ℕ) : Type 0 where
     pub left : Executed D (Source I R) (Sink O W1) (Sink O W2)
@@ -178,7 +261,8 @@ module _ {P I O V R W1 W2 : Type 0} (on : Around P I O V R W1 W2) where
     pub handing : ℕ
     pub said : Option Summary
     pub handed : P
-    pub hands : HandsIt left.device left.status left.summary p handed handing said
+    pub settled : D
+    pub hands : HandsIt left.device left.status left.summary p handed handing said settled
     pub before : ℕ
     pub summary : Option Summary
     pub profiled : P
@@ -191,7 +275,39 @@ module _ {P I O V R W1 W2 : Type 0} (on : Around P I O V R W1 W2) where
     pub own : Sink O W2
     pub lines : AppendsSome (sink_contents on.written.contents on.err.contents (own_of left.err spare.err))
         (sink_contents on.written.contents on.err.contents own)
-    pub ended : on.places.ended (left_of left spare own) told q
+    pub ended : on.places.ended (left_of (record left { device = settled }) spare own) told q
+
+  -- The tar stream of its volume is refused as `import` refuses one, and no guest ran. Its report says so.
+  pub record IsUnfilled (run : Run) (archive bytes : List ℕ) (streams : Streams (Source I R) (Sink O W1) (Sink O W2)) (spare : Spare R W1 W2)
+      (profile report : Option O) (p q : P) (status : ℕ) : Type 0 where
+    pub refusal : ImportFailure
+    pub why : Fills archive (Err refusal)
+    pub before : ℕ
+    pub summary : Option Summary
+    pub profiled : P
+    pub profiles : IsProfiled on.places on.written bytes None run.profile profile (import_status refusal) (Some (unfilled run refusal)) p profiled before summary
+    pub lines_of_none : Text
+    pub are_lines : AreLinesOfNone lines_of_none
+    pub told : P
+    pub tells : IsTold on.places on.written run.report report summary lines_of_none before profiled told status
+    pub own : Sink O W2
+    pub lines : AppendsSome (sink_contents on.written.contents on.err.contents (own_of streams.err spare.err))
+        (sink_contents on.written.contents on.err.contents own)
+    pub ended : on.places.ended (unbegun_of streams spare own) told q
+
+  -- in memory
+  abbrev pub RunsInMemory : Run → (bytes : List ℕ) → (random : Text) → RamDevice → Streams (Source I R) (Sink O W1) (Sink O W2) → Spare R W1 W2
+      → (profile report : Option O) → P → P → (status : ℕ) → Type 0
+  RunsInMemory run bytes random device streams spare profile report p q status =
+      RunsWith in_memory (λ left before said p q status summary after. HandsAll on.places run left before said p q status summary after)
+      run bytes random device streams spare profile report p q status
+
+  -- A volume was made of the tar stream, and the module was run on it; or it was refused.
+  abbrev pub RunsFilled : Run → (archive bytes : List ℕ) → (random : Text) → Streams (Source I R) (Sink O W1) (Sink O W2) → Spare R W1 W2
+      → (profile report : Option O) → P → P → (status : ℕ) → Type 0
+  RunsFilled run archive bytes random streams spare profile report p q status =
+      ((device : RamDevice) × Fills archive (Ok device) × RunsInMemory run bytes random device streams spare profile report p q status)
+      ⊎ IsUnfilled run archive bytes streams spare profile report p q status
 
   -- its streams are those that were given, but where it names files for them
   abbrev pub streams_of : Opened I O V → Streams R W1 W2 → Streams (Source I R) (Sink O W1) (Sink O W2)
@@ -202,10 +318,12 @@ module _ {P I O V R W1 W2 : Type 0} (on : Around P I O V R W1 W2) where
 
   -- on the file of its volume, or in memory
   abbrev pub RunsOnMedium : Medium V → Run → Opened I O V → Streams R W1 W2 → Option O → P → P → (status : ℕ) → Type 0
-  RunsOnMedium (medium.File device) run opened given report p q status = RunsWith on.volume (λ left before said p q status summary. HandsNothing on.places before said p q status summary)
+  RunsOnMedium (medium.File device) run opened given report p q status = RunsWith on.volume (λ left before said p q status summary after. KeepsIt on.places left before said p q status summary after)
       run opened.module.items opened.random.items device (streams_of opened given) (spare_streams opened given) (file_of opened.profile) report p q status
-  RunsOnMedium (medium.Memory device) run opened given report p q status = RunsWith in_memory (λ left before said p q status summary. Hands on.places run.volume_out left before said p q status summary)
-      run opened.module.items opened.random.items device (streams_of opened given) (spare_streams opened given) (file_of opened.profile) report p q status
+  RunsOnMedium (medium.Memory device) run opened given report p q status =
+      RunsInMemory run opened.module.items opened.random.items device (streams_of opened given) (spare_streams opened given) (file_of opened.profile) report p q status
+  RunsOnMedium (medium.Archive bytes) run opened given report p q status =
+      RunsFilled run bytes.items opened.module.items opened.random.items (streams_of opened given) (spare_streams opened given) (file_of opened.profile) report p q status
 
   -- ---- a run alone
 

@@ -1,7 +1,7 @@
 -- What is done on the files that a command line names (`docs/USING.md`, "Commands"), over any `Places` and, in `IsAnswered`,
 -- over the files of the system. No contract says which bytes a named file has; of a volume's file it is said what a crash
 -- leaves, by the premise `KeepsItsModel`. All that is asked for is said, and that nothing follows on what a command had.
-use Rattle.std.specs.Prelude.{◌≡◌, ◌⊎◌, ◌≤◌, ℕ, Bool, List, Option, Some, None, IsSome, IsSomeAnd, IsTrue, length}
+use Rattle.std.specs.Prelude.{◌≡◌, ◌⊎◌, ℕ, Bool, List, Option, Some, None, IsSome, IsSomeAnd, IsTrue, length}
 use Rattle.std.specs.Borrow.{Bor}
 use Rattle.std.specs.declared.fs.File.{File}
 use Rattle.std.specs.declared.io.ErrorKind.{ErrorKind as InputKind}
@@ -32,7 +32,7 @@ use Rattle.sandbox_command.specs.Flushing.{Answered}
 use Rattle.sandbox_command.specs.Formatting.{room_for, version_for}
 use Rattle.sandbox_command.specs.Modules.{profile_for}
 use Rattle.sandbox_command.specs.Inspecting.{Inspects}
-use Rattle.sandbox_command.specs.Places.{Access, Gave, HasRoom, Locks, Reads, Took, WasEnded, WasHandedOut, WasRefused, lengthens}
+use Rattle.sandbox_command.specs.Places.{Access, Gave, HasRoom, Locks, Reads, Took, WasEnded, WasHandedOut, WasHandedOver, WasRefused, lengthens}
 use Rattle.sandbox_command.specs.Status.{command_line_status, file_status, words_status}
 use Rattle.sandbox_command.specs.Streams.{AppendsSome}
 use Rattle.sandbox_command.specs.Testing.{RunsList}
@@ -40,17 +40,25 @@ pub use Rattle.sandbox_command.specs.Beginning.{IsImage, memory_disk}
 
 -- what each run of a list of tests has of its own, or can't have
 abbrev pub IsForOneRun : Run → Type 0
-IsForOneRun run = IsSome run.stdin ⊎ (IsSome run.stdout ⊎ (IsSome run.stderr ⊎ (IsSome run.report ⊎ (IsSome run.volume ⊎ (IsSome run.volume_out ⊎ IsSome run.profile)))))
+IsForOneRun run = IsSome run.stdin ⊎ (IsSome run.stdout ⊎ (IsSome run.stderr ⊎ (IsSome run.report ⊎ (IsSome run.volume ⊎ (IsSome run.volume_out ⊎ (IsSome run.profile ⊎ (IsSome run.image_from ⊎ IsSome run.out_to)))))))
 
 -- its stack is to be looked at in steps of no unit, or for no profile
 abbrev pub HasWrongSteps : Run → Type 0
 HasWrongSteps run = (run.profile_every ≡ Some 0) ⊎ (IsSome run.profile_every × (run.profile ≡ None))
 
--- A run whose options don't go together: an image beside a volume of its own, a file that its volume is to be handed out
--- into without an image, a seed beside random bytes, a list of tests beside what is for one run, or steps of a profile that isn't wanted.
--- Or a volume is to be large and huge.
+-- it would begin with two volumes: one of its own, an image, or what a tar stream makes
+abbrev pub HasTwoVolumes : Run → Type 0
+HasTwoVolumes run = (IsSome run.image × IsSome run.volume) ⊎ (IsSome run.image_from × (IsSome run.volume ⊎ IsSome run.image))
+
+-- What it leaves would be given out where nothing but its own file has it, or twice: its volume without an image or a tar stream to
+-- begin with, or its tree beside a volume of its own, or beside its volume.
+abbrev pub IsMisgiven : Run → Type 0
+IsMisgiven run = (IsSome run.volume_out × (run.image ≡ None) × (run.image_from ≡ None)) ⊎ (IsSome run.out_to × (IsSome run.volume ⊎ IsSome run.volume_out))
+
+-- A run whose options don't go together: two volumes, what it leaves given out so, a seed beside random bytes, a list of tests beside
+-- what is for one run, or steps of a profile that isn't wanted. Or a volume is to be large and huge.
 abbrev pub Clashes : Invocation → Type 0
-Clashes (asked.Run run) = (IsSome run.image × IsSome run.volume) ⊎ ((IsSome run.volume_out × (run.image ≡ None)) ⊎ ((IsSome run.seed × IsSome run.random)
+Clashes (asked.Run run) = HasTwoVolumes run ⊎ (IsMisgiven run ⊎ ((IsSome run.seed × IsSome run.random)
     ⊎ ((IsSome run.tests × IsForOneRun run) ⊎ HasWrongSteps run)))
 Clashes (asked.Format file sectors slots large huge new) = IsTrue large × IsTrue huge
 Clashes _ = ⊥
@@ -139,6 +147,7 @@ system input out err flushes = record {
     is_beginning = λ name most bytes. Gave name bytes;
     printed = λ name text before after. Took name text;
     handed_out = λ name device before after. WasHandedOut name device;
+    handed_over = λ name bytes before after. WasHandedOver name bytes;
     ended = λ {X} it before after. WasEnded it;
   };
   read = record { remaining = λ file. None };

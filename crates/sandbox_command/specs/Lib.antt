@@ -18,6 +18,7 @@ pub mod Upheld
 pub mod Beginning
 pub mod Places
 pub mod Around
+pub mod Archive
 pub mod Alone
 pub mod Testing
 pub mod Formatting

@@ -1,6 +1,6 @@
 -- What is asked of `Places`, through which all is done with files, by name
 -- (`crates/sandbox_command/src/places.rt`): contracts over any `Places` say by `Chain` what was asked for between two
--- of its states, in which order. `Gave`, `Took`, `WasRefused`, `WasHandedOut` and `WasEnded` stand for what the system did
+-- of its states, in which order. `Gave`, `Took`, `WasRefused`, `WasHandedOut`, `WasHandedOver` and `WasEnded` stand for what the system did
 -- with a named file, and for what a command gave up; only the proofs of `HostPlaces` introduce them.
 use Rattle.std.specs.Prelude.{◌≡◌, ◌⊎◌, ◌≤◌, ◌++◌, ℕ, Bool, true, false, List, [], ◌∷◌, Option, Some, None}
 use Rattle.std.specs.Borrow.{Bor}
@@ -10,11 +10,12 @@ use Rattle.volume_tasks.specs.Formatting.{BeginsAsVolume}
 use Rattle.sandbox_device.specs.declared.ram_device.RamDevice.{RamDevice}
 use Rattle.sandbox_words.specs.declared.request.Run.{Run}
 use Rattle.sandbox_words.specs.Request.{Text}
+use Rattle.sandbox_command.specs.Reporting.{receiver_of}
 
 -- A file of this name is opened to read; or opened or made, to be written from its beginning; or one that was made is cut
 -- to nothing; or a file is read whole and not written; or it is that of a volume, which is locked and read, or made or
--- lengthened to these sectors before, unless it is to be new and begins as a volume; or it is opened and locked to get a volume
--- at the end, and gets it; or a report or a profile is printed into one that was made.
+-- lengthened to these sectors before, unless it is to be new and begins as a volume; or it is opened and locked to get a volume,
+-- or a tree of one as a tar stream, at the end, and gets it; or a report or a profile is printed into one that was made.
 pub data Access : Type 0 where
   Opens : Text → Access
   Makes : Text → Access
@@ -25,6 +26,7 @@ pub data Access : Type 0 where
   LengthensNew : Text → ℕ → Access
   Receives : Text → Access
   HandsOut : Text → Access
+  HandsOver : Text → Access
   Prints : Text → Access
 
 -- Each of these took one state on to the next: the first from p, the last to q.
@@ -71,16 +73,17 @@ reads_of named = where_named Reads named
 abbrev pub file_accesses : Run → List Access
 file_accesses run = Reads run.module.now ∷ reads_of run.random
 
--- the file of a volume, where one is named; else that of an image, where one is
-abbrev pub medium_accesses : (volume image : Option (Bor Text)) → List Access
-medium_accesses (Some file) image = Locks file.now ∷ []
-medium_accesses None image = reads_of image
+-- the file of a volume, where one is named; else that of a tar stream or of an image, where one is
+abbrev pub medium_accesses : (volume archive image : Option (Bor Text)) → List Access
+medium_accesses (Some file) archive image = Locks file.now ∷ []
+medium_accesses None (Some file) image = Reads file.now ∷ []
+medium_accesses None None image = reads_of image
 
 -- All files of a run alone but its report. All of them are asked for, whichever is refused, so that it is known which have a
 -- part in the run when its report is made.
 abbrev pub run_accesses : Run → List Access
-run_accesses run = (Reads run.module.now ∷ []) ++ (reads_of run.random ++ (medium_accesses run.volume run.image ++ (where_named Opens run.stdin
-    ++ (where_named Makes run.stdout ++ (where_named Makes run.stderr ++ (where_named Makes run.profile ++ where_named Receives run.volume_out))))))
+run_accesses run = (Reads run.module.now ∷ []) ++ (reads_of run.random ++ (medium_accesses run.volume run.image_from run.image ++ (where_named Opens run.stdin
+    ++ (where_named Makes run.stdout ++ (where_named Makes run.stderr ++ (where_named Makes run.profile ++ where_named Receives (receiver_of run)))))))
 
 -- the file of a report is made and cut to nothing, where one is named
 abbrev pub report_accesses : Option (Bor Text) → List Access
@@ -105,7 +108,7 @@ IsOfRandom is_beginning None bytes = bytes ≡ []
 IsOfRandom is_beginning (Some file) bytes = is_beginning file.now bytes
 
 -- The system gave this for the name; or took this text into the file that it gave; or refused this, and why; or the file of
--- the name got this volume; or this was given up as it is. No contract says
+-- the name got this volume, or these bytes; or this was given up as it is. No contract says
 -- which bytes a named file has, nor what the system refuses, so `gave`, `took` and the like show it of anything; but only
 -- the proofs of `HostPlaces` cite these, and all others see relations of which they know nothing.
 pub Gave : {X : Type 0} → Text → X → Type 0
@@ -135,6 +138,13 @@ WasHandedOut name device = Unit {0}
 pub was_handed_out : (name : Text) (device : RamDevice) → WasHandedOut name device
 unfolding WasHandedOut
 was_handed_out name device = tt
+
+pub WasHandedOver : (name bytes : Text) → Type 0
+WasHandedOver name bytes = Unit {0}
+
+pub was_handed_over : (name bytes : Text) → WasHandedOver name bytes
+unfolding WasHandedOver
+was_handed_over name bytes = tt
 
 pub WasEnded : {X : Type 0} → X → Type 0
 WasEnded x = Unit {0}

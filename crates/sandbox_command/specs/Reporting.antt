@@ -24,13 +24,17 @@ use Rattle.run_report.specs.declared.summary.Summary.{Summary}
 
 -- ---- the volume of a run
 
--- the file that a run finds its volume in, its own or an image; where there is none, it begins with an empty one
+-- the file that a run finds its volume in, its own, an image or a tar stream; where there is none, it begins with an empty one
 abbrev pub volume_of : Run → Option (Bor Text)
-volume_of run = option_or run.volume run.image
+volume_of run = option_or run.volume (option_or run.image run.image_from)
 
--- the file that its volume stays in, its own or one that it is handed out into
+-- the file that gets its volume at the end, or the tree of that as a tar stream
+abbrev pub receiver_of : Run → Option (Bor Text)
+receiver_of run = option_or run.volume_out run.out_to
+
+-- the file that its volume stays in, its own or one that gets it
 abbrev pub kept_in : Run → Option (Bor Text)
-kept_in run = option_or run.volume run.volume_out
+kept_in run = option_or run.volume (receiver_of run)
 
 -- ---- a run that could not begin
 

@@ -1,6 +1,6 @@
 //! The end of a run alone: the program's own lines, its volume handed out, its report, and all that it had given up.
 
-ghost use Rattle.std.specs.Prelude.{◌≡◌, Some, IfErr, OnOk, false, option_and_then, option_map};
+ghost use Rattle.std.specs.Prelude.{◌≡◌, Ok, Some, IfErr, OnOk, false, option_and_then, option_map};
 ghost use Rattle.std.specs.Io.KnownBytes.{Appends};
 ghost use Rattle.std.specs.IoError.{error_kind};
 ghost use Rattle.run_report.specs.declared.end.End.TheVariants.{Ran};
@@ -8,15 +8,16 @@ ghost use Rattle.sandbox_command.specs.declared.streams.Sink.{Sink as SinkValue}
 ghost use Rattle.run_report.specs.declared.summary.Summary.{Summary as SummaryValue};
 ghost use Rattle.sandbox_words.specs.Request.{Text};
 ghost use Rattle.wasm_steps.specs.declared.pause.Outcome.{Outcome};
-ghost use Rattle.sandbox_command.specs.Alone.{Hands, IsProfiled, IsTold, PrintsProfile, left_of, lost, unprofiled};
+ghost use Rattle.sandbox_command.specs.Alone.{Gives, Hands, HandsAll, IsHandedOver, IsProfiled, IsTold, PrintsProfile, kept_of, left_of, lost, of_buffer, ungiven, unprofiled};
 ghost use Rattle.sandbox_command.specs.Beginning.{unread};
 ghost use Rattle.sandbox_command.specs.Places.{IsOfName, Prints};
 ghost use Rattle.sandbox_command.specs.Profiling.{IsProfileOf, TellsUse};
 ghost use Rattle.sandbox_command.specs.Sources.{own_of, sink_contents};
-ghost use Rattle.sandbox_command.specs.Status.{file_status};
+ghost use Rattle.sandbox_command.specs.Status.{export_status, file_status};
 ghost use Rattle.sandbox_command.specs.Streams.{AppendsSome};
 
-use crate::explaining::tell_of_kind;
+use crate::ending::Failed;
+use crate::explaining::{About, tell_of_kind};
 use crate::output::tell_of_file;
 use crate::places::Places;
 use crate::possession::is_silent;
@@ -27,12 +28,18 @@ use crate::refusals::{tell_of_outcome, tell_of_refusal};
 use crate::reporting::not_run;
 use crate::stopping::{Stopped, tell_frames};
 use crate::streams::{Sink, Source, Spare, apart};
+use crate::work::VolumeWork;
 use run_report::{End, Fault, Kept, Summary};
 use sandbox_device::{Hindrance, RamDevice};
 use sandbox_words::Run;
 use std::alloc::Global;
 use std::io;
 use std::io::{ErrorKind, Write};
+use volume_archive::Why;
+use volume_tasks::{ExportFailure, export_from};
+
+/// The directory of a volume whose tree is given.
+const ROOT: &str = "/";
 
 /// All that a run had, when nothing more is done with it.
 #[derive(Drop)]
@@ -154,6 +161,20 @@ fn not_kept(summary: Option<Summary>) -> Option<Summary>
     })
 }
 
+/// Says how a run ended, in the place of this, of which this file couldn't get what it was to get.
+fn undelivered<W: Write>(err: &mut W, path: &str, kind: ErrorKind, ending: Ending) -> Ending
+    ensures status { result.status ≡ 124 }
+    ensures summary { result.summary ≡ option_map lost ending.summary }
+    ensures lines { AppendsSome (W.contents err.old) (W.contents err.new) }
+{
+    let status = program::refuse_file(err);
+    tell_of_kind(err, path, kind);
+    Ending {
+        status,
+        summary: not_kept(ending.summary),
+    }
+}
+
 /// Hands out the volume of a run that began, as it has ended, where that is asked for.
 pub(crate) fn handed_out<P: Places, W: Write>(
     places: &mut P,
@@ -176,15 +197,161 @@ pub(crate) fn handed_out<P: Places, W: Write>(
             tell_hindrance(err, path, hindrance);
             ending
         }
-        Err(error) => {
-            let status = program::refuse_file(err);
-            tell_of_kind(err, path, error.kind());
-            Ending {
-                status,
-                summary: not_kept(ending.summary),
-            }
-        }
+        Err(error) => undelivered(err, path, error.kind(), ending),
     }
+}
+
+/// What refuses the bytes of a buffer is memory.
+fn of_buffer(failure: ExportFailure) -> ExportFailure
+    ensures { result ≡ of_buffer failure }
+{
+    match failure {
+        ExportFailure::Stopped(Why::Stream) => ExportFailure::Stopped(Why::Memory),
+        failure => failure,
+    }
+}
+
+/// What became of a tree that couldn't be printed: the guest is to blame for a name that no tar stream can have.
+fn kept_of(failure: ExportFailure) -> Kept
+    ensures { result ≡ kept_of failure }
+{
+    match failure {
+        ExportFailure::Stopped(Why::Tar(_)) => Kept::None,
+        _ => Kept::Failed,
+    }
+}
+
+/// What is said of a run whose tree couldn't be printed, and which ends with this status.
+fn not_given(summary: Option<Summary>, failure: ExportFailure, status: u8) -> Option<Summary>
+    requires { status ≡ export_status failure }
+    ensures { result ≡ option_map (ungiven failure) summary }
+{
+    let summary = summary?;
+    Some(Summary {
+        status,
+        volume: kept_of(failure),
+        ..summary
+    })
+}
+
+/// Says how a run ended, in the place of this, whose tree couldn't be printed for this file.
+fn ungiven<W: Write>(err: &mut W, path: &str, failure: ExportFailure, ending: Ending) -> Ending
+    ensures status { result.status ≡ export_status failure }
+    ensures summary { result.summary ≡ option_map (ungiven failure) ending.summary }
+    ensures lines { AppendsSome (W.contents err.old) (W.contents err.new) }
+{
+    let about = About {
+        file: path,
+        work: VolumeWork::Export { path: ROOT },
+        stream: Some(path),
+    };
+    let status = failure.say(err, &about);
+    Ending {
+        status,
+        summary: not_given(ending.summary, failure, status),
+    }
+}
+
+/// Hands over all that an export printed, and gives how the run ended then.
+fn given_over<P: Places, W: Write>(
+    places: &mut P,
+    path: &str,
+    stream: &[u8],
+    ending: Ending,
+    err: &mut W,
+) -> Ending
+    ensures hands { IsHandedOver P.Places path.now stream.now (Ok tt) ending.status ending.summary
+        places.old places.new result.status result.summary }
+    ensures lines { AppendsSome (W.contents err.old) (W.contents err.new) }
+{
+    match places.hand_over(path, stream) {
+        Ok(hindrance) => {
+            tell_hindrance(err, path, hindrance);
+            ending
+        }
+        Err(error) => undelivered(err, path, error.kind(), ending),
+    }
+}
+
+/// Hands over what an export printed, where it printed all, and gives how the run ended then.
+fn handed_over<P: Places, W: Write>(
+    places: &mut P,
+    path: &str,
+    stream: &[u8],
+    done: Result<(), ExportFailure>,
+    ending: Ending,
+    err: &mut W,
+) -> Ending
+    ensures hands { IsHandedOver P.Places path.now stream.now done ending.status ending.summary
+        places.old places.new result.status result.summary }
+    ensures lines { AppendsSome (W.contents err.old) (W.contents err.new) }
+{
+    match done {
+        Ok(()) => given_over(places, path, stream, ending, err),
+        Err(failure) => ungiven(err, path, of_buffer(failure), ending),
+    }
+}
+
+/// Gives the tree of the volume of a run that began as a tar stream, as it has ended, where that is asked for. Gives the device back.
+fn given<P: Places, W: Write>(
+    alloc: Global,
+    places: &mut P,
+    name: Option<&str>,
+    device: RamDevice,
+    ending: Ending,
+    err: &mut W,
+) -> (Ending, RamDevice)
+    ensures gives { Gives P.Places name.entry device ending.status ending.summary places.old places.new
+        result.0.status result.0.summary result.1 }
+    ensures lines { AppendsSome (W.contents err.old) (W.contents err.new) }
+{
+    let Some(path) = name else {
+        return (ending, device);
+    };
+    if !has_begun(&ending.summary) {
+        return (ending, device);
+    }
+    let mut stream = Vec::new(alloc);
+    let (done, device) = export_from(alloc, device, ROOT, &mut stream);
+    let ending = handed_over(places, path, stream.as_slice(), done, ending, err);
+    (ending, device)
+}
+
+/// Hands out the volume of a run that began, and gives its tree, as it has ended, where that is asked for.
+pub(crate) fn delivered<P: Places, R: Drop, W1: Drop, W2: Write + Drop>(
+    alloc: Global,
+    places: &mut P,
+    run: &Run<'_>,
+    left: Left<RamDevice, P::Input, P::Output, R, W1, W2>,
+    ending: Ending,
+) -> (Ending, Left<RamDevice, P::Input, P::Output, R, W1, W2>)
+    ensures hands { HandsAll P.Places run.now left.device ending.status ending.summary places.old places.new
+        result.0.status result.0.summary result.1.device }
+    ensures rest { (own : SinkValue P.Output W2) × (result.1 ≡ record left { device = result.1.device; own = own })
+        × AppendsSome (sink_contents P.Output.contents W2.contents left.own) (sink_contents P.Output.contents W2.contents own) }
+{
+    let Left {
+        device,
+        input,
+        out,
+        guest,
+        own,
+        spare_input,
+        spare_out,
+    } = left;
+    let mut own = own;
+    let ending = handed_out(places, run.volume_out, &device, ending, &mut own);
+    let (ending, device) = given(alloc, places, run.out_to, device, ending, &mut own);
+    let left = Left {
+        device,
+        input,
+        out,
+        guest,
+        own,
+        spare_input,
+        spare_out,
+    };
+    (ending, left)
 }
 
 /// What is said of a run whose profile couldn't be printed.

@@ -119,12 +119,15 @@ fn tell_of_archive<W: Write>(err: &mut W, why: Why, about: &About<'_>)
     match why {
         Why::Tree(errno) => about.tell_of_errno(err, errno),
         Why::Stream => about.tell_of_stream(err),
-        Why::Cut => tell_words(
-            err,
-            "standard input",
-            "it is no tar stream, or a part of one",
-            "tar -c makes one",
-        ),
+        Why::Cut => {
+            let name = about.input();
+            tell_words(
+                err,
+                name,
+                "it is no tar stream, or a part of one",
+                "tar -c makes one",
+            );
+        }
         _ => {}
     }
 }

@@ -23,6 +23,8 @@ pub(crate) struct About<'a> {
     /// The volume's file.
     pub(crate) file: &'a str,
     pub(crate) work: VolumeWork<'a>,
+    /// The file that it reads or writes in the place of a standard stream.
+    pub(crate) stream: Option<&'a str>,
 }
 
 /// Prints a part of a line behind another one, where it has bytes.
@@ -159,7 +161,32 @@ fn tell_of_two<W: Write>(err: &mut W, from: &str, to: &str, meaning: &str, cure:
     say_meaning(err, meaning, cure);
 }
 
-impl About<'_> {
+impl<'a> About<'a> {
+    /// With the standard streams.
+    pub(crate) fn of(file: &'a str, work: VolumeWork<'a>) -> About<'a> {
+        About {
+            file,
+            work,
+            stream: None,
+        }
+    }
+
+    /// What it reads.
+    pub(crate) fn input(&self) -> &'a str {
+        match self.stream {
+            Some(name) => name,
+            None => "standard input",
+        }
+    }
+
+    /// What it writes.
+    fn output(&self) -> &'a str {
+        match self.stream {
+            Some(name) => name,
+            None => "standard output",
+        }
+    }
+
     /// Prints what an errno means that its paths were answered with.
     pub(crate) fn tell_of_errno<W: Write>(&self, err: &mut W, errno: Errno)
         ensures { AppendsSome (W.contents err.old) (W.contents err.new) }
@@ -194,19 +221,16 @@ impl About<'_> {
         }
     }
 
-    /// Prints that its standard stream failed.
+    /// Prints that its stream failed.
     pub(crate) fn tell_of_stream<W: Write>(&self, err: &mut W)
         ensures { AppendsSome (W.contents err.old) (W.contents err.new) }
     {
         if is_of_input(self.work) {
-            tell_words(
-                err,
-                "standard input",
-                "it can't be read",
-                "look at who writes it",
-            );
+            let name = self.input();
+            tell_words(err, name, "it can't be read", "look at who writes it");
         } else {
-            tell_of_output(err, "standard output");
+            let name = self.output();
+            tell_of_output(err, name);
         }
     }
 }

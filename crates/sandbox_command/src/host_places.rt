@@ -4,7 +4,7 @@ ghost use Rattle.std.specs.Prelude.{◌≡◌, ◌≤◌, IfOk, Ok, OnOk, false,
 ghost use Rattle.sandbox_words.specs.Request.{Text};
 ghost use Rattle.sandbox_command.specs.Files.{file_disk};
 ghost use Rattle.sandbox_command.specs.Profiling.{IsProfile};
-ghost use Rattle.sandbox_command.specs.Places.{Gave, HasRoom, Took, WasEnded, WasHandedOut, WasRefused};
+ghost use Rattle.sandbox_command.specs.Places.{Gave, HasRoom, Took, WasEnded, WasHandedOut, WasHandedOver, WasRefused};
 
 use crate::clashing::clashes;
 use crate::host_volume::HostVolume;
@@ -13,7 +13,8 @@ use crate::possession::{Held, refuse_errors, refuse_errors_of};
 use run_profile::{Names, Profile};
 use run_report::{Printed, Summary};
 use sandbox_device::{
-    FileDevice, Hindrance, Identity, Output, RamDevice, Replacement, open_image, open_to_read,
+    Contents, FileDevice, Hindrance, Identity, Output, RamDevice, Replacement, open_image,
+    open_to_read,
 };
 use sandbox_words::{Invocation, Run};
 use std::alloc::Global;
@@ -32,7 +33,7 @@ pub(crate) struct HostPlaces<'a> {
     held: Held,
     /// Files that are read later, held open until then.
     ahead: Vec<File>,
-    /// What gets a volume at the end.
+    /// What gets a volume, or the tree of one, at the end.
     receiver: Option<Replacement>,
     /// Why the first file that is asked for is refused, whatever it is.
     refused: Option<ErrorKind>,
@@ -164,7 +165,7 @@ impl<'a> HostPlaces<'a> {
         volume_in(self.rt.alloc(), file, sectors, only_new)
     }
 
-    /// Opens what gets a volume at the end, which may be the image.
+    /// Opens what gets a volume at the end, which may be the image, or the tree of one.
     fn received(&mut self, name: &str) -> io::Result<()> {
         let it = self.or_twice(name, Replacement::open(self.rt, name))?;
         self.held.take_volume(it.identity()?)?;
@@ -173,9 +174,9 @@ impl<'a> HostPlaces<'a> {
     }
 
     /// Replaces what was opened so.
-    fn replaced(&mut self, device: &RamDevice) -> io::Result<Option<Hindrance>> {
+    fn replaced(&mut self, contents: Contents<'_>) -> io::Result<Option<Hindrance>> {
         match self.receiver.take() {
-            Some(it) => it.fill(self.rt, device),
+            Some(it) => it.fill(self.rt, contents),
             None => Err(io::Error::from(ErrorKind::NotFound)),
         }
     }
@@ -321,6 +322,8 @@ impl<'a> Places for HostPlaces<'a> {
 
     ghost handed_out = { λ name device before after. WasHandedOut name device };
 
+    ghost handed_over = { λ name bytes before after. WasHandedOver name bytes };
+
     ghost ended = { λ {X} it before after. WasEnded it };
 
     fn open(&mut self, name: &str) -> io::Result<File> {
@@ -378,7 +381,11 @@ impl<'a> Places for HostPlaces<'a> {
     }
 
     fn hand_out(&mut self, _name: &str, device: &RamDevice) -> io::Result<Option<Hindrance>> {
-        self.replaced(device)
+        self.replaced(Contents::Sectors(device))
+    }
+
+    fn hand_over(&mut self, _name: &str, bytes: &[u8]) -> io::Result<Option<Hindrance>> {
+        self.replaced(Contents::Bytes(bytes))
     }
 
     fn print(

@@ -2,11 +2,13 @@
 //! is done, and with which status it ends.
 #![tactic(auto)]
 
+mod archive;
 mod checking;
 mod clashing;
 mod closing;
 mod ending;
 mod explaining;
+mod features;
 mod files;
 mod formatting;
 mod host_places;

@@ -3,12 +3,13 @@
 ghost use Rattle.std.specs.Prelude.{◌≡◌, ◌⊎◌, Err, IfErr, IfOk, IsSome, MatchResult, None, Ok};
 ghost use Rattle.std.specs.IoError.{error_kind};
 ghost use Rattle.std.specs.declared.io.ErrorKind.TheVariants as failing;
-ghost use Rattle.sandbox_command.specs.Alone.{AreOpened, HasReport, IsLedger, IsMedium, Lacks};
+ghost use Rattle.sandbox_command.specs.Alone.{AreOpened, HasReport, IsFresh, IsLedger, IsMedium, Lacks};
 ghost use Rattle.sandbox_command.specs.Beginning.{IsImage};
 ghost use Rattle.sandbox_command.specs.Places.{Chain, IsOfImage, IsOfName, IsOfRandom, IsRefusedAmong, IsRefusedOfAll, Makes, Opens, Reads, Receives, file_accesses, medium_accesses, reads_of, report_accesses, run_accesses, where_named};
 
 use crate::places::Places;
 use crate::profiling::no_stacks;
+use crate::reporting::receiver_of;
 use run_profile::Profile;
 use sandbox_device::RamDevice;
 use sandbox_words::Run;
@@ -22,11 +23,15 @@ pub(crate) const MODULE_READ: u64 = 67_108_865;
 /// How many random bytes are read at most, so that a file with no end gives some, too.
 const RANDOM_READ: u64 = 67_108_864;
 
-/// Where a run has its volume: in a file, which is locked, or in memory.
+/// How many bytes of a tar stream are read at most: as many as the largest volume has.
+const ARCHIVE_READ: u64 = 8_589_934_592;
+
+/// Where a run has its volume: in a file, which is locked, or in memory, as sectors or as the tar stream that it is made of.
 #[derive(Drop)]
 pub(crate) enum Medium<V> {
     File(V),
     Memory(RamDevice),
+    Archive(Vec<u8>),
 }
 
 /// What gets the profile of a run: stacks, and the file that they are printed into at the end.
@@ -97,21 +102,22 @@ fn random_of<P: Places>(alloc: Global, places: &mut P, run: &Run<'_>) -> io::Res
     }
 }
 
-/// The device of a run's volume, whose file is locked, or the sectors in memory that it begins with.
+/// The device of a run's volume, whose file is locked, or the tar stream or the sectors in memory that it begins with.
 fn medium_of<P: Places>(
     alloc: Global,
     places: &mut P,
     run: &Run<'_>,
 ) -> io::Result<Medium<P::Volume>>
-    ensures medium { IfOk result (λ medium. IsMedium P.Places P.Volume.Device run.now.volume run.now.image medium) }
-    ensures asked { Chain P.asked (medium_accesses run.now.volume run.now.image) places.old places.new }
+    ensures medium { IfOk result (IsMedium P.Places P.Volume.Device run.now.volume run.now.image_from run.now.image) }
+    ensures asked { Chain P.asked (medium_accesses run.now.volume run.now.image_from run.now.image) places.old places.new }
     ensures refused { IfErr result (λ error.
-        IsRefusedAmong P.asked P.refused (medium_accesses run.now.volume run.now.image) (error_kind error) places.old places.new
-        ⊎ ((run.now.volume ≡ None) × (run.now.image ≡ None) × (error_kind error ≡ failing.OutOfMemory))) }
+        IsRefusedAmong P.asked P.refused (medium_accesses run.now.volume run.now.image_from run.now.image) (error_kind error) places.old places.new
+        ⊎ (IsFresh run.now × (error_kind error ≡ failing.OutOfMemory))) }
 {
-    match run.volume {
-        Some(path) => Ok(Medium::File(places.lock(path)?)),
-        None => Ok(Medium::Memory(memory_of(alloc, places, run)?)),
+    match (run.volume, run.image_from) {
+        (Some(path), _) => Ok(Medium::File(places.lock(path)?)),
+        (None, Some(path)) => Ok(Medium::Archive(places.bytes(path, ARCHIVE_READ)?)),
+        (None, None) => Ok(Medium::Memory(memory_of(alloc, places, run)?)),
     }
 }
 
@@ -161,7 +167,7 @@ fn ledger_of<P: Places>(
     Ok(Some(Ledger { stacks, file }))
 }
 
-/// Opens what gets the volume of an image, where one is named.
+/// Opens what gets a volume in memory at the end, or its tree, where one is named.
 fn receive_file<P: Places>(places: &mut P, path: Option<&str>) -> io::Result<()>
     ensures asked { Chain P.asked (where_named Receives path.entry) places.old places.new }
     ensures refused { IfErr result (λ error. IsRefusedAmong P.asked P.refused (where_named Receives path.entry) (error_kind error)
@@ -202,7 +208,7 @@ pub(crate) fn open_all<P: Places>(
     let stdout = made_file(places, run.stdout);
     let stderr = made_file(places, run.stderr);
     let profile = ledger_of(alloc, places, run.profile);
-    let received = receive_file(places, run.volume_out);
+    let received = receive_file(places, receiver_of(run));
     let bytes = both(module, random);
     let read = both(bytes, medium);
     let errors = both(stderr, profile);

@@ -8,7 +8,7 @@ ghost use Rattle.run_report.specs.Reporting.{report_text};
 ghost use Rattle.sandbox_words.specs.Request.{Text};
 ghost use Rattle.sandbox_device.specs.declared.ram_device.RamDevice.{RamDevice as RamDeviceValue};
 ghost use Rattle.sandbox_command.specs.Profiling.{IsProfile};
-ghost use Rattle.sandbox_command.specs.Places.{Access, Cuts, HandsOut, HasRoom, Locks, Makes, Opens, Prints, Reads, Receives, lengthens};
+ghost use Rattle.sandbox_command.specs.Places.{Access, Cuts, HandsOut, HandsOver, HasRoom, Locks, Makes, Opens, Prints, Reads, Receives, lengthens};
 
 use run_profile::{Names, Profile};
 use run_report::Summary;
@@ -62,6 +62,9 @@ pub trait Places {
 
     /// Between these states the file of this name got the sectors of this device.
     ghost handed_out: { Text → RamDeviceValue → Self → Self → Type 0 };
+
+    /// Between these states the file of this name got these bytes, and no others.
+    ghost handed_over: { Text → Text → Self → Self → Type 0 };
 
     /// Between these states this was given up as it is, so that nothing follows on it.
     ghost ended: { {X : Type 0} → X → Self → Self → Type 0 };
@@ -121,7 +124,7 @@ pub trait Places {
         ensures refused { IfErr result (λ error. refused (Reads name.now) (error_kind error) self.old self.new) }
         ensures bytes { IfOk result (λ bytes. is_beginning name.now most bytes.items) };
 
-    /// Opens and locks what gets a volume at the end.
+    /// Opens and locks what gets a volume, or the tree of one, at the end.
     fn receive(&mut self, name: &str) -> io::Result<()>
         ensures asked { asked (Receives name.now) self.old self.new }
         ensures refused { IfErr result (λ error. refused (Receives name.now) (error_kind error) self.old self.new) };
@@ -131,6 +134,12 @@ pub trait Places {
         ensures asked { asked (HandsOut name.now) self.old self.new }
         ensures refused { IfErr result (λ error. refused (HandsOut name.now) (error_kind error) self.old self.new) }
         ensures handed { OnOk result (handed_out name.now device.now self.old self.new) };
+
+    /// Gives these bytes to what was opened so, in the same way.
+    fn hand_over(&mut self, name: &str, bytes: &[u8]) -> io::Result<Option<Hindrance>>
+        ensures asked { asked (HandsOver name.now) self.old self.new }
+        ensures refused { IfErr result (λ error. refused (HandsOver name.now) (error_kind error) self.old self.new) }
+        ensures handed { OnOk result (handed_over name.now bytes.now self.old self.new) };
 
     /// Prints a report, and further lines of it, into a file that was made under this name. Where that fails, some of it may have been
     /// printed.

@@ -26,7 +26,7 @@ use crate::explaining::About;
 use crate::modules::profile_for;
 use crate::output::{GREATEST, NOT_COMMITTED, tell, tell_after, tell_fault, tell_outcome};
 use crate::reporting::{
-    kept_after_run, kept_where_not_begun, kept_where_refused, not_run, session_reason,
+    kept_after_run, kept_where_not_begun, kept_where_refused, not_run, receiver_of, session_reason,
 };
 use crate::runnable::Runnable;
 use crate::sessions::{launch_bare, launch_prepared};
@@ -296,7 +296,7 @@ pub(crate) fn reported<D: Device + Drop, R: Drop, W1: Outlet + Drop, W2: Outlet 
         out: out.stream,
         err: err.stream,
     };
-    let kept = kept_after_run(run.volume.or(run.volume_out), &volume);
+    let kept = kept_after_run(run.volume.or(receiver_of(run)), &volume);
     let flushed = flush_both(&mut streams.out, &mut streams.err);
     let (status, device) = settled(outcome, volume, flushed);
     let summary = Summary {
@@ -374,11 +374,11 @@ pub(crate) fn no_session<D: Device + Drop, R: Drop, W1: Drop, W2: Drop>(
     not_begun(run, why, volume.into_device(), streams)
 }
 
-/// The file that a run finds its volume in, its own or an image.
+/// The file that a run finds its volume in, its own, an image or a tar stream.
 fn volume_of<'a>(run: &Run<'a>) -> Option<&'a str>
     ensures { result ≡ volume_of run.now }
 {
-    run.volume.or(run.image)
+    run.volume.or(run.image.or(run.image_from))
 }
 
 /// What the session of a run is made of beside its module.
@@ -524,7 +524,7 @@ pub fn execute<D: Device + Drop, R: Inlet + Drop, W1: Outlet + Drop, W2: Write +
     ensures within { result.status ≤ 124 }
 {
     let mut given = given;
-    let about = About { file, work };
+    let about = About::of(file, work);
     match work {
         VolumeWork::Format {
             sectors,

@@ -3,6 +3,7 @@
 ghost use Rattle.sandbox_command.specs.Streams.{AppendsSome};
 
 use crate::explaining::{say_meaning, say_part, tell_of_fault, tell_words};
+use crate::features::feature_cure;
 use crate::inspecting::Served;
 use crate::modules::profile_for;
 use crate::output::{say, say_name, tell};
@@ -15,7 +16,7 @@ use sandbox_words::{Invocation, Run};
 use std::alloc::Global;
 use std::io;
 use std::io::Write;
-use wasm_module::{Module, Profile, decode_with};
+use wasm_module::{LoadFault, Module, Profile, decode_with};
 use wasm_store::InstanceFault;
 
 /// What a wrong setting is.
@@ -48,6 +49,16 @@ fn culprit(alloc: Global, bytes: &[u8], profile: Profile, fault: Fault) -> io::R
     Ok(text)
 }
 
+/// What helps against a fault of a module, of which this part is to blame: what is of a later feature has its name there.
+fn cure_of(bytes: &[u8], part: &[u8], fault: Fault, number: u32) -> &'static str {
+    if let Fault::Module(LoadFault::BadByte { offset }) = fault {
+        if let Some(cure) = feature_cure(bytes, offset, !part.is_empty()) {
+            return cure;
+        }
+    }
+    fault_cure(number)
+}
+
 /// Prints what a fault of a module means, and which part of it is to blame.
 fn tell_of_module<W: Write>(
     alloc: Global,
@@ -65,7 +76,7 @@ fn tell_of_module<W: Write>(
             name,
             part.as_slice(),
             fault_text(number),
-            fault_cure(number),
+            cure_of(bytes, part.as_slice(), fault, number),
         ),
         _ => tell_of_fault(err, name, fault),
     }
@@ -170,7 +181,8 @@ pub(crate) fn tell_of_refusal<W: Write>(
 {
     match fault {
         Fault::Volume(_) => {
-            let name = run.volume.or(run.image).unwrap_or("its volume in memory");
+            let file = run.volume.or(run.image.or(run.image_from));
+            let name = file.unwrap_or("its volume in memory");
             tell_of_fault(err, name, fault);
         }
         Fault::Setting => tell_of_setting(err, run),
@@ -211,19 +223,37 @@ pub(crate) fn tell_of_outcome<W: Write>(err: &mut W, run: &Run<'_>, outcome: Out
     }
 }
 
+/// What helps where two options are one too many.
+const ONE: &str = "give one of them";
+
+/// Which options of a run would give it two volumes, or would give out what it leaves twice, and what helps.
+fn clash_of_volumes(run: &Run<'_>) -> Option<(&'static str, &'static str)> {
+    if run.image.is_some() && run.volume.is_some() {
+        Some(("--image with --volume", ONE))
+    } else if run.image_from.is_some() && run.volume.is_some() {
+        Some(("--image-from with --volume", ONE))
+    } else if run.image_from.is_some() && run.image.is_some() {
+        Some(("--image-from with --image", ONE))
+    } else if run.volume_out.is_some() && run.image.is_none() && run.image_from.is_none() {
+        Some(("--volume-out without --image", "give both"))
+    } else if run.out_to.is_some() && run.volume.is_some() {
+        Some(("--out-to with --volume", "sandbox export prints its tree"))
+    } else if run.out_to.is_some() && run.volume_out.is_some() {
+        Some(("--out-to with --volume-out", ONE))
+    } else {
+        None
+    }
+}
+
 /// The options of a run that don't go together, and what helps.
 fn clash_of(run: &Run<'_>) -> (&'static str, &'static str) {
-    const ONE: &str = "give one of them";
-    const BOTH: &str = "give both";
     const LINE: &str = "a line of the list names it";
-    if run.image.is_some() && run.volume.is_some() {
-        ("--image with --volume", ONE)
-    } else if run.volume_out.is_some() && run.image.is_none() {
-        ("--volume-out without --image", BOTH)
+    if let Some(clash) = clash_of_volumes(run) {
+        clash
     } else if run.seed.is_some() && run.random.is_some() {
         ("--seed with --random", ONE)
     } else if run.profile_every.is_some() && run.profile.is_none() {
-        ("--profile-every without --profile", BOTH)
+        ("--profile-every without --profile", "give both")
     } else if run.profile_every == Some(0) {
         ("--profile-every 0", "1 or more")
     } else if run.stdin.is_some() {
@@ -236,6 +266,10 @@ fn clash_of(run: &Run<'_>) -> (&'static str, &'static str) {
         ("--tests with --report", LINE)
     } else if run.profile.is_some() {
         ("--tests with --profile", "profile one run alone")
+    } else if run.image_from.is_some() {
+        ("--tests with --image-from", "each test begins with --image")
+    } else if run.out_to.is_some() {
+        ("--tests with --out-to", "run one alone")
     } else {
         (
             "--tests with --volume or --volume-out",

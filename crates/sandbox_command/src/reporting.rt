@@ -2,7 +2,7 @@
 
 ghost use Rattle.std.specs.Prelude.{◌≡◌};
 ghost use Rattle.sandbox_command.specs.Reporting.{kept_after_run, kept_where_not_begun};
-ghost use Rattle.sandbox_command.specs.Reporting.{kept_where_refused, not_run, session_reason};
+ghost use Rattle.sandbox_command.specs.Reporting.{kept_where_refused, not_run, receiver_of, session_reason};
 
 use run_report::{Cut, End, Fault, Kept, Summary};
 use sandbox_core::SessionFault;
@@ -14,6 +14,13 @@ const UNCUT: Cut = Cut {
     output: false,
     errors: false,
 };
+
+/// The file that gets the volume of a run at the end, or its tree.
+pub(crate) fn receiver_of<'a>(run: &Run<'a>) -> Option<&'a str>
+    ensures { result ≡ receiver_of run.now }
+{
+    run.volume_out.or(run.out_to)
+}
 
 /// Why a session can't be made, as a report has it.
 pub(crate) fn session_reason(fault: SessionFault) -> Fault

@@ -1,27 +1,30 @@
 //! A run alone on the files that its words name.
 
-ghost use Rattle.std.specs.Prelude.{◌≡◌, Some};
+ghost use Rattle.std.specs.Prelude.{◌≡◌, ℕ, List, Err, Some};
 ghost use Rattle.std.specs.IoError.{error_kind};
-ghost use Rattle.sandbox_command.specs.Alone.{Hands, HandsNothing, IsLedger, IsTold, RunsAlone, RunsOnMedium, RunsWith, file_of, stacks_of};
-ghost use Rattle.sandbox_command.specs.Around.{EndsGiven, around, flushing, in_memory};
+ghost use Rattle.sandbox_command.specs.Alone.{IsLedger, IsTold, IsUnfilled, KeepsIt, RunsAlone, RunsFilled, RunsInMemory, RunsOnMedium, RunsWith, file_of, stacks_of};
+ghost use Rattle.sandbox_command.specs.Around.{EndsGiven, around, flushing};
+ghost use Rattle.sandbox_command.specs.Archive.{Fills};
 ghost use Rattle.sandbox_command.specs.Beginning.{unread};
 ghost use Rattle.sandbox_command.specs.Places.{IsOfName};
 ghost use Rattle.sandbox_command.specs.Status.{file_status};
 ghost use Rattle.sandbox_command.specs.Stopping.{AreLinesOfNone};
 ghost use Rattle.sandbox_words.specs.Request.{Text};
 
-use crate::closing::{Ending, finished, handed_out, profiled, refuse, told, unread};
+use crate::archive::{filled, refuse_archive, unfilled};
+use crate::closing::{Ending, Left, delivered, finished, profiled, refuse, told, unread};
 use crate::opening::{Ledger, Medium, Opened, made_report, open_all};
 use crate::places::Places;
 use crate::program;
 use crate::stopping::no_lines;
-use crate::streams::{Sink, Source, Spare, Streams, sink_of, source_of};
+use crate::streams::{Sink, Source, Spare, Streams, apart, sink_of, source_of};
 use run_profile::Profile;
 use sandbox_device::RamDevice;
 use sandbox_words::Run;
 use std::alloc::Global;
 use std::io;
 use stream_answers::{Inlet, Outlet};
+use volume_tasks::ImportFailure;
 
 /// What a run is given: the bytes of its files, its streams, and those that are spared.
 #[derive(Drop)]
@@ -117,6 +120,81 @@ fn end_unread<P: Places, R: Inlet + Drop, W1: Outlet + Drop, W2: Outlet + Drop>(
     status
 }
 
+/// Says that the tar stream of a run's volume is refused, also in its report, and gives up all that was opened.
+fn end_unfilled<P: Places, R: Inlet + Drop, W1: Outlet + Drop, W2: Outlet + Drop>(
+    alloc: Global,
+    places: &mut P,
+    run: &Run<'_>,
+    failure: ImportFailure,
+    wired: Wired<P::Input, P::Output, R, W1, W2>,
+    report: Option<P::Output>,
+) -> u8
+    requires report { IsOfName P.is_output run.now.report report }
+    requires profile { IsLedger P.is_output run.now.profile wired.profile }
+    ensures { (archive : List ℕ) → Fills archive (Err failure)
+        → IsUnfilled (around P.Places P.Input.Read P.Output.Write P.Volume.Device R.Read W1.Write W2.Write
+        (flushing P.Output.flushed P.Output.refuses W1.flushed W1.refuses W2.flushed W2.refuses))
+        run.now archive wired.«module».items wired.streams wired.spare (file_of wired.profile) report places.old places.new result }
+{
+    let Wired {
+        module,
+        random,
+        streams,
+        spare,
+        profile,
+    } = wired;
+    drop(random);
+    let (stacks, file) = parted(profile);
+    drop(stacks);
+    let Streams { input, out, err } = streams;
+    let (mut own, guest) = apart(err, spare.err);
+    let status = refuse_archive(&mut own, run, &failure);
+    let said = unfilled(run, &failure, status);
+    let ending = Ending {
+        status,
+        summary: Some(said),
+    };
+    let lines = no_lines(alloc, run);
+    let (module, lines) = (module.as_slice(), lines.as_slice());
+    let ending = profiled(alloc, places, run, module, None, file, ending, &mut own);
+    let status = told(places, run.report, report, ending, lines, &mut own);
+    places.end(Left {
+        device: (),
+        input,
+        out,
+        guest,
+        own,
+        spare_input: spare.input,
+        spare_out: spare.out,
+    });
+    status
+}
+
+/// Runs a module on a volume in memory that is made of a tar stream of these bytes.
+#[inline(never)]
+fn run_filled<P: Places, R: Inlet + Drop, W1: Outlet + Drop, W2: Outlet + Drop>(
+    alloc: Global,
+    places: &mut P,
+    run: &Run<'_>,
+    archive: Vec<u8>,
+    wired: Wired<P::Input, P::Output, R, W1, W2>,
+    report: Option<P::Output>,
+) -> u8
+    requires report { IsOfName P.is_output run.now.report report }
+    requires profile { IsLedger P.is_output run.now.profile wired.profile }
+    ensures { RunsFilled (around P.Places P.Input.Read P.Output.Write P.Volume.Device R.Read W1.Write W2.Write
+        (flushing P.Output.flushed P.Output.refuses W1.flushed W1.refuses W2.flushed W2.refuses))
+        run.now archive.items wired.«module».items wired.random.items wired.streams wired.spare (file_of wired.profile) report places.old places.new result }
+{
+    let bytes = archive.as_slice();
+    let made = filled(alloc, bytes);
+    drop(archive);
+    match made {
+        Ok(device) => run_in_memory(alloc, places, run, device, wired, report),
+        Err(failure) => end_unfilled(alloc, places, run, failure, wired, report),
+    }
+}
+
 /// Runs a module on the files that were opened.
 fn run_opened<P: Places, R: Inlet + Drop, W1: Outlet + Drop, W2: Outlet + Drop>(
     alloc: Global,
@@ -159,6 +237,7 @@ fn run_opened<P: Places, R: Inlet + Drop, W1: Outlet + Drop, W2: Outlet + Drop>(
     match medium {
         Medium::File(device) => run_in_file(alloc, places, run, device, wired, report),
         Medium::Memory(device) => run_in_memory(alloc, places, run, device, wired, report),
+        Medium::Archive(archive) => run_filled(alloc, places, run, archive, wired, report),
     }
 }
 
@@ -177,7 +256,7 @@ fn run_in_file<P: Places, R: Inlet + Drop, W1: Outlet + Drop, W2: Outlet + Drop>
     requires profile { IsLedger P.is_output run.now.profile wired.profile }
     ensures { RunsWith (around P.Places P.Input.Read P.Output.Write P.Volume.Device R.Read W1.Write W2.Write
         (flushing P.Output.flushed P.Output.refuses W1.flushed W1.refuses W2.flushed W2.refuses)) P.Volume.Device
-        (λ left before said p q status summary. HandsNothing P.Places before said p q status summary)
+        (λ left before said p q status summary after. KeepsIt P.Places left before said p q status summary after)
         run.now wired.«module».items wired.random.items device wired.streams wired.spare (file_of wired.profile) report places.old places.new result }
 {
     let Wired {
@@ -199,7 +278,7 @@ fn run_in_file<P: Places, R: Inlet + Drop, W1: Outlet + Drop, W2: Outlet + Drop>
     status
 }
 
-/// Runs a module on a volume in memory, and hands it out where that is asked for.
+/// Runs a module on a volume in memory, and hands it out, or gives its tree, where that is asked for.
 #[inline(never)]
 fn run_in_memory<P: Places, R: Inlet + Drop, W1: Outlet + Drop, W2: Outlet + Drop>(
     alloc: Global,
@@ -211,9 +290,8 @@ fn run_in_memory<P: Places, R: Inlet + Drop, W1: Outlet + Drop, W2: Outlet + Dro
 ) -> u8
     requires report { IsOfName P.is_output run.now.report report }
     requires profile { IsLedger P.is_output run.now.profile wired.profile }
-    ensures { RunsWith (around P.Places P.Input.Read P.Output.Write P.Volume.Device R.Read W1.Write W2.Write
-        (flushing P.Output.flushed P.Output.refuses W1.flushed W1.refuses W2.flushed W2.refuses)) in_memory
-        (λ left before said p q status summary. Hands P.Places run.now.volume_out left before said p q status summary)
+    ensures { RunsInMemory (around P.Places P.Input.Read P.Output.Write P.Volume.Device R.Read W1.Write W2.Write
+        (flushing P.Output.flushed P.Output.refuses W1.flushed W1.refuses W2.flushed W2.refuses))
         run.now wired.«module».items wired.random.items device wired.streams wired.spare (file_of wired.profile) report places.old places.new result }
 {
     let Wired {
@@ -227,8 +305,8 @@ fn run_in_memory<P: Places, R: Inlet + Drop, W1: Outlet + Drop, W2: Outlet + Dro
     let (stacks, file) = parted(profile);
     let (ended, lines) = program::run(alloc, run, module, random, device, streams, stacks);
     let lines = lines.as_slice();
-    let (ending, stopped, mut left) = finished(alloc, run, module, ended, lines, spare);
-    let ending = handed_out(places, run.volume_out, &left.device, ending, &mut left.own);
+    let (ending, stopped, left) = finished(alloc, run, module, ended, lines, spare);
+    let (ending, mut left) = delivered(alloc, places, run, left, ending);
     let own = &mut left.own;
     let ending = profiled(alloc, places, run, module, stopped, file, ending, own);
     let status = told(places, run.report, report, ending, lines, &mut left.own);

@@ -2,4 +2,5 @@ mod Ram
 mod File
 pub mod Recorded
 pub mod Packing
+pub mod InParts
 pub mod Told

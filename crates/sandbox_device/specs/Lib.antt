@@ -6,6 +6,7 @@ pub mod Recorded
 pub mod Followed
 pub mod Opening
 pub mod FileEvidence
+pub mod Contents
 pub mod Beside
 pub mod Replaced
 pub mod Written

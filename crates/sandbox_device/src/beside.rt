@@ -2,9 +2,9 @@
 
 ghost use Rattle.std.specs.Prelude.{ℕ, List, OnOk};
 ghost use Rattle.sandbox_device.specs.Beside.{IsReplaced};
-ghost use Rattle.sandbox_device.specs.Ram.{joined_sectors};
+ghost use Rattle.sandbox_device.specs.Contents.{bytes_of};
 
-use crate::ram_device::RamDevice;
+use crate::new_bytes::Contents;
 use std::io;
 
 /// The bytes that are to replace a file. They are written beside it, made to last, and get its name, which is made to last, too.
@@ -24,9 +24,9 @@ pub(crate) trait Beside {
     /// Between these states the names of its folder were made to last.
     ghost settled: { Self → Self → Type 0 };
 
-    /// Writes the sectors of a device.
-    fn fill(&mut self, device: &RamDevice) -> io::Result<()>
-        ensures { OnOk result (filled self.old (joined_sectors device.now.sectors) self.new) };
+    /// Writes what is to replace it.
+    fn fill(&mut self, contents: Contents<'_>) -> io::Result<()>
+        ensures { OnOk result (filled self.old (bytes_of contents.entry) self.new) };
 
     /// Makes what was written last.
     fn sync(&mut self) -> io::Result<()>
@@ -41,12 +41,12 @@ pub(crate) trait Beside {
         ensures { OnOk result (settled self.old self.new) };
 }
 
-/// Replaces a file by the sectors of a device: it has its old bytes or all of these, whoever is ended meanwhile.
-pub(crate) fn replace<B: Beside>(it: &mut B, device: &RamDevice) -> io::Result<()>
+/// Replaces a file: it has its old bytes or all of these, whoever is ended meanwhile.
+pub(crate) fn replace<B: Beside>(it: &mut B, contents: Contents<'_>) -> io::Result<()>
     ensures { OnOk result (IsReplaced B.filled B.synced B.renamed B.settled
-        (joined_sectors device.now.sectors) it.old it.new) }
+        (bytes_of contents.entry) it.old it.new) }
 {
-    it.fill(device)?;
+    it.fill(contents)?;
     it.sync()?;
     it.rename()?;
     it.settle()

@@ -7,7 +7,9 @@ mod history;
 mod identity;
 pub mod laws;
 mod moments;
+mod new_bytes;
 mod opening;
+mod part;
 mod past;
 mod ram_device;
 mod recorded_device;
@@ -18,6 +20,7 @@ mod written_file;
 
 pub use file_device::FileDevice;
 pub use identity::Identity;
+pub use new_bytes::Contents;
 pub use opening::{Output, OutputOn, open_image, open_to_read};
 pub use ram_device::RamDevice;
 pub use recorded_device::RecordedDevice;

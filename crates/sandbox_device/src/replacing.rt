@@ -5,13 +5,13 @@
 ghost use Rattle.std.specs.Prelude.{◌≡◌, IfNone, IfOk, IfSome, string_bytes};
 ghost use Rattle.sandbox_device.specs.declared.replacing.Way.TheVariants.{Beside};
 ghost use Rattle.sandbox_device.specs.Opening.{StandsApart};
-ghost use Rattle.sandbox_device.specs.Ram.{joined_sectors};
+ghost use Rattle.sandbox_device.specs.Contents.{bytes_of};
 ghost use Rattle.sandbox_device.specs.Replaced.{WasReplaced};
 
 use crate::beside::{Beside, replace};
 use crate::identity::Identity;
+use crate::new_bytes::Contents;
 use crate::opening::open_apart;
-use crate::ram_device::RamDevice;
 use crate::written_file::lock_to_write;
 use std::fs::{File, Metadata, OpenOptions, TryLockError};
 use std::io::{BufWriter, ErrorKind, Write};
@@ -163,10 +163,10 @@ fn take_after(file: &File, old: &File) -> io::Result<()> {
     file.set_permissions(wanted.permissions())
 }
 
-/// Writes the sectors of a device into a file, from its beginning, in large pieces.
-fn write_sectors<R: AllocGlobal>(rt: &R, file: &File, device: &RamDevice) -> io::Result<()> {
+/// Writes what a file is to have into it, from its beginning, in large pieces.
+fn write_contents<R: AllocGlobal>(rt: &R, file: &File, contents: Contents<'_>) -> io::Result<()> {
     let mut out = BufWriter::with_capacity(rt.alloc(), PIECE, file)?;
-    device.write_to(&mut out)?;
+    contents.write_to(&mut out)?;
     out.flush()
 }
 
@@ -198,8 +198,8 @@ impl<R: Files<File = File> + AllocGlobal> Beside for Successor<'_, R> {
 
     ghost settled = { λ old new. WasSettled old new };
 
-    fn fill(&mut self, device: &RamDevice) -> io::Result<()> {
-        write_sectors(self.rt, &self.spare.file, device)
+    fn fill(&mut self, contents: Contents<'_>) -> io::Result<()> {
+        write_contents(self.rt, &self.spare.file, contents)
     }
 
     fn sync(&mut self) -> io::Result<()> {
@@ -280,23 +280,23 @@ impl Replacement {
         Identity::of_path(rt, self.path.as_str())
     }
 
-    /// Gives the file the sectors of a device, and makes that last. Where it fails, and nothing hinders, it is as it was.
+    /// Gives the file these bytes, and makes that last. Where it fails, and nothing hinders, it is as it was.
     pub fn fill<R: Files<File = File> + AllocGlobal>(
         self,
         rt: &R,
-        device: &RamDevice,
+        contents: Contents<'_>,
     ) -> io::Result<Option<Hindrance>>
         ensures { self.way ≡ Beside → IfOk result (λ hindrance. IfNone hindrance
-            (WasReplaced R (string_bytes self.path) (joined_sectors device.now.sectors))) }
+            (WasReplaced R (string_bytes self.path) (bytes_of contents.entry))) }
     {
         match self.way {
-            Way::Beside => self.fill_beside(rt, device),
+            Way::Beside => self.fill_beside(rt, contents),
             Way::InPlace(why) => {
-                self.fill_in_place(rt, device)?;
+                self.fill_in_place(rt, contents)?;
                 Ok(Some(why))
             }
             Way::Stream => {
-                self.fill_in_place(rt, device)?;
+                self.fill_in_place(rt, contents)?;
                 Ok(None)
             }
         }
@@ -315,17 +315,17 @@ impl Replacement {
         Ok((spare, folder))
     }
 
-    /// Writes the sectors into a file beside it, and gives that its name. Where none can be made there, it is written in place.
+    /// Writes the bytes into a file beside it, and gives that its name. Where none can be made there, it is written in place.
     fn fill_beside<R: Files<File = File> + AllocGlobal>(
         self,
         rt: &R,
-        device: &RamDevice,
+        contents: Contents<'_>,
     ) -> io::Result<Option<Hindrance>>
         ensures { IfOk result (λ hindrance. IfNone hindrance
-            (WasReplaced R (string_bytes self.path) (joined_sectors device.now.sectors))) }
+            (WasReplaced R (string_bytes self.path) (bytes_of contents.entry))) }
     {
         let Ok((spare, folder)) = self.spare(rt) else {
-            self.fill_in_place(rt, device)?;
+            self.fill_in_place(rt, contents)?;
             return Ok(Some(Hindrance::Folder));
         };
         let mut successor = Successor {
@@ -334,7 +334,7 @@ impl Replacement {
             path: self.path.as_str(),
             folder: &folder,
         };
-        match replace(&mut successor, device) {
+        match replace(&mut successor, contents) {
             Ok(()) => Ok(None),
             Err(error) => {
                 let _ = rt.remove_file(spare.path.as_str());
@@ -347,7 +347,7 @@ impl Replacement {
     fn fill_in_place<R: Files<File = File> + AllocGlobal>(
         self,
         rt: &R,
-        device: &RamDevice,
+        contents: Contents<'_>,
     ) -> io::Result<()> {
         let file = match self.old {
             Some(file) => file,
@@ -358,12 +358,12 @@ impl Replacement {
             }
         };
         if !file.metadata()?.is_file() {
-            write_sectors(rt, &file, device)?;
+            write_contents(rt, &file, contents)?;
             let _ = file.sync_all();
             return Ok(());
         }
         file.set_len(0)?;
-        write_sectors(rt, &file, device)?;
+        write_contents(rt, &file, contents)?;
         file.sync_all()
     }
 }

@@ -1,42 +1,49 @@
-//! Sectors in memory, of which those of zeros take no more room than a number.
+//! Sectors in memory.
 
-ghost use Rattle.std.specs.Prelude.{◌≡◌, ◌<◌, ◌^◌, ◌≤◌, ◌+◌, ◌++◌, IfOk, drop, take, IsTrue, length, replicate, set};
+ghost use Rattle.std.specs.Prelude.{◌≡◌, ◌<◌, ◌^◌, ◌≤◌, ◌+◌, ◌++◌, IfOk, drop, take, length, replicate, set};
 ghost use Rattle.vol_sector.specs.Record.{image_of};
 
+use crate::part::{PART, Part};
 use std::alloc::{AllocError, Global};
 use std::marker::Model;
 
-/// The sectors of a device. One that was never anything but zeros takes four bytes; the room for all others is
-/// reserved when they are made, so that no write takes memory, and isn't touched before they are written.
+/// The sectors of a device. The room for all is reserved when they are made, part by part, so that no write takes memory, and that
+/// of a sector which was never anything but zeros isn't touched.
 #[derive(Drop)]
 pub(crate) struct Sectors {
-    /// Of each sector 0 where it is zeros, else one more than its place among the written ones.
-    places: Vec<u32>,
-    written: Vec<[u8; 512]>,
+    /// Each but the last has 131,072 sectors.
+    parts: Vec<Part>,
+    count: u32,
 }
 
 impl Model for Sectors {
-    ghost use Rattle.std.specs.Prelude.{List, ℕ, ◌≤◌, ◌<◌, ◌^◌, vec_len, vec_capacity};
-    ghost use Rattle.sandbox_device.specs.internal.Packing.{sectors_at, IsPacked};
+    ghost use Rattle.std.specs.Prelude.{List, ℕ, ◌≡◌, length};
+    ghost use Rattle.sandbox_device.specs.internal.InParts.{joined, IsInParts};
 
     ghost Value = { List (List ℕ) };
 
-    ghost view = { λ s. sectors_at s.written.items s.places.items };
+    ghost view = { λ s. joined s.parts.items };
 
-    ghost invariant = { λ s. IsPacked s.written.items s.places.items
-        × (vec_len s.places ≤ vec_capacity s.written) × (vec_len s.places < 2 ^ 32) };
+    ghost invariant = { λ s. IsInParts s.parts.items × (length (joined s.parts.items) ≡ s.count) };
 }
 
-/// Whether these are zeros.
-fn is_zeros(image: &[u8; 512]) -> bool
-    ensures { IsTrue result → image.now ≡ replicate 512 0 }
+/// Asks for the room of this many sectors, and gives it back. The system looks at one request at a time: of what it refuses as a
+/// whole it would grant each part, and end the process later.
+fn ask_for_all(alloc: Global, count: u32) -> Result<(), AllocError> {
+    let all: Vec<[u8; 512]> = Vec::with_capacity(alloc, count as usize)?;
+    drop(all);
+    Ok(())
+}
+
+/// This many parts that are full, of zeros.
+fn full_parts(alloc: Global, many: u32) -> Result<Vec<Part>, AllocError>
+    ensures { IfOk result (λ parts. parts.items ≡ replicate many (replicate 131072 (replicate 512 0))) }
 {
-    // (An array is compared byte after byte, up to the first that differs. The largest is found of many at a time.)
-    let mut largest: u8 = 0;
-    for byte in image {
-        largest = largest.max(*byte);
+    let mut parts = Vec::new(alloc);
+    for _ in 0..many {
+        parts.push(Part::zeros(alloc, PART)?)?;
     }
-    largest == 0
+    Ok(parts)
 }
 
 impl Sectors {
@@ -44,9 +51,12 @@ impl Sectors {
     pub(crate) fn zeros(alloc: Global, count: u32) -> Result<Sectors, AllocError>
         ensures { IfOk result (λ s. s ≡ replicate count (replicate 512 0)) }
     {
-        let places = vec![in alloc; 0; count as usize]?;
-        let written = Vec::with_capacity(alloc, count as usize)?;
-        Ok(Sectors { places, written })
+        if count > PART {
+            ask_for_all(alloc, count)?;
+        }
+        let mut parts = full_parts(alloc, count / PART)?;
+        parts.push(Part::zeros(alloc, count % PART)?)?;
+        Ok(Sectors { parts, count })
     }
 
     /// These.
@@ -64,7 +74,7 @@ impl Sectors {
         ensures count { result ≡ length self.now }
         ensures small { result < 2 ^ 32 }
     {
-        self.places.len()
+        self.count as usize
     }
 
     /// The bytes of one.
@@ -72,10 +82,7 @@ impl Sectors {
         requires { n < length self.now }
         ensures { result ≡ image_of self.now n }
     {
-        match self.places[n as usize] {
-            0 => [0; 512],
-            place => self.written[place as usize - 1],
-        }
+        self.parts[(n / PART) as usize].get(n % PART)
     }
 
     /// Gives those from one on these bytes.
@@ -96,12 +103,6 @@ impl Sectors {
         requires { n < length self.old }
         ensures { self.new ≡ set self.old n image.now }
     {
-        let place = self.places[n as usize];
-        if place > 0 {
-            self.written[place as usize - 1] = *image;
-        } else if !is_zeros(image) {
-            self.written.push_reserved(*image);
-            self.places[n as usize] = self.written.len() as u32;
-        }
+        self.parts[(n / PART) as usize].put(n % PART, image);
     }
 }

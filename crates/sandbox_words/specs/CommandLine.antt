@@ -86,7 +86,8 @@ with_apps app (sub ∷ rest) = with_apps (with_subcommand app sub.top) rest
 
 -- what a guest may use and is given, and where it is reported
 unfoldable pub run_rules : List Rule
-run_rules = text_rule (codes "volume") ∷ text_rule (codes "image") ∷ text_rule (codes "volume-out")
+run_rules = text_rule (codes "volume") ∷ text_rule (codes "image") ∷ text_rule (codes "image-from") ∷ text_rule (codes "volume-out")
+    ∷ text_rule (codes "out-to")
     ∷ number_rule (codes "fuel") u64_numbers ∷ number_rule (codes "pages") u32_numbers ∷ number_rule (codes "values") u32_numbers
     ∷ number_rule (codes "output") u64_numbers
     ∷ texts_rule (codes "dir") ∷ texts_rule (codes "env") ∷ number_rule (codes "moment") u64_numbers
@@ -195,7 +196,9 @@ pub record AsksRun (rows : List Row) (run : Run) : Type 0 where
   pub output : run.limits.output ≡ number_in 64 (codes "output") rows
   pub volume : text_in run.volume ≡ first_of (codes "volume") rows
   pub image : text_in run.image ≡ first_of (codes "image") rows
+  pub image_from : text_in run.image_from ≡ first_of (codes "image-from") rows
   pub volume_out : text_in run.volume_out ≡ first_of (codes "volume-out") rows
+  pub out_to : text_in run.out_to ≡ first_of (codes "out-to") rows
   pub dirs : texts run.dirs.items ≡ texts_of (codes "dir") rows
   pub env : texts run.env.items ≡ texts_of (codes "env") rows
   pub moment : run.moment ≡ number_or 0 64 (codes "moment") rows

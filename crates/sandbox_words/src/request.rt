@@ -32,13 +32,17 @@ pub(crate) const NO_TERMINALS: Terminals = Terminals {
 #[derive(Drop)]
 pub struct Run<'a> {
     pub limits: Limits,
-    /// The file of its volume; where there is none, and no image, it gets an empty volume, which is
+    /// The file of its volume; where there is none, and no image or tar stream to begin with, it gets an empty volume, which is
     /// discarded.
     pub volume: Option<&'a str>,
     /// The file whose volume it begins with; the file is only read.
     pub image: Option<&'a str>,
+    /// The file of a tar stream, of which the volume that it begins with is made; the file is only read.
+    pub image_from: Option<&'a str>,
     /// The file that gets the volume as a run on an image leaves it.
     pub volume_out: Option<&'a str>,
+    /// The file that gets the tree of a volume in memory as a tar stream, as the run leaves it.
+    pub out_to: Option<&'a str>,
     /// Its directories, each as `GUEST=PATH`: the name that the guest knows it by, and its path in
     /// the volume. Where there is none, it gets the root as `/`.
     pub dirs: Vec<&'a str>,

@@ -138,7 +138,7 @@ static PUT: [Argument; 3] = [
 ];
 
 /// The arguments of `run`.
-static RUN: [Argument; 25] = [
+static RUN: [Argument; 27] = [
     Argument {
         name: "volume",
         takes: Takes::Text("FILE"),
@@ -150,9 +150,19 @@ static RUN: [Argument; 25] = [
         help: "The file whose volume it begins with; its changes stay in memory",
     },
     Argument {
+        name: "image-from",
+        takes: Takes::Text("TAR"),
+        help: "The tar archive that its volume is made of; its changes stay in memory",
+    },
+    Argument {
         name: "volume-out",
         takes: Takes::Text("FILE"),
-        help: "With --image, the file to be made with the volume as it ends",
+        help: "With --image or --image-from, the file to be made with the volume as it ends",
+    },
+    Argument {
+        name: "out-to",
+        takes: Takes::Text("TAR"),
+        help: "Without --volume, the file to be made with its tree as it ends, as a tar archive",
     },
     Argument {
         name: "fuel",

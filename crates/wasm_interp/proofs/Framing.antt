@@ -22,6 +22,7 @@ use Rattle.wasm_interp.specs.internal.BranchTables.{OwnFunction, HasTargets, End
 use Rattle.wasm_interp.specs.internal.Standing.{Activation, Flat, Program, Ring, inside, Within, Caller, framed, under, IsActive, Back, Stands}
 use Rattle.wasm_interp.specs.internal.Programs.{program_of}
 use Rattle.wasm_interp.proofs.PlainSteps.Programs.{text_at, is_text}
+use Rattle.wasm_interp.specs.internal.Awaited.{Awaited}
 
 -- ---- what stands in a flat list
 
@@ -126,7 +127,7 @@ module _ (m : Module) (calls : List HostCall) (i : Instance) (v : IsValid m) (k 
         left = subst (λ z. IsLeft c [] (drop a.pc z)) flat_is l;
       }
 
-  told_framed : (pending : List ℕ) (ks : List Caller) (fs : List Activation) (t : OwnFunction) (a : Activation) (g : List Val) (n : ℕ) (c : Code) (inner : List Frame) → IsActive prog t a g n (under ks) → Back prog t a.function ks fs → IsLeft c [] (drop a.pc t.code) → Told m i c inner
+  told_framed : (pending : Awaited) (ks : List Caller) (fs : List Activation) (t : OwnFunction) (a : Activation) (g : List Val) (n : ℕ) (c : Code) (inner : List Frame) → IsActive prog t a g n (under ks) → Back prog pending t a.function ks fs → IsLeft c [] (drop a.pc t.code) → Told m i c inner
       → Told m i (framed pending ks n g c) (inner ++ (told_as a ∷ map told_as fs))
   told_framed pending [] [] t a g n c inner active b l h = λ outer all e. (told_as a, frame_is t a g n [] c active l, h (told_as a ∷ outer) all (e ∙ append_assoc inner (told_as a ∷ []) outer))
   told_framed pending [] (f ∷ fs) t a g n c inner active b l h = absurd b
@@ -139,11 +140,11 @@ module _ (m : Module) (calls : List HostCall) (i : Instance) (v : IsValid m) (k 
       (told_framed pending ks fs b.0 f q.locals q.arity (inside q.labels call) (inner ++ (told_as a ∷ [])) b.1 b.3 left (told_inside m i q.labels call (inner ++ (told_as a ∷ [])) here))
 
   -- each has called the one inside it
-  calls_told : (t : OwnFunction) (a : Activation) (ks : List Caller) (fs : List Activation) → Back prog t a.function ks fs → AreCalls m i (told_as a ∷ map told_as fs)
-  calls_told t a [] [] b = tt
-  calls_told t a [] (f ∷ fs) b = absurd b
-  calls_told t a (q ∷ ks) [] b = absurd b
-  calls_told t a (q ∷ ks) (f ∷ fs) b =
+  calls_told : (pending : Awaited) (t : OwnFunction) (a : Activation) (ks : List Caller) (fs : List Activation) → Back prog pending t a.function ks fs → AreCalls m i (told_as a ∷ map told_as fs)
+  calls_told pending t a [] [] b = tt
+  calls_told pending t a [] (f ∷ fs) b = absurd b
+  calls_told pending t a (q ∷ ks) [] b = absurd b
+  calls_told pending t a (q ∷ ks) (f ∷ fs) b =
       let e = text_at v.context m.types m.functions m.bodies k.owned k.are_own v.functions f.function b.0 b.1.text in
       let text = is_text m calls i v k f.function b.0 b.1.text in
       let flat_is : b.0.code ≡ flatten op.End b.0.nested = ap (λ (z : OwnFunction). z.code) e.is ∙ sym e.nests.1 ∙ ap (λ (z : OwnFunction). flatten op.End z.nested) (sym e.is) in (
@@ -157,11 +158,11 @@ module _ (m : Module) (calls : List HostCall) (i : Instance) (v : IsValid m) (k 
           stands = ap (λ z. slice_get z b.4.call) (sym flat_is) ∙ b.4.stands;
           calls = b.4.calls;
         },
-        calls_told b.0 f ks fs b.3,
+        calls_told pending b.0 f ks fs b.3,
       )
 
   -- the frames of a configuration
-  frames_at : (pending : List ℕ) (s : Flat) (c : Configuration) → Stands prog pending s c → AreFrames m i (code_of c) [] (told_as s.current ∷ map told_as s.suspended)
+  frames_at : (pending : Awaited) (s : Flat) (c : Configuration) → Stands prog pending s c → AreFrames m i (code_of c) [] (told_as s.current ∷ map told_as s.suspended)
   frames_at pending s c st =
       let all = told_as s.current ∷ map told_as s.suspended in
       let work : Code = inside st.labels (code st.vs st.body) in
@@ -171,5 +172,5 @@ module _ (m : Module) (calls : List HostCall) (i : Instance) (v : IsValid m) (k 
       (told_framed pending st.callers s.suspended st.text s.current st.locals st.arity work [] st.active st.back left told [] all (sym (append-nil all)))
 
   -- those of a configuration that the machine stands for within a function
-  pub frames_told : (pending : List ℕ) (s : Flat) (c : Configuration) → Stands prog pending s c → AreFramesOf m i c (told_as s.current ∷ map told_as s.suspended)
-  frames_told pending s c st = record { frames = frames_at pending s c st; calls = calls_told st.text s.current st.callers s.suspended st.back }
+  pub frames_told : (pending : Awaited) (s : Flat) (c : Configuration) → Stands prog pending s c → AreFramesOf m i c (told_as s.current ∷ map told_as s.suspended)
+  frames_told pending s c st = record { frames = frames_at pending s c st; calls = calls_told pending st.text s.current st.callers s.suspended st.back }

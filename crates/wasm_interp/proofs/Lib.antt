@@ -10,3 +10,4 @@ pub mod PlaceSteps
 pub mod Reading
 pub mod Framing
 pub mod Limiting
+pub mod Making

@@ -6,3 +6,4 @@ pub mod Machine
 pub mod Frames
 pub mod Promise
 pub mod Shared
+pub mod Invoking

@@ -4,8 +4,10 @@
 mod activation;
 mod begin;
 mod fast;
+mod first_entry;
 mod frames;
 mod growth;
+mod invoking;
 mod laws;
 mod least;
 mod loads;
@@ -23,6 +25,7 @@ mod unary;
 
 pub use activation::Activation;
 pub use frames::{Frame, frames_are_the_configurations};
+pub use invoking::{Event, InvokedMachine, MOST_ARGUMENTS, NotInvoked};
 pub use laws::{
     limits_change_no_configuration, machines_keep_to_their_values, machines_show_their_stores,
 };

@@ -74,7 +74,7 @@ impl<'a> Machine<'a> {
         requires { self.old.used + units < 2 ^ 64 }
         ensures { Resumed H H.calls host.old host.new self.old self.new units result }
     {
-        self.state.resume(&self.prepared, host, units)
+        self.state.resume_making(&mut self.prepared, host, units)
     }
 
     /// The module that it runs.

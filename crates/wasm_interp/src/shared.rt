@@ -8,7 +8,9 @@ ghost use Rattle.wasm_interp.specs.Machine.{limited};
 ghost use Rattle.wasm_interp.specs.Shared.{AreCallsOf};
 
 use crate::begin::{begin, begin_again};
+use crate::first_entry::make_all_entries;
 use crate::frames::Frame;
+use crate::invoking::InvokedMachine;
 use crate::machine::RefusedInstance;
 use crate::state::State;
 use crate::tables::Prepared;
@@ -59,7 +61,9 @@ impl<'a> PreparedModule<'a> {
             Ok(begun) => begun.tables,
             Err(fault) => return Err(RefusedInstance { valid, fault }),
         };
-        match Arc::new(alloc, Prepared { valid, tables }) {
+        let mut prepared = Prepared { valid, tables };
+        make_all_entries(&mut prepared);
+        match Arc::new(alloc, prepared) {
             Ok(prepared) => Ok(PreparedModule { prepared, pages }),
             Err(refused) => Err(RefusedInstance {
                 valid: refused.value.valid,
@@ -169,6 +173,13 @@ impl<'a> SharedMachine<'a> {
         ensures { self.new ≡ limited most self.old }
     {
         self.state.limit_values(most);
+    }
+
+    /// The same machine, whose exported functions are called from now on.
+    pub fn into_invoked(self) -> InvokedMachine<'a>
+        ensures { result ≡ self.entry }
+    {
+        InvokedMachine::of(self.prepared, self.state)
     }
 
     /// The function at work with so many inside it, as `Machine::frame` tells it.

@@ -1,6 +1,6 @@
-use Rattle.std.proofs.Common.{Option, refl, subst, sym}
+use Rattle.std.proofs.Common.{Option, ap, refl, subst, sym}
 use Rattle.sandbox_command.specs.declared.stopping.Stopped.{Stopped}
-use Rattle.sandbox_command.specs.Alone.{HandsNothing, IsProfiled, file_of}
+use Rattle.sandbox_command.specs.Alone.{IsProfiled, KeepsIt, file_of}
 use Rattle.sandbox_command.specs.Around.{around, flushing}
 use Rattle.sandbox_words.specs.Request.{Text}
 use Rattle.sandbox_command.specs.Modules.{profile_for}
@@ -29,15 +29,15 @@ returns g c =
     let profiled = c.profiled-ending.new.places in
     let ending = c.profiled-ending.result in
     runs_with (around g.P.Places g.P.Input.Read g.P.Output.Write g.P.Volume.Device g.R.Read g.W1.Write g.W2.Write (flushing g.P.Output.Outlet.flushed g.P.Output.Outlet.refuses g.W1.Outlet.flushed g.W1.Outlet.refuses g.W2.Outlet.flushed g.W2.Outlet.refuses)) g.P.Volume.Device
-    (λ left before said p q status summary. HandsNothing g.P.Places before said p q status summary)
+    (λ left before said p q status summary after. KeepsIt g.P.Places left before said p q status summary after)
     run c.args.device c.args.wired.streams c.args.wired.spare (file_of c.args.wired.profile) c.args.report
     _ _ _ _ c.as_slice-module.ensures.value c.as_slice-random.ensures.value ended c.run-ended.ensures.runs c.run-ended.ensures.answered
     finished.left.0 finished.left.1 c.finished-stopped.result.2 finished.left.2 c.told-status.new.err
     (lines_then _ _ _ c.profiled-ending.ensures.lines c.told-status.ensures.lines)
     c.as_slice-lines.result.now (subst (λ (text : Text). TellsLines (profile_for run.floats) bytes run.frames ended.stopped text) (sym c.as_slice-lines.ensures.value) c.run-ended.ensures.lines)
-    c.finished-stopped.result.0.status c.finished-stopped.result.0.summary ending.status ending.summary
+    c.finished-stopped.result.2.device c.finished-stopped.result.0.status c.finished-stopped.result.0.summary ending.status ending.summary
     c.args.places.now c.args.places.now profiled c.told-status.new.places c.end.new.self c.told-status.result
-    (refl, finished.ending.0, finished.ending.1)
+    ((refl, finished.ending.0, finished.ending.1), ap (λ l. l.device) finished.left.2)
     (subst (λ (s : Option Stopped). IsProfiled g.P.Places g.P.Output.Write bytes s run.profile (file_of c.args.wired.profile) c.finished-stopped.result.0.status c.finished-stopped.result.0.summary c.args.places.now profiled ending.status ending.summary) finished.stopped
     (subst (λ (f : Option _). IsProfiled g.P.Places g.P.Output.Write bytes c.finished-stopped.result.1 run.profile f c.finished-stopped.result.0.status c.finished-stopped.result.0.summary c.args.places.now profiled ending.status ending.summary) c.parted-stacks.ensures.file
     c.profiled-ending.ensures.profile))

@@ -1,7 +1,7 @@
 use Rattle.std.proofs.Common.{sym, subst}
 use Rattle.sandbox_command.specs.declared.opening.Medium.{Medium}
-use Rattle.sandbox_command.specs.Alone.{Hands, HandsNothing, RunsOnMedium, RunsWith, file_of}
-use Rattle.sandbox_command.specs.Around.{around, flushing, in_memory}
+use Rattle.sandbox_command.specs.Alone.{KeepsIt, RunsFilled, RunsInMemory, RunsOnMedium, RunsWith, file_of}
+use Rattle.sandbox_command.specs.Around.{around, flushing}
 use Rattle.sandbox_command.proofs.Finishing.{rewired}
 use Rattle.sandbox_command.proofs.runs.run_opened.Goals as goal
 
@@ -11,7 +11,7 @@ returns-in-File g c =
     let run = c.args.run.now in
     let opened = c.args.opened in
     subst (λ (m : Medium _). RunsOnMedium on m run opened c.args.given c.args.report c.args.places.now c.run_in_file.new.places c.run_in_file.result) (sym c.in-File.is)
-    (rewired (λ streams spare. RunsWith on g.P.Volume.Device (λ left before said p q status summary. HandsNothing g.P.Places before said p q status summary)
+    (rewired (λ streams spare. RunsWith on g.P.Volume.Device (λ left before said p q status summary after. KeepsIt g.P.Places left before said p q status summary after)
     run opened.«module».items opened.random.items c.in-File.device streams spare (file_of opened.profile) c.args.report c.args.places.now c.run_in_file.new.places c.run_in_file.result)
     _ _ c.source_of-input.ensures.source _ _ c.sink_of-out.ensures.sink _ _ c.sink_of-err.ensures.sink
     _ _ c.source_of-input.ensures.spare _ _ c.sink_of-out.ensures.spare _ _ c.sink_of-err.ensures.spare
@@ -23,8 +23,20 @@ returns-in-Memory g c =
     let run = c.args.run.now in
     let opened = c.args.opened in
     subst (λ (m : Medium _). RunsOnMedium on m run opened c.args.given c.args.report c.args.places.now c.run_in_memory.new.places c.run_in_memory.result) (sym c.in-Memory.is)
-    (rewired (λ streams spare. RunsWith on in_memory (λ left before said p q status summary. Hands g.P.Places run.volume_out left before said p q status summary)
+    (rewired (λ streams spare. RunsInMemory on
     run opened.«module».items opened.random.items c.in-Memory.device streams spare (file_of opened.profile) c.args.report c.args.places.now c.run_in_memory.new.places c.run_in_memory.result)
     _ _ c.source_of-input.ensures.source _ _ c.sink_of-out.ensures.sink _ _ c.sink_of-err.ensures.sink
     _ _ c.source_of-input.ensures.spare _ _ c.sink_of-out.ensures.spare _ _ c.sink_of-err.ensures.spare
     c.run_in_memory.ensures)
+
+pub returns-in-Archive : goal.returns-in-Archive
+returns-in-Archive g c =
+    let on = around g.P.Places g.P.Input.Read g.P.Output.Write g.P.Volume.Device g.R.Read g.W1.Write g.W2.Write (flushing g.P.Output.Outlet.flushed g.P.Output.Outlet.refuses g.W1.Outlet.flushed g.W1.Outlet.refuses g.W2.Outlet.flushed g.W2.Outlet.refuses) in
+    let run = c.args.run.now in
+    let opened = c.args.opened in
+    subst (λ (m : Medium _). RunsOnMedium on m run opened c.args.given c.args.report c.args.places.now c.run_filled.new.places c.run_filled.result) (sym c.in-Archive.is)
+    (rewired (λ streams spare. RunsFilled on
+    run c.in-Archive.archive.items opened.«module».items opened.random.items streams spare (file_of opened.profile) c.args.report c.args.places.now c.run_filled.new.places c.run_filled.result)
+    _ _ c.source_of-input.ensures.source _ _ c.sink_of-out.ensures.sink _ _ c.sink_of-err.ensures.sink
+    _ _ c.source_of-input.ensures.spare _ _ c.sink_of-out.ensures.spare _ _ c.sink_of-err.ensures.spare
+    c.run_filled.ensures)

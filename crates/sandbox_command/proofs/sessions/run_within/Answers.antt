@@ -1,9 +1,9 @@
-use Rattle.std.proofs.Common.{◌≡◌, ◌∙◌, ap, subst}
+use Rattle.std.proofs.Common.{◌∙◌, ap, subst}
 use Rattle.sandbox_core.specs.Devices.{devices}
-use Rattle.sandbox_core.specs.Session.{limited_to, used_by}
+use Rattle.sandbox_core.specs.Session.{used_by}
 use Rattle.sandbox_command.specs.Profiling.{ReportsCharged, slice_of}
 use Rattle.sandbox_command.specs.Supplies.{terminals_of}
-use Rattle.sandbox_command.specs.internal.Seeds.{prepared_by, with_seed, with_terminals}
+use Rattle.sandbox_command.specs.internal.Seeds.{with_seed, with_terminals}
 use Rattle.sandbox_command.proofs.sessions.run_within.Goals as goal
 
 pub run_charged-requires-clause-unused : goal.run_charged-requires-clause-unused

@@ -1,4 +1,4 @@
-use Rattle.std.proofs.Common.{◌≡◌, ℕ, List, ◌++◌, length, reverse, None, Some, sym, ap, ◌∙◌, arith, length-append}
+use Rattle.std.proofs.Common.{◌≡◌, ◌++◌, length, reverse, None, Some, sym, ap, ◌∙◌, arith, length-append}
 use Rattle.std.proofs.lemmas.List.{length-reverse}
 use Rattle.wasm_steps.specs.declared.pause.Outcome.TheVariants as ends
 use Rattle.wasm_steps.specs.Configuration.{Configuration, code, code_of, store_of, values_in}
@@ -12,9 +12,10 @@ use Rattle.wasm_interp.specs.internal.Programs.{program_of}
 use Rattle.wasm_interp.proofs.Values.{length-numbers}
 use Rattle.wasm_interp.proofs.PlainSteps.Large.{values_framed, values_inside}
 use Rattle.wasm_interp.proofs.laws.machines_keep_to_their_values.Goals as goal
+use Rattle.wasm_interp.specs.internal.Awaited.{Awaited}
 
 -- the values of a configuration are those on the stack
-counted : (p : Program) (s : Flat) (pending : List ℕ) (f : Phase) (c : Configuration) → outcome_at f ≡ None → StandsAt p s pending f c → values_in (code_of c) ≡ length s.stack
+counted : (p : Program) (s : Flat) (pending : Awaited) (f : Phase) (c : Configuration) → outcome_at f ≡ None → StandsAt p s pending f c → values_in (code_of c) ≡ length s.stack
 counted p s pending within c e st =
     let work = inside st.labels (code st.vs st.body) in
     let rest = reverse st.locals ++ under st.callers in
@@ -30,7 +31,7 @@ counted p s pending within c e st =
       length-append (reverse st.locals) (under st.callers),
       length-reverse st.locals,
     )
-counted p s pending between c e st = ap (λ (y : Configuration). values_in (code_of y)) st.is ∙ ap length (sym st.stack)
+counted p s pending between c e st = ap (λ (y : Configuration). values_in (code_of y)) st.is ∙ sym (length-numbers st.vs) ∙ ap length (sym st.stack)
 counted p s pending refused c e st = let z : Some ends.OutOfMemory ≡ None = e in absurd (cc)
 counted p s pending (over o) c e st = let z : Some o ≡ None = e in absurd (cc)
 

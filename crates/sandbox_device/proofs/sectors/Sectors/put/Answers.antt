@@ -1,36 +1,29 @@
-use Rattle.std.proofs.Common.{arith, ◌∙◌}
-use Rattle.sandbox_device.proofs.Packing.{put_over, has_room, put_packed, put_new, put_zeros}
+use Rattle.std.proofs.Common.{sym, ap, arith, ◌∙◌, [], length, length-set}
+use Rattle.std.proofs.lemmas.List.{get_or_read}
+use Rattle.sandbox_device.proofs.InParts.{found_in, put_in_parts, put_joined}
 use Rattle.sandbox_device.proofs.sectors.Sectors.put.Goals as goal
 
-pub push_reserved-requires : goal.push_reserved-requires
-push_reserved-requires c =
+pub index_mut-requires : goal.index_mut-requires
+index_mut-requires c =
     let s = c.self.inside in
-    let room = has_room s.written.items s.places.items c.args.self.now c.args.n c.index-place.result.now c.args.image.now c.self.invariant.0 c.self.view_is c.requires c.index-place.ensures
-    (omega (arith, c.if-place-gt0.false)) in
-    omega (arith, room, c.self.invariant.1, s.written.ok, s.places.ok)
+    let at = found_in s.parts.items c.args.self.now c.args.n c.self.invariant.0 c.self.view_is c.requires in
+    omega (arith, at.part, s.parts.ok)
 
-pub invariant_of-self-then-not-is_zeros : goal.invariant_of-self-then-not-is_zeros
-invariant_of-self-then-not-is_zeros c =
-    let s = c.self.inside in (
-      put_packed s.written.items s.places.items c.args.self.now c.args.n c.index-place.result.now c.args.image.now c.self.invariant.0 c.self.view_is c.requires c.index-place.ensures
-          (omega (arith, c.if-place-gt0.false)) c.push_reserved.new.self.items c.len.result c.push_reserved.ensures.items (c.len.ensures ∙ c.push_reserved.new.self.ok.0),
-      omega (arith, c.self.invariant.1, c.push_reserved.ensures.capacity),
-      c.self.invariant.2,
+pub put-requires : goal.put-requires
+put-requires c =
+    let s = c.self.inside in
+    let at = found_in s.parts.items c.args.self.now c.args.n c.self.invariant.0 c.self.view_is c.requires in
+    omega (arith, at.place, ap length (get_or_read s.parts.items _ _ at.part c.index_mut.ensures.value []))
+
+pub invariant_of-self : goal.invariant_of-self
+invariant_of-self c =
+    let s = c.self.inside in
+    let joined_is = put_joined s.parts.items c.args.self.now c.index_mut.result.now c.put.new.self c.args.n c.args.image.now c.self.invariant.0 c.self.view_is c.requires c.index_mut.ensures.value c.put.ensures in (
+      put_in_parts s.parts.items c.args.self.now c.index_mut.result.now c.put.new.self c.args.n c.args.image.now c.self.invariant.0 c.self.view_is c.requires c.index_mut.ensures.value c.put.ensures,
+      ap length joined_is ∙ length-set c.args.self.now c.args.n c.args.image.now ∙ sym (ap length c.self.view_is) ∙ c.self.invariant.1,
     )
 
-pub returns-then-place-gt0 : goal.returns-then-place-gt0
-returns-then-place-gt0 c =
+pub returns : goal.returns
+returns c =
     let s = c.self.inside in
-    put_over s.written.items s.places.items c.args.self.now c.args.n c.index-place.result.now c.args.image.now c.self.invariant.0 c.self.view_is c.requires c.index-place.ensures c.if-place-gt0.true
-
-pub returns-then-not-is_zeros : goal.returns-then-not-is_zeros
-returns-then-not-is_zeros c =
-    let s = c.self.inside in
-    put_new s.written.items s.places.items c.args.self.now c.args.n c.index-place.result.now c.args.image.now c.self.invariant.0 c.self.view_is c.requires c.index-place.ensures
-    (omega (arith, c.if-place-gt0.false)) c.push_reserved.new.self.items c.len.result c.push_reserved.ensures.items (c.len.ensures ∙ c.push_reserved.new.self.ok.0)
-
-pub returns-else-not-is_zeros : goal.returns-else-not-is_zeros
-returns-else-not-is_zeros c =
-    let s = c.self.inside in
-    put_zeros s.written.items s.places.items c.args.self.now c.args.n c.index-place.result.now c.args.image.now c.self.invariant.0 c.self.view_is c.requires c.index-place.ensures
-    (omega (arith, c.if-place-gt0.false)) (c.is_zeros.ensures c.if-not-is_zeros.false)
+    put_joined s.parts.items c.args.self.now c.index_mut.result.now c.put.new.self c.args.n c.args.image.now c.self.invariant.0 c.self.view_is c.requires c.index_mut.ensures.value c.put.ensures

@@ -1,4 +1,3 @@
-use Rattle.std.specs.Prelude.{take}
 use Rattle.sandbox_device.specs.Written.{was_put}
 use Rattle.sandbox_device.proofs.Told.{if_ok}
 use Rattle.sandbox_device.proofs.written_file.FileWrittenFile.put.Goals as goal

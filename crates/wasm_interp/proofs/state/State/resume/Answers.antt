@@ -11,6 +11,9 @@ pub running-preserved : goal.running-preserved
 running-preserved g c =
     runs_on _ g.H.Host.calls c.args.guest.now (c.args.self.now.used + c.args.units) c.args.units c.args.host.now c.args.self.now c.running.self c.running.host c.turn.new.host c.turn.new.self c.running.invariant c.in_default.ensures.continues c.turn.ensures.live c.in_default.ensures.runs c.turn.ensures.most
 
+pub turn-requires : goal.turn-requires
+turn-requires g c = record { live = c.running.invariant.live; units = c.running.invariant.units_left; awaited = λ between none. c.running.invariant.goes.1.invoked ∙ c.requires.command }
+
 pub returns-in-Some-clause-pauses : goal.returns-in-Some-clause-pauses
 returns-in-Some-clause-pauses g c =
     runs_to _ g.H.Host.calls c.args.guest.now (c.args.self.now.used + c.args.units) c.args.units c.args.host.now c.args.self.now c.running.self c.running.host c.turn.new.host c.turn.new.self c.in-Some.pause c.running.invariant c.in-Some.ensures.continues

@@ -1,7 +1,0 @@
-use Rattle.sandbox_command.proofs.Lines.{lines_then}
-use Rattle.sandbox_command.proofs.closing.handed_out.Goals as goal
-
-pub returns-in-Err-clause-lines : goal.returns-in-Err-clause-lines
-returns-in-Err-clause-lines g c =
-    let errs = g.W.Write.contents in
-    lines_then (errs c.args.err.now) (errs c.refuse_file-status.new.err) (errs c.tell_of_kind.new.err) c.refuse_file-status.ensures.line c.tell_of_kind.ensures
