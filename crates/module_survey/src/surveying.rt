@@ -5,7 +5,8 @@ ghost use Rattle.std.specs.IoError.{error_kind};
 ghost use Rattle.wasm_module.specs.Module.{SpellsWith};
 ghost use Rattle.wasm_valid.specs.Validity.{IsValid};
 ghost use Rattle.module_survey.specs.Refusal.{IsRefusedFor, IsSurvey};
-ghost use Rattle.module_survey.specs.Printing.{PrintsBeginning, Tells};
+ghost use Rattle.stream_answers.specs.Hearing.{Moves, Refuses};
+ghost use Rattle.module_survey.specs.Printing.{HearsPrinting, PrintsBeginning, Tells};
 
 use crate::links::Links;
 use crate::listing::add_survey;
@@ -13,7 +14,8 @@ use crate::printing::print_all;
 use crate::refusal::add_refusal;
 use std::alloc::Global;
 use std::io;
-use std::io::{Error, ErrorKind, Write};
+use std::io::{Error, ErrorKind};
+use stream_answers::Outlet;
 use wasm_module::{LoadFault, Profile, decode_with, one_module_with};
 use wasm_valid::{Valid, validate};
 
@@ -77,7 +79,7 @@ fn text_in_memory<L: Links>(
 ///
 /// `OutOfMemory` where memory was refused, and nothing is printed then; else what the writer refused with, after a beginning
 /// of the text.
-pub fn survey<L: Links, W: Write>(
+pub fn survey<L: Links, W: Outlet>(
     alloc: Global,
     links: &L,
     bytes: &[u8],
@@ -86,6 +88,7 @@ pub fn survey<L: Links, W: Write>(
 ) -> io::Result<Result<(), LoadFault>>
     ensures tells { IfOk result (Tells L.links profile bytes.now (W.contents out.old) (W.contents out.new)) }
     ensures begins { IfErr result (λ e. PrintsBeginning L.links profile bytes.now (W.contents out.old) (W.contents out.new) (error_kind e)) }
+    ensures heard { HearsPrinting error_kind (Moves W.took) (Refuses W.took W.refused) result out.old out.new }
 {
     match text_in_memory(alloc, links, bytes, profile) {
         Ok((text, outcome)) => match print_all(out, text.as_slice()) {

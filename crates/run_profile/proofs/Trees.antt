@@ -1,11 +1,13 @@
 -- One node more.
-use Rattle.std.proofs.Common.{◌≡◌, ◌≤◌, ◌<◌, ◌+◌, ◌-◌, ℕ, zero, suc, List, [], ◌∷◌, ◌++◌, Some, length, slice_get, slice_index, drop, replicate, append_assoc, append-nil, Bool, true, false, not, if◌then◌else◌, true≢false, refl, sym, ap, subst, ◌∙◌, arith}
+use Rattle.std.proofs.Common.{◌≡◌, ◌≤◌, ◌<◌, ◌+◌, ◌-◌, ◌^◌, ℕ, zero, suc, List, [], ◌∷◌, ◌++◌, Some, length, slice_get, slice_index, slice_set, slice_index_or, sum, drop, replicate, append_assoc, append-nil, length-append, Bool, true, false, not, if◌then◌else◌, true≢false, refl, sym, ap, subst, ◌∙◌, arith}
 use Rattle.std.specs.List.{position}
 use Rattle.std.specs.Option.{unwrap_or}
 use Rattle.std.proofs.lemmas.List.Quantifiers.{position-Some}
 use Rattle.std.proofs.lemmas.Option.{slice_get-get_or}
+use Rattle.std.proofs.lemmas.List.{get_or-set_same, get_or-set_other, length-set}
+use Rattle.std.proofs.lemmas.List.Sums.{sum_by-set, get_or-le-sum_by}
 use Rattle.run_profile.specs.declared.stacks.Call.{Call}
-use Rattle.run_profile.specs.Stacks.{Stacks, Grows, IsNodeOf, IsStack, bottom, above}
+use Rattle.run_profile.specs.Stacks.{Stacks, AddsUnits, Grows, IsNodeOf, IsStack, bottom, above}
 
 some_same : {X : Type 0} {a b : X} → Some a ≡ Some b → a ≡ b
 some_same {X} {a} {b} e = ap (λ o. unwrap_or o a) e
@@ -25,6 +27,15 @@ each_more P (z ∷ xs) y h p (suc k) x e = each_more (λ a b. P (suc a) b) xs y 
 pub callers_below : (calls : List Call) (last : Call) → ((k : ℕ) (call : Call) → slice_get calls k ≡ Some call → call.caller ≤ k) → last.caller ≤ length calls
     → (k : ℕ) (call : Call) → slice_get (calls ++ last ∷ []) k ≡ Some call → call.caller ≤ k
 callers_below calls last all low = each_more (λ k call. call.caller ≤ k) calls last all low
+
+-- the tree with a call more is one
+pub grown_tree : (calls grown : List Call) (units more : List ℕ) (last : Call) → grown ≡ calls ++ last ∷ [] → more ≡ units ++ 0 ∷ [] → length units ≡ suc (length calls)
+    → ((k : ℕ) (call : Call) → slice_get calls k ≡ Some call → call.caller ≤ k) → last.caller < length units
+    → (length more ≡ suc (length grown)) × ((k : ℕ) (call : Call) → slice_get grown k ≡ Some call → call.caller ≤ k)
+grown_tree calls grown units more last is more_is fits low there = (
+  omega (arith, ap length is, length-append calls (last ∷ []), ap length more_is, length-append units (0 ∷ []), fits),
+  subst (λ (calls : List Call). (k : ℕ) (call : Call) → slice_get calls k ≡ Some call → call.caller ≤ k) (sym is) (callers_below calls last low (omega (arith, fits, there))),
+)
 
 front : {X : Type 0} (xs ys : List X) (k : ℕ) (x : X) → slice_get xs k ≡ Some x → slice_get (xs ++ ys) k ≡ Some x
 front [] ys k x e = cc
@@ -125,3 +136,32 @@ found_below calls node at call found more some there is so below rest =
 -- all are found
 pub found_all : (calls : List Call) (node at : ℕ) (found : List ℕ) → at ≡ 0 → ((below : List ℕ) → IsStack calls at below → IsStack calls node (found ++ below)) → IsStack calls node found
 found_all calls node at found is so = subst (IsStack calls node) (append-nil found) (so [] (subst (λ (n : ℕ). IsStack calls n []) (sym is) bottom))
+
+-- a node that was there is there when the tree has grown and is cut
+pub still_there : (old grown cut : Stacks) (node : ℕ) → Grows old grown → cut ≡ record grown { is_cut = true } → node < length old.units → node < length cut.units
+still_there old grown cut node grows is small =
+    omega (arith, small, ap (λ (s : Stacks). length s.units) is, ap length grows.units, length-append old.units (zeros (length grows.added)))
+
+-- ---- units of a node
+
+any_or : (units : List ℕ) (node found : ℕ) → node < length units → found ≡ slice_index_or units node found → found ≡ slice_index units node
+any_or [] node found small is = elim small [ ]
+any_or (u ∷ units) zero found small is = is
+any_or (u ∷ units) (suc node) found small is = any_or units node found (omega (arith, small)) is
+
+pub adds : (calls : List Call) (units : List ℕ) (cut : Bool) (node found more : ℕ) → node < length units → found ≡ slice_index_or units node found
+    → AddsUnits (record { calls = calls; units = units; is_cut = cut }) (record { calls = calls; units = slice_set units node (found + more); is_cut = cut }) node more
+adds calls units cut node found more small is =
+    let was : found ≡ slice_index units node = any_or units node found small is in
+    record {
+      calls = refl;
+      is_cut = refl;
+      nodes = length-set units node (found + more);
+      there = get_or-set_same units node (found + more) 0 small ∙ ap (λ n. n + more) was;
+      elsewhere = λ k other. get_or-set_other units node k (found + more) 0 other;
+      in_all = omega (arith, sum_by-set (λ n. n) units node (found + more) 0 small, was);
+    }
+
+-- they fit, since all of them do
+pub units_fit : (units : List ℕ) (node found more : ℕ) → node < length units → found ≡ slice_index_or units node found → sum units + more < 2 ^ 64 → found + more < 2 ^ 64
+units_fit units node found more small is few = omega (arith, any_or units node found small is, get_or-le-sum_by (λ n. n) units node 0 small, few)

@@ -107,11 +107,11 @@ impl<W: Write> Write for Counted<W> {
 }
 
 impl<R: Inlet> Inlet for Counted<R> {
-    ghost use Rattle.std.specs.Prelude.{true};
+    ghost use Rattle.run_report.specs.Counting.{counted_moved, counted_refused};
 
-    ghost gave = { λ before bytes after. R.gave before.stream bytes after.stream × (after.failed ≡ before.failed) };
+    ghost gave = { counted_moved R.gave };
 
-    ghost refused = { λ before after. R.refused before.stream after.stream × (after.failed ≡ true) };
+    ghost refused = { counted_refused R.refused };
 
     fn try_read(&mut self, buf: &mut [u8]) -> io::Result<usize> {
         let moved = self.stream.try_read(buf);
@@ -120,13 +120,11 @@ impl<R: Inlet> Inlet for Counted<R> {
 }
 
 impl<W: Outlet> Outlet for Counted<W> {
-    ghost use Rattle.std.specs.Prelude.{◌⊎◌, true};
+    ghost use Rattle.run_report.specs.Counting.{counted_moved, counted_refused_or_full};
 
-    ghost took = { λ before bytes after. W.took before.stream bytes after.stream × (after.failed ≡ before.failed) };
+    ghost took = { counted_moved W.took };
 
-    // The stream refused, and is noted as failed; or it has all that it takes, and isn't asked.
-    ghost refused = { λ before after. (W.refused before.stream after.stream × (after.failed ≡ true))
-        ⊎ ((after.stream ≡ before.stream) × (after.full ≡ true) × (after.failed ≡ before.failed)) };
+    ghost refused = { counted_refused_or_full W.refused };
 
     ghost flushed = { λ before after. W.flushed before.stream after.stream × (after.failed ≡ before.failed) };
 

@@ -3,7 +3,7 @@ use Rattle.std.proofs.Common.{◌≡◌, ℕ, List, [], ◌∷◌, map, Option, 
 use Rattle.std.proofs.lemmas.Option.{same_Some}
 use Rattle.vol_sector.specs.Disk.{Disk}
 use Rattle.wasi_calls.specs.declared.host.settings.Settings.{Settings}
-use Rattle.wasi_calls.specs.host.Worlds.{given_of}
+use Rattle.wasi_calls.specs.host.Worlds.{Hearing, given_of}
 use Rattle.sandbox_core.specs.Session.{given}
 use Rattle.sandbox_words.specs.declared.request.Run.{Run}
 use Rattle.sandbox_words.specs.Request.{Text}
@@ -53,13 +53,13 @@ same_supplies run run' random settings settings' same has has' = record {
 
 module _ {D R W1 W2 D' R' W1' W2' : Type 0}
     (is_honest : D → Type 0) (disk : D → Disk) (sectors_on failures : D → ℕ) (goes_on : ℕ → D → D → Type 0)
-    (remaining : R → Option (List ℕ)) (out_contents : W1 → Option (List ℕ)) (err_contents : W2 → Option (List ℕ))
+    (remaining : R → Option (List ℕ)) (out_contents : W1 → Option (List ℕ)) (err_contents : W2 → Option (List ℕ)) (ear : Hearing R W1 W2)
     (is_honest' : D' → Type 0) (disk' : D' → Disk) (sectors_on' failures' : D' → ℕ) (goes_on' : ℕ → D' → D' → Type 0)
-    (remaining' : R' → Option (List ℕ)) (out_contents' : W1' → Option (List ℕ)) (err_contents' : W2' → Option (List ℕ)) where
-  pub same_program_run : SameProgramRun is_honest disk sectors_on failures goes_on remaining out_contents err_contents is_honest' disk' sectors_on' failures' goes_on' remaining' out_contents' err_contents'
+    (remaining' : R' → Option (List ℕ)) (out_contents' : W1' → Option (List ℕ)) (err_contents' : W2' → Option (List ℕ)) (ear' : Hearing R' W1' W2') where
+  pub same_program_run : SameProgramRun is_honest disk sectors_on failures goes_on remaining out_contents err_contents ear is_honest' disk' sectors_on' failures' goes_on' remaining' out_contents' err_contents' ear'
   same_program_run m run run' random settings settings' volume volume' input input' out out' err err' left left' valid same has has' tree room honest honest' ran ran' =
-      same_report (counted_devices is_honest disk sectors_on failures goes_on remaining out_contents err_contents)
-      (counted_devices is_honest' disk' sectors_on' failures' goes_on' remaining' out_contents' err_contents')
+      same_report (counted_devices is_honest disk sectors_on failures goes_on remaining out_contents err_contents ear)
+      (counted_devices is_honest' disk' sectors_on' failures' goes_on' remaining' out_contents' err_contents' ear')
       m run.seed run'.seed (terminals_of run) (terminals_of run') (counting run (given settings volume input out err)) (counting run' (given settings' volume' input' out' err')) ran.session ran'.session
       run.limits.fuel run'.limits.fuel ran.report ran'.report valid
       (record { supplies = same_supplies run run' random settings settings' same has has'; tree = tree; room = room })

@@ -6,6 +6,7 @@ use Rattle.vol_tree.specs.Opened.{Opened, geometry}
 use Rattle.wasm_module.specs.declared.module.Module.{Module}
 use Rattle.wasm_valid.specs.Validity.{IsValid}
 use Rattle.wasi_calls.specs.declared.host.settings.Settings.{Settings}
+use Rattle.wasi_calls.specs.host.Worlds.{Hearing}
 use Rattle.sandbox_core.specs.Session.{given}
 use Rattle.sandbox_words.specs.declared.request.Run.{Run}
 use Rattle.sandbox_words.specs.Request.{Text, texts, arguments_of}
@@ -28,9 +29,9 @@ pub record HandOutTheSame (run run' : Run) : Type 0 where
 
 module _ {D R W1 W2 D' R' W1' W2' : Type 0}
     (is_honest : D → Type 0) (disk : D → Disk) (sectors_on failures : D → ℕ) (goes_on : ℕ → D → D → Type 0)
-    (remaining : R → Option (List ℕ)) (out_contents : W1 → Option (List ℕ)) (err_contents : W2 → Option (List ℕ))
+    (remaining : R → Option (List ℕ)) (out_contents : W1 → Option (List ℕ)) (err_contents : W2 → Option (List ℕ)) (ear : Hearing R W1 W2)
     (is_honest' : D' → Type 0) (disk' : D' → Disk) (sectors_on' failures' : D' → ℕ) (goes_on' : ℕ → D' → D' → Type 0)
-    (remaining' : R' → Option (List ℕ)) (out_contents' : W1' → Option (List ℕ)) (err_contents' : W2' → Option (List ℕ)) where
+    (remaining' : R' → Option (List ℕ)) (out_contents' : W1' → Option (List ℕ)) (err_contents' : W2' → Option (List ℕ)) (ear' : Hearing R' W1' W2') where
   -- For two runs of a valid module with such words and the same random bytes, on volumes with the same tree and the same
   -- room, whose devices keep their models.
   abbrev pub SameProgramRun : Type 0
@@ -40,10 +41,10 @@ module _ {D R W1 W2 D' R' W1' W2' : Type 0}
       → IsValid m → HandOutTheSame run run' → AreSettings run random settings → AreSettings run' random settings'
       → volume.tree ≡ volume'.tree → geometry volume.numbers ≡ geometry volume'.numbers
       → is_honest volume.device → is_honest' volume'.device
-      → (ran : Ran is_honest disk sectors_on failures goes_on remaining out_contents err_contents m run
+      → (ran : Ran is_honest disk sectors_on failures goes_on remaining out_contents err_contents ear m run
       (given settings volume input out err) left)
-      → (ran' : Ran is_honest' disk' sectors_on' failures' goes_on' remaining' out_contents' err_contents' m run'
+      → (ran' : Ran is_honest' disk' sectors_on' failures' goes_on' remaining' out_contents' err_contents' ear' m run'
       (given settings' volume' input' out' err') left')
-      → TellTheSame (counted_devices is_honest disk sectors_on failures goes_on remaining out_contents err_contents)
-      (counted_devices is_honest' disk' sectors_on' failures' goes_on' remaining' out_contents' err_contents')
+      → TellTheSame (counted_devices is_honest disk sectors_on failures goes_on remaining out_contents err_contents ear)
+      (counted_devices is_honest' disk' sectors_on' failures' goes_on' remaining' out_contents' err_contents' ear')
       ran.counted.reports ran'.counted.reports

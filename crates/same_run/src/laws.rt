@@ -2,6 +2,7 @@
 
 ghost use Rattle.wasi_calls.specs.World.{World};
 ghost use Rattle.wasi_calls.specs.Calls as world;
+ghost use Rattle.wasi_calls.specs.host.Worlds.{hearing};
 ghost use Rattle.sandbox_core.specs.Devices.{devices};
 ghost use Rattle.same_run.specs.Failures.{FailuresStay, has_failed};
 ghost use Rattle.same_run.specs.NextStep.{AnswersOnce, OneNextStep};
@@ -10,7 +11,7 @@ ghost use Rattle.same_run.specs.OneStart.{OneStart};
 ghost use Rattle.same_run.specs.SameProgram.{SameProgramRun};
 ghost use Rattle.same_run.specs.SameRun.{SameReport, SameRun};
 
-use std::io::{Read, Write};
+use stream_answers::{Inlet, Outlet};
 use vol_sector::Device;
 use wasm_store::Host;
 
@@ -51,44 +52,48 @@ pub fn one_start<H: Host>()
 /// their devices and streams are: where the host failed in neither and both read of the same input, they are the same.
 pub fn same_run<
     D: Device,
-    R: Read,
-    W1: Write,
-    W2: Write,
+    R: Inlet,
+    W1: Outlet,
+    W2: Outlet,
     E: Device,
-    S: Read,
-    X1: Write,
-    X2: Write,
+    S: Inlet,
+    X1: Outlet,
+    X2: Outlet,
 >()
-    ensures { SameRun (devices D.Device R.Read W1.Write W2.Write) (devices E.Device S.Read X1.Write X2.Write) }
+    ensures { SameRun (devices D.Device R.Read W1.Write W2.Write R.gave R.refused W1.took W1.refused W2.took W2.refused)
+        (devices E.Device S.Read X1.Write X2.Write S.gave S.refused X1.took X1.refused X2.took X2.refused) }
 {}
 
 /// The same module, supplies and volume give the same run, unless the host failed: memory, a stream or the device. So the
 /// reports of two such sessions tell of the same outcome, units, answers, bytes and tree.
 pub fn same_report<
     D: Device,
-    R: Read,
-    W1: Write,
-    W2: Write,
+    R: Inlet,
+    W1: Outlet,
+    W2: Outlet,
     E: Device,
-    S: Read,
-    X1: Write,
-    X2: Write,
+    S: Inlet,
+    X1: Outlet,
+    X2: Outlet,
 >()
-    ensures { SameReport (devices D.Device R.Read W1.Write W2.Write) (devices E.Device S.Read X1.Write X2.Write) }
+    ensures { SameReport (devices D.Device R.Read W1.Write W2.Write R.gave R.refused W1.took W1.refused W2.took W2.refused)
+        (devices E.Device S.Read X1.Write X2.Write S.gave S.refused X1.took X1.refused X2.took X2.refused) }
 {}
 
 /// The same for runs of the program: the same module, words, random bytes, input and volume give the same run, unless the
 /// host failed. A failure is also what `--output` cuts.
 pub fn same_program_run<
     D: Device,
-    R: Read,
-    W1: Write,
-    W2: Write,
+    R: Inlet,
+    W1: Outlet,
+    W2: Outlet,
     E: Device,
-    S: Read,
-    X1: Write,
-    X2: Write,
+    S: Inlet,
+    X1: Outlet,
+    X2: Outlet,
 >()
     ensures { SameProgramRun D.honest D.disk D.size D.failures D.goes_on R.remaining W1.contents W2.contents
-        E.honest E.disk E.size E.failures E.goes_on S.remaining X1.contents X2.contents }
+        (hearing R.gave R.refused W1.took W1.refused W2.took W2.refused)
+        E.honest E.disk E.size E.failures E.goes_on S.remaining X1.contents X2.contents
+        (hearing S.gave S.refused X1.took X1.refused X2.took X2.refused) }
 {}

@@ -1,6 +1,7 @@
 -- What was printed stays so where the output is flushed afterwards.
-use Rattle.std.proofs.Common.{◌≡◌, ◌⊎◌, ℕ, Bool, [], List, Option, Result, Ok, Err, IfOk, IfErr, inl, inr}
+use Rattle.std.proofs.Common.{◌≡◌, ◌≢◌, ◌⊎◌, ℕ, Bool, true, false, OnOk, [], List, Option, Result, Ok, Err, IfOk, IfErr, inl, inr}
 use Rattle.std.specs.declared.io.ErrorKind.{ErrorKind}
+use Rattle.std.specs.declared.io.ErrorKind.TheVariants.{OutOfMemory}
 use Rattle.std.specs.Io.KnownBytes.{Keeps}
 use Rattle.std.proofs.KnownBytes.{Appends-kept, Keeps-trans}
 use Rattle.vol_sector.specs.Disk.{Disk}
@@ -52,6 +53,9 @@ begins_flushed links p bytes before printed after kind (inr (outcome, text, surv
 
 pub inspected : {E : Type 0} (kind_of : E → ErrorKind) (p : Profile) (bytes : List ℕ) (before printed after : Option (List ℕ)) (surveyed : Result (Result (Unit {0}) LoadFault) E) (flushed : Bool) (status : ℕ)
     → IfOk surveyed (Tells link p bytes before printed) → IfErr surveyed (λ e. PrintsBeginning link p bytes before printed (kind_of e)) → Keeps printed after → IfOk surveyed (λ outcome. status ≡ survey_status outcome flushed)
-    → IfErr surveyed (λ e. status ≡ refused_status (kind_of e)) → Inspects p bytes before after flushed status
-inspected kind_of p bytes before printed after (Ok outcome) flushed status tells begins kept told refused = inl (outcome, tells_flushed link p bytes before printed after outcome tells kept, told)
-inspected kind_of p bytes before printed after (Err e) flushed status tells begins kept told refused = inr (kind_of e, refused, begins_flushed link p bytes before printed after (kind_of e) begins kept)
+    → IfErr surveyed (λ e. status ≡ refused_status (kind_of e))
+    → (failed : Bool) → OnOk surveyed (failed ≡ false) → IfErr surveyed (λ e. kind_of e ≢ OutOfMemory → failed ≡ true) → Inspects p bytes before after failed flushed status
+inspected kind_of p bytes before printed after (Ok outcome) flushed status tells begins kept told refused failed worked blamed =
+    inl (outcome, tells_flushed link p bytes before printed after outcome tells kept, told, worked)
+inspected kind_of p bytes before printed after (Err e) flushed status tells begins kept told refused failed worked blamed =
+    inr (kind_of e, refused, begins_flushed link p bytes before printed after (kind_of e) begins kept, blamed)

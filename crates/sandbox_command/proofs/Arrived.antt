@@ -1,5 +1,5 @@
 -- The volume that is made of a tar stream has the tree of its members: an image stands for one tree alone.
-use Rattle.std.proofs.Common.{◌≡◌, ◌∙◌, ℕ, List, Some, Result, Ok, IfErr, length, codes, inl, inr, refl, sym, subst}
+use Rattle.std.proofs.Common.{◌≡◌, ◌∙◌, ℕ, List, [], Some, Result, Ok, IfErr, length, codes, inl, inr, refl, sym, subst}
 use Rattle.vol_sector.specs.Disk.{Image}
 use Rattle.vol_sector.specs.Record.{image_of}
 use Rattle.vol_tree.specs.declared.superblock.Superblock.{Superblock}
@@ -7,13 +7,15 @@ use Rattle.vol_tree.specs.Tree.{Tree}
 use Rattle.vol_tree.specs.Stands.{StandsAs, empty_tree}
 use Rattle.vol_tree.specs.Opened.{Opened, geometry}
 use Rattle.sandbox_device.specs.declared.ram_device.RamDevice.{RamDevice}
+use Rattle.volume_archive.specs.Export.{Exports}
 use Rattle.volume_archive.specs.Import.{Imports}
+use Rattle.volume_tasks.specs.declared.exporting.ExportFailure.{ExportFailure}
 use Rattle.volume_tasks.specs.declared.importing.ImportFailure.{ImportFailure}
 use Rattle.volume_tasks.specs.Importing.{WasBrought}
 use Rattle.volume_tasks.specs.Tasks.{directory_named}
 use Rattle.volume_tasks.specs.Volumes.{IsOpen}
 use Rattle.sandbox_command.specs.Around.{in_memory}
-use Rattle.sandbox_command.specs.Archive.{BeginsWithItsStream, HasStream, IsImported, blocks_of, slots_of}
+use Rattle.sandbox_command.specs.Archive.{BeginsWithItsStream, GivesItsTree, HasStream, IsImported, blocks_of, slots_of}
 
 -- an image stands for one tree, under one volume's numbers
 abbrev pub OneTree : Type 0
@@ -50,3 +52,13 @@ module _ (one : OneTree) (bytes : List ℕ) (device : RamDevice) (v : Opened Ram
 
 pub begins : OneTree → BeginsWithItsStream
 begins one bytes device v (count, it) opened = of_imported one bytes device v count it opened
+
+-- what is printed of a device is its one tree
+pub gives : OneTree → GivesItsTree
+gives one device after stream numbers tree stands it = elim (it.ends tt) [
+  | inl w ↦ (
+    let same : tree ≡ w.tree = (one (image_of device.sectors) _ _ _ _ stands w.stands.stands).1 in
+    (w.prints.0, subst (λ (T : Tree). directory_named T (codes "/") ≡ Ok w.prints.0) (sym same) w.prints.1, subst (λ (T : Tree). Exports T w.prints.0 (Some []) (Some stream)) (sym same) w.prints.2)
+  )
+  | inr none ↦ absurd (subst (λ (r : Result (Unit {0}) ExportFailure). IfErr r (λ e. ⊥)) none.is tt)
+]

@@ -22,6 +22,7 @@ use Rattle.sandbox_core.specs.Session.{IsHandedBack, KeepsVolume}
 use Rattle.sandbox_core.proofs.Reaching.{Left}
 use Rattle.sandbox_words.specs.Request.{Text}
 use Rattle.volume_tasks.specs.Volumes.{IsOpenFor, LeftByOpening}
+use Rattle.wasi_calls.specs.host.Worlds.{Hearing}
 use Rattle.sandbox_command.specs.declared.program.Executed.{Executed}
 use Rattle.sandbox_words.specs.declared.request.Run.{Run}
 use Rattle.sandbox_command.specs.Running.{Launches, LeftByRun, returned_device, known_of}
@@ -80,24 +81,24 @@ module _ {D : Type 0} (is_honest : D → Type 0) (disk : D → Disk) (sectors_on
   kept_honest Preopen old new reads h = reads.kept.honest.0 h
   kept_honest Memory old new same h = subst (λ (v : Opened D). is_honest v.device) (sym same) h
 
-  module _ {R W1 W2 : Type 0} (remaining : R → Option (List ℕ)) (outs : W1 → Option (List ℕ)) (errs : W2 → Option (List ℕ)) (m : Module) (run : Run) (parts : HostParts D R W1 W2) (left : Executed D R W1 W2) where
-    pub launch_crash : (launched : Launches is_honest disk sectors_on failures goes_on remaining outs errs m run parts left) → is_honest parts.volume.device → ((c : Image) → (disk parts.volume.device).may_leave c → StandsAs c parts.volume.numbers parts.volume.tree)
-        → Leaves (disk parts.volume.device) (disk left.device) (LeftByRun is_honest disk sectors_on failures goes_on remaining outs errs m run parts left launched)
+  module _ {R W1 W2 : Type 0} (remaining : R → Option (List ℕ)) (outs : W1 → Option (List ℕ)) (errs : W2 → Option (List ℕ)) (ear : Hearing R W1 W2) (m : Module) (run : Run) (parts : HostParts D R W1 W2) (left : Executed D R W1 W2) where
+    pub launch_crash : (launched : Launches is_honest disk sectors_on failures goes_on remaining outs errs ear m run parts left) → is_honest parts.volume.device → ((c : Image) → (disk parts.volume.device).may_leave c → StandsAs c parts.volume.numbers parts.volume.tree)
+        → Leaves (disk parts.volume.device) (disk left.device) (LeftByRun is_honest disk sectors_on failures goes_on remaining outs errs ear m run parts left launched)
     launch_crash (inl refused) h lasts =
         subst (λ (d : D). Leaves (disk parts.volume.device) (disk d) (λ c. ⊥)) (sym refused.device) (kept_crash refused.fault parts.volume refused.volume refused.kept h)
     launch_crash (inr ran) h lasts = ran.crash h lasts
 
-    pub launch_honest : Launches is_honest disk sectors_on failures goes_on remaining outs errs m run parts left → is_honest parts.volume.device → is_honest left.device
+    pub launch_honest : Launches is_honest disk sectors_on failures goes_on remaining outs errs ear m run parts left → is_honest parts.volume.device → is_honest left.device
     launch_honest (inl refused) h = subst is_honest (sym refused.device) (kept_honest refused.fault parts.volume refused.volume refused.kept h)
     launch_honest (inr ran) h =
         let back = ran.device ∙ device_back ran.counted.reports.volume.new ran.report.volume ran.counted.reports.volume.handed_back in
         subst is_honest (sym back) (ran.counted.reports.volume.kept.honest.0 (ran.counted.reports.honest_after (ran.shares.reads.kept.honest.0 h)))
 
-    pub whole_crash : (file : Option (Bor Text)) (device : D) → IsOpenFor is_honest disk sectors_on failures file device parts.volume → (launched : Launches is_honest disk sectors_on failures goes_on remaining outs errs m run parts left) → is_honest device
-        → Leaves (disk device) (disk left.device) (λ c. LeftByOpening is_honest disk sectors_on failures file parts.volume c ⊎ LeftByRun is_honest disk sectors_on failures goes_on remaining outs errs m run parts left launched c)
+    pub whole_crash : (file : Option (Bor Text)) (device : D) → IsOpenFor is_honest disk sectors_on failures file device parts.volume → (launched : Launches is_honest disk sectors_on failures goes_on remaining outs errs ear m run parts left) → is_honest device
+        → Leaves (disk device) (disk left.device) (λ c. LeftByOpening is_honest disk sectors_on failures file parts.volume c ⊎ LeftByRun is_honest disk sectors_on failures goes_on remaining outs errs ear m run parts left launched c)
     whole_crash file device opened launched h =
         let now = opened_honest file device parts.volume opened h in
         leaves_then (disk device) (disk parts.volume.device) (disk left.device) (LeftByOpening is_honest disk sectors_on failures file parts.volume)
-        (LeftByRun is_honest disk sectors_on failures goes_on remaining outs errs m run parts left launched)
-        (λ c. LeftByOpening is_honest disk sectors_on failures file parts.volume c ⊎ LeftByRun is_honest disk sectors_on failures goes_on remaining outs errs m run parts left launched c)
+        (LeftByRun is_honest disk sectors_on failures goes_on remaining outs errs ear m run parts left launched)
+        (λ c. LeftByOpening is_honest disk sectors_on failures file parts.volume c ⊎ LeftByRun is_honest disk sectors_on failures goes_on remaining outs errs ear m run parts left launched c)
         (opening_crash file device parts.volume opened h) (launch_crash launched now (opened_lasts file device parts.volume opened h)) (λ c p. inl p) (λ c p. inr p)

@@ -19,6 +19,7 @@ use Rattle.volume_tasks.specs.declared.exporting.ExportFailure.{ExportFailure}
 use Rattle.volume_tasks.specs.declared.exporting.ExportFailure.TheVariants as exporting
 use Rattle.sandbox_words.specs.Request.{Text}
 use Rattle.sandbox_words.specs.declared.request.Run.{Run}
+use Rattle.wasi_calls.specs.host.Worlds.{Hearing}
 use Rattle.sandbox_command.specs.declared.program.Executed.{Executed}
 use Rattle.sandbox_command.specs.Execution.{Runs}
 use Rattle.sandbox_command.specs.Status.{EndsWith, export_status, failure_status, import_status, load_status, session_status, status_of, volume_status, why_status}
@@ -71,9 +72,9 @@ of_end outcome (Ok v) false n is = omega (arith, is)
 of_end outcome (Err r) flushed n is = omega (arith, is)
 
 module _ {D R W1 W2 : Type 0} (is_honest : D → Type 0) (disk : D → Disk) (sectors_on failures : D → ℕ) (goes_on : ℕ → D → D → Type 0)
-    (remaining : R → Option (List ℕ)) (outs : W1 → Option (List ℕ)) (errs : W2 → Option (List ℕ)) where
+    (remaining : R → Option (List ℕ)) (outs : W1 → Option (List ℕ)) (errs : W2 → Option (List ℕ)) (ear : Hearing R W1 W2) where
   pub runs_within : (run : Run) (bytes : List ℕ) (random : Text) (device : D) (input : R) (out : W1) (err : W2) (left : Executed D R W1 W2)
-      → Runs is_honest disk sectors_on failures goes_on remaining outs errs run bytes random device input out err left → left.status ≤ 124
+      → Runs is_honest disk sectors_on failures goes_on remaining outs errs ear run bytes random device input out err left → left.status ≤ 124
   runs_within run bytes random device input out err left (inl (refused, same)) = of_session refused.fault left.status refused.ends
   runs_within run bytes random device input out err left (inr (inl (refused, same))) = of_load refused.fault left.status refused.ends
   runs_within run bytes random device input out err left (inr (inr (m, spells, valid, inl none))) = of_volume none.refused.fault left.status none.ends

@@ -13,6 +13,7 @@ use Rattle.sandbox_words.specs.declared.request.Run.{Run}
 use Rattle.sandbox_words.specs.declared.request.Invocation.{Invocation}
 use Rattle.sandbox_words.specs.declared.request.Invocation.TheVariants as asked
 use Rattle.sandbox_words.specs.Request.{Text}
+use Rattle.wasi_calls.specs.host.Worlds.{StreamCalls}
 use Rattle.sandbox_command.specs.declared.places.Places.{Ghosts}
 use Rattle.sandbox_command.specs.declared.program.Executed.{Executed}
 use Rattle.sandbox_command.specs.declared.closing.Left.{Left}
@@ -30,7 +31,7 @@ use Rattle.sandbox_command.specs.Around.{Around, in_memory}
 use Rattle.sandbox_command.specs.Execution.{Runs}
 use Rattle.sandbox_command.specs.Files.{Clashes, IsPerformed, RunsNamed}
 use Rattle.sandbox_command.specs.Flushing.{RunAnswered}
-use Rattle.sandbox_command.specs.Sources.{own_of, sink_answered, sink_contents, source_remaining}
+use Rattle.sandbox_command.specs.Sources.{calls_of_run, own_of, sink_answered, sink_contents, source_remaining}
 use Rattle.sandbox_command.specs.Status.{export_status, file_status, import_status}
 use Rattle.sandbox_command.specs.Modules.{profile_for}
 use Rattle.sandbox_command.specs.Stopping.{TellsLines}
@@ -47,6 +48,7 @@ module _ {P I O V R W1 W2 : Type 0} (on : Around P I O V R W1 W2) {D : Type 0} (
   abbrev Ended : (bytes random : List ℕ) → Executed D (Source I R) (Sink O W1) (Sink O W2) → Type 0
   Ended bytes random left = Runs known.honest known.disk known.size known.failures known.goes_on (source_remaining on.read.remaining on.input.remaining)
       (sink_contents on.written.contents on.out.contents) (sink_contents on.written.contents on.err.contents)
+      (calls_of_run on.calls.reads on.calls.writes on.calls.given)
       run bytes random device streams.input streams.out streams.err left
 
   abbrev told_in : Sink O W2 → Option (List ℕ)
@@ -161,7 +163,8 @@ module _ {P I O V R W1 W2 : Type 0} (on : Around P I O V R W1 W2) where
       (profiled_within on.places on.written bytes it.left.stopped run.profile profile it.handing it.said it.handed it.profiled it.before it.summary it.profiles
       (keeps it.left.device it.left.status it.left.summary p it.handed it.handing it.said it.settled it.hands
       (runs_within known.honest known.disk known.size known.failures known.goes_on (source_remaining on.read.remaining on.input.remaining)
-      (sink_contents on.written.contents on.out.contents) (sink_contents on.written.contents on.err.contents) run bytes random device streams.input streams.out streams.err it.left it.runs)))
+      (sink_contents on.written.contents on.out.contents) (sink_contents on.written.contents on.err.contents)
+      (calls_of_run on.calls.reads on.calls.writes on.calls.given) run bytes random device streams.input streams.out streams.err it.left it.runs)))
 
   memory_within : (run : Run) (bytes : List ℕ) (random : Text) (device : RamDevice) (streams : Streams (Source I R) (Sink O W1) (Sink O W2)) (spare : Spare R W1 W2) (profile report : Option O) (p q : P) (status : ℕ)
       → RunsInMemory on run bytes random device streams spare profile report p q status → status ≤ 124
@@ -196,9 +199,9 @@ module _ {P I O V R W1 W2 : Type 0} (on : Around P I O V R W1 W2) where
       subst (λ (j : Invocation). IsPerformed on j given p q status) (sym is) (inr (subst (λ (j : Invocation). Clashes j → ⊥) is never, runs))
 
 module _ {P I O V : Type 0} (places : Ghosts P I O V) where
-  pub lines_within : (read : Reader I) (written : Writer O) (flushed refuses : O → O → Type 0) (run : Run) (list : Text) (p q : P) (status : ℕ) → RunsLines places read written flushed refuses run list p q status → status ≤ 124
-  lines_within read written flushed refuses run list p q status (inl (kind, ends, refused)) = file_within kind status ends
-  lines_within read written flushed refuses run list p q status (inr it) = elim it.runs [
+  pub lines_within : (read : Reader I) (written : Writer O) (flushed refuses : O → O → Type 0) (reads : StreamCalls I) (writes : StreamCalls O) (run : Run) (list : Text) (p q : P) (status : ℕ) → RunsLines places read written flushed refuses reads writes run list p q status → status ≤ 124
+  lines_within read written flushed refuses reads writes run list p q status (inl (kind, ends, refused)) = file_within kind status ends
+  lines_within read written flushed refuses reads writes run list p q status (inr it) = elim it.runs [
     | inl none ↦ (let is = none.0 in omega (arith, is))
     | inr (inl memory) ↦ (let is = memory.0 in omega (arith, is))
     | inr (inr (tests, lists, inl (summary, refused, same))) ↦ of_session refused.fault status refused.ends

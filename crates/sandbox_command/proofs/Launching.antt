@@ -21,6 +21,7 @@ use Rattle.run_report.specs.declared.fault.Fault.TheVariants as reason
 use Rattle.volume_tasks.specs.Volumes.{IsOpenFor, IsRefusedFor}
 use Rattle.sandbox_words.specs.declared.request.Run.{Run}
 use Rattle.sandbox_words.specs.Request.{Text}
+use Rattle.wasi_calls.specs.host.Worlds.{Hearing}
 use Rattle.sandbox_command.specs.declared.program.Executed.{Executed}
 use Rattle.sandbox_command.proofs.Charged.{use_of}
 use Rattle.sandbox_command.specs.Profiling.{IsUseWith, slice_of}
@@ -44,23 +45,23 @@ kept_streams {W1 = W1} {W2 = W2} outs errs input out err left in_is out_is err_i
   err_follows = subst (λ (w : W2). Keeps (errs err) (errs w)) (sym err_is) (Keeps-refl (errs err));
 }
 
-module _ {D R W1 W2 : Type 0} (device : Ghosts D) (remaining : R → Option (List ℕ)) (outs : W1 → Option (List ℕ)) (errs : W2 → Option (List ℕ)) (run : Run) (m : Module) where
+module _ {D R W1 W2 : Type 0} (device : Ghosts D) (remaining : R → Option (List ℕ)) (outs : W1 → Option (List ℕ)) (errs : W2 → Option (List ℕ)) (ear : Hearing R W1 W2) (run : Run) (m : Module) where
   -- ---- its volume
 
   pub on_volume : (random : Text) (d : D) (input : R) (out : W1) (err : W2) (v : Opened D) (parts : HostParts D R W1 W2) (left : Executed D R W1 W2)
       → IsOpenFor device.honest device.disk device.size device.failures (volume_of run) d v → AreSettings run random parts.settings → parts ≡ given parts.settings v input out err
-      → Launches device.honest device.disk device.size device.failures device.goes_on remaining outs errs m run parts left
-      → RunsOn device.honest device.disk device.size device.failures device.goes_on remaining outs errs run m random d input out err left
+      → Launches device.honest device.disk device.size device.failures device.goes_on remaining outs errs ear m run parts left
+      → RunsOn device.honest device.disk device.size device.failures device.goes_on remaining outs errs ear run m random d input out err left
   on_volume random d input out err v parts left opened are same launches =
-      let launched = subst (λ (p : HostParts D R W1 W2). Launches device.honest device.disk device.size device.failures device.goes_on remaining outs errs m run p left) same launches in
+      let launched = subst (λ (p : HostParts D R W1 W2). Launches device.honest device.disk device.size device.failures device.goes_on remaining outs errs ear m run p left) same launches in
       inr (record {
         volume = v;
         opened = opened;
         settings = parts.settings;
         are_settings = are;
         launched = launched;
-        crash = whole_crash device.honest device.disk device.size device.failures device.goes_on remaining outs errs m run (given parts.settings v input out err) left (volume_of run) d opened launched;
-        honest = λ h. launch_honest device.honest device.disk device.size device.failures device.goes_on remaining outs errs m run (given parts.settings v input out err) left
+        crash = whole_crash device.honest device.disk device.size device.failures device.goes_on remaining outs errs ear m run (given parts.settings v input out err) left (volume_of run) d opened launched;
+        honest = λ h. launch_honest device.honest device.disk device.size device.failures device.goes_on remaining outs errs ear m run (given parts.settings v input out err) left
             launched (opened_honest device.honest device.disk device.size device.failures device.goes_on (volume_of run) d v opened h);
       })
 
@@ -69,7 +70,7 @@ module _ {D R W1 W2 : Type 0} (device : Ghosts D) (remaining : R → Option (Lis
       → left.status ≡ volume_status refused.fault → left.flushed ≡ true
       → left.summary ≡ Some (not_run run (reason.Volume refused.fault) (kept_where_refused refused.fault) left.status)
       → left.device ≡ refused.device → left.input ≡ input → left.out ≡ out → left.err ≡ err
-      → RunsOn device.honest device.disk device.size device.failures device.goes_on remaining outs errs run m random d input out err left
+      → RunsOn device.honest device.disk device.size device.failures device.goes_on remaining outs errs ear run m random d input out err left
   no_volume random d input out err refused left why ends flushed summary is in_is out_is err_is = inl (record {
     refused = refused;
     why = why;
@@ -83,18 +84,18 @@ module _ {D R W1 W2 : Type 0} (device : Ghosts D) (remaining : R → Option (Lis
   -- ---- its session, whose streams are counted from its beginning on
 
   abbrev Launched : HostParts D R W1 W2 → Executed D R W1 W2 → Type 0
-  Launched parts left = Launches device.honest device.disk device.size device.failures device.goes_on remaining outs errs m run parts left
+  Launched parts left = Launches device.honest device.disk device.size device.failures device.goes_on remaining outs errs ear m run parts left
 
   module _ (parts : HostParts D R W1 W2) (taken : HostParts D (Counted R) (Counted W1) (Counted W2)) (same : taken ≡ counting run parts) where
     abbrev on : Devices D (Counted R) (Counted W1) (Counted W2)
-    on = counted_devices device.honest device.disk device.size device.failures device.goes_on remaining outs errs
+    on = counted_devices device.honest device.disk device.size device.failures device.goes_on remaining outs errs ear
 
     abbrev handed : HostParts D (Counted R) (Counted W1) (Counted W2) → HostParts D (Counted R) (Counted W1) (Counted W2)
     handed p = given p.settings p.volume p.input p.out p.err
 
     pub ran : (begun : SessionState D (Counted R) (Counted W1) (Counted W2)) → Opens m (handed taken) begun → Shares device (handed taken) begun
         → (imported : ℕ) → imported ≡ length m.imports → (left : Executed D R W1 W2)
-        → RunsSession device.honest device.disk device.size device.failures device.goes_on remaining outs errs run imported begun left → Launched parts left
+        → RunsSession device.honest device.disk device.size device.failures device.goes_on remaining outs errs ear run imported begun left → Launched parts left
     ran begun opening sharing imported counts left it =
         let counted = it.reported.told.counted in
         let limited = limited_to run.limits.values begun in

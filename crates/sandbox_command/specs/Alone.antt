@@ -42,7 +42,7 @@ use Rattle.sandbox_command.specs.declared.profiling.FuelUse.{FuelUse}
 use Rattle.sandbox_command.specs.declared.stopping.Stopped.{Stopped}
 use Rattle.sandbox_command.specs.Profiling.{IsProfileOf, no_stacks}
 use Rattle.sandbox_command.specs.Flushing.{RunAnswered}
-use Rattle.sandbox_command.specs.Sources.{guest_of, own_of, sink_answered, sink_contents, sink_of, source_of, source_remaining, spare_of}
+use Rattle.sandbox_command.specs.Sources.{calls_of_run, guest_of, own_of, sink_answered, sink_contents, sink_of, source_of, source_remaining, spare_of}
 use Rattle.sandbox_command.specs.Status.{export_status, file_status, import_status}
 use Rattle.sandbox_command.specs.Modules.{profile_for}
 use Rattle.sandbox_command.specs.Stopping.{AreLinesOfNone, TellsLines}
@@ -255,6 +255,7 @@ module _ {P I O V R W1 W2 : Type 0} (on : Around P I O V R W1 W2) where
     pub left : Executed D (Source I R) (Sink O W1) (Sink O W2)
     pub runs : Runs known.honest known.disk known.size known.failures known.goes_on (source_remaining on.read.remaining on.input.remaining)
         (sink_contents on.written.contents on.out.contents) (sink_contents on.written.contents on.err.contents)
+        (calls_of_run on.calls.reads on.calls.writes on.calls.given)
         run bytes random device streams.input streams.out streams.err left
     pub answered : RunAnswered (sink_answered on.flushes.file_flushed on.flushes.out_flushed) (sink_answered on.flushes.file_refuses on.flushes.out_refuses)
         (sink_answered on.flushes.file_flushed on.flushes.err_flushed) (sink_answered on.flushes.file_refuses on.flushes.err_refuses) left

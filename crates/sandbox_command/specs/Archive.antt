@@ -1,8 +1,11 @@
 -- The volume in memory that a run begins with where it is made of a tar stream (`docs/USING.md`, "Options of `run`"): what
 -- `format` makes of sectors of zeros, as many as the length of the stream says, and what `import` brings into the root of that.
-use Rattle.std.specs.Prelude.{◌≡◌, ◌⊎◌, ◌+◌, ◌*◌, ◌/◌, ℕ, List, Option, Some, Result, Ok, Err, length, min, replicate, codes, if◌then◌else◌, nat_le}
+use Rattle.std.specs.Prelude.{◌≡◌, ◌⊎◌, ◌+◌, ◌*◌, ◌/◌, ℕ, List, [], Option, Some, Result, Ok, Err, length, min, replicate, codes, if◌then◌else◌, nat_le}
 use Rattle.vol_sector.specs.declared.fault.VolumeFault.TheVariants as fault
-use Rattle.vol_tree.specs.Stands.{empty_tree}
+use Rattle.vol_sector.specs.Record.{image_of}
+use Rattle.vol_tree.specs.declared.superblock.Superblock.{Superblock}
+use Rattle.vol_tree.specs.Tree.{Tree}
+use Rattle.vol_tree.specs.Stands.{StandsAs, empty_tree}
 use Rattle.vol_tree.specs.Fresh.{fresh_as}
 use Rattle.vol_tree.specs.Opened.{Opened, geometry}
 use Rattle.vol_inode.specs.declared.version.Version.{Version}
@@ -15,7 +18,9 @@ use Rattle.volume_tasks.specs.declared.failure.Failure.TheVariants as failure
 use Rattle.volume_tasks.specs.declared.importing.ImportFailure.{ImportFailure}
 use Rattle.volume_tasks.specs.declared.importing.ImportFailure.TheVariants as importing
 use Rattle.volume_tasks.specs.Formatting.{Formats}
+use Rattle.volume_archive.specs.Export.{Exports}
 use Rattle.volume_archive.specs.Import.{Imports}
+use Rattle.volume_tasks.specs.Exporting.{PerformsExport}
 use Rattle.volume_tasks.specs.Importing.{PerformsImport}
 use Rattle.volume_tasks.specs.Tasks.{directory_named}
 use Rattle.volume_tasks.specs.Volumes.{IsOpen}
@@ -92,6 +97,14 @@ pub record HasStream (bytes : List ℕ) (v : Opened RamDevice) : Type 0 where
 abbrev pub BeginsWithItsStream : Type 0
 BeginsWithItsStream = (bytes : List ℕ) (device : RamDevice) (v : Opened RamDevice) → Fills bytes (Ok device)
     → IsOpen in_memory.honest in_memory.disk in_memory.size in_memory.failures device v → HasStream bytes v
+
+-- ---- what it gives
+
+-- A device in memory that stands for a tree gives that tree as a tar stream, if it gives one: all entries below the root.
+abbrev pub GivesItsTree : Type 0
+GivesItsTree = (device after : RamDevice) (stream : List ℕ) (numbers : Superblock) (tree : Tree) → StandsAs (image_of device.sectors) numbers tree
+    → PerformsExport in_memory.honest in_memory.disk in_memory.size in_memory.failures (codes "/") device (Some []) (Some stream) after (Ok tt)
+    → (root : ℕ) × (directory_named tree (codes "/") ≡ Ok root) × Exports tree root (Some []) (Some stream)
 
 -- ---- what is reported where it is refused
 

@@ -1,12 +1,14 @@
 -- What the traits `Places`, `Device`, `Read` and `Write` let contracts say of the files that a command names and of the
 -- streams that it was given, in one record. A definition takes it as `on`, and a clause makes it of the traits' ghost
 -- members: `around P.Places P.Input.Read P.Output.Write P.Volume.Device R.Read W1.Write W2.Write
--- (flushing P.Output.flushed P.Output.refuses W1.flushed W1.refuses W2.flushed W2.refuses)`.
-use Rattle.std.specs.Prelude.{length}
+-- (flushing P.Output.flushed P.Output.refuses W1.flushed W1.refuses W2.flushed W2.refuses)
+-- (calling P.Input.gave P.Input.refused P.Output.took P.Output.refused R.gave R.refused W1.took W1.refused W2.took W2.refused)`.
+use Rattle.std.specs.Prelude.{ℕ, List, length}
 use Rattle.std.specs.declared.io.Read.{Ghosts as Reader}
 use Rattle.std.specs.declared.io.Write.{Ghosts as Writer}
 use Rattle.vol_sector.specs.declared.device.Device.{Ghosts as Known}
 use Rattle.vol_sector.specs.Past.{LeavesPast}
+use Rattle.wasi_calls.specs.host.Worlds.{Hearing, StreamCalls, hearing}
 use Rattle.sandbox_device.specs.declared.ram_device.RamDevice.{RamDevice}
 use Rattle.sandbox_command.specs.declared.places.Places.{Ghosts}
 use Rattle.sandbox_command.specs.declared.streams.Streams.{Streams}
@@ -32,6 +34,24 @@ flushing file_flushed file_refuses out_flushed out_refuses err_flushed err_refus
   err_refuses = err_refuses;
 }
 
+-- what is known of the calls on files that are read or written, and on the streams that were given
+pub record Calling (I O R W1 W2 : Type 0) : Type 1 where
+  pub reads : StreamCalls I
+  pub writes : StreamCalls O
+  pub given : Hearing R W1 W2
+
+abbrev pub calls_of : {S : Type 0} → (S → List ℕ → S → Type 0) → (S → S → Type 0) → StreamCalls S
+calls_of moved refused = record { moved = moved; refused = refused }
+
+abbrev pub calling : {I O R W1 W2 : Type 0} → (I → List ℕ → I → Type 0) → (I → I → Type 0) → (O → List ℕ → O → Type 0) → (O → O → Type 0)
+    → (R → List ℕ → R → Type 0) → (R → R → Type 0) → (W1 → List ℕ → W1 → Type 0) → (W1 → W1 → Type 0) → (W2 → List ℕ → W2 → Type 0) → (W2 → W2 → Type 0)
+    → Calling I O R W1 W2
+calling gave refused took file_refused given_gave given_refused out_took out_refused err_took err_refused = record {
+  reads = calls_of gave refused;
+  writes = calls_of took file_refused;
+  given = hearing given_gave given_refused out_took out_refused err_took err_refused;
+}
+
 pub record Around (P I O V R W1 W2 : Type 0) : Type 1 where
   pub places : Ghosts P I O V
   pub read : Reader I
@@ -41,14 +61,16 @@ pub record Around (P I O V R W1 W2 : Type 0) : Type 1 where
   pub out : Writer W1
   pub err : Writer W2
   pub flushes : Flushes O W1 W2
+  pub calls : Calling I O R W1 W2
 
 -- what is known of a device in memory
 abbrev pub in_memory : Known RamDevice
 in_memory = record { honest = λ d. Unit {0}; disk = memory_disk; size = λ d. length d.sectors; failures = λ d. 0; goes_on = λ end first later. LeavesPast end (memory_disk first) (memory_disk later) }
 
 module _ {P I O V R W1 W2 : Type 0} where
-  abbrev pub around : Ghosts P I O V → Reader I → Writer O → Known V → Reader R → Writer W1 → Writer W2 → Flushes O W1 W2 → Around P I O V R W1 W2
-  around places read written volume input out err flushes = record { places = places; read = read; written = written; volume = volume; input = input; out = out; err = err; flushes = flushes }
+  abbrev pub around : Ghosts P I O V → Reader I → Writer O → Known V → Reader R → Writer W1 → Writer W2 → Flushes O W1 W2 → Calling I O R W1 W2 → Around P I O V R W1 W2
+  around places read written volume input out err flushes calls =
+      record { places = places; read = read; written = written; volume = volume; input = input; out = out; err = err; flushes = flushes; calls = calls }
 
   -- The streams that were given are given up: nothing was read of them or printed on the output, and on the side of errors
   -- some lines of the program's own follow.

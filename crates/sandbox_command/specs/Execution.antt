@@ -14,6 +14,8 @@ use Rattle.wasm_valid.specs.Validity.{IsValid}
 use Rattle.wasm_valid.specs.Refusal.{IsRefusal}
 use Rattle.wasi_calls.specs.declared.host.settings.Preopen.{Preopen}
 use Rattle.wasi_calls.specs.declared.host.settings.Settings.{Settings}
+use Rattle.stream_answers.specs.Hearing.{Hears, Moves, Refuses}
+use Rattle.wasi_calls.specs.host.Worlds.{Hearing, StreamCalls}
 use Rattle.sandbox_core.specs.declared.fault.SessionFault.{SessionFault}
 use Rattle.sandbox_core.specs.Session.{given}
 use Rattle.sandbox_words.specs.declared.request.Run.{Run}
@@ -21,8 +23,9 @@ use Rattle.sandbox_words.specs.Request.{Text}
 use Rattle.volume_tasks.specs.declared.failure.Failure.{Failure}
 use Rattle.volume_tasks.specs.declared.importing.ImportFailure.{ImportFailure}
 use Rattle.volume_tasks.specs.declared.exporting.ExportFailure.{ExportFailure}
-use Rattle.volume_tasks.specs.Importing.{PerformsImport}
-use Rattle.volume_tasks.specs.Exporting.{PerformsExport}
+use Rattle.volume_tasks.specs.Blame.{IsCause, blames_stream}
+use Rattle.volume_tasks.specs.Importing.{PerformsImport, blames_input}
+use Rattle.volume_tasks.specs.Exporting.{PerformsExport, blames_output}
 use Rattle.run_report.specs.declared.fault.Fault.TheVariants as reason
 use Rattle.run_report.specs.declared.summary.Kept.TheVariants as kept
 use Rattle.run_report.specs.declared.summary.Summary.{Summary}
@@ -30,7 +33,7 @@ use Rattle.volume_tasks.specs.Going.{FormatsWithin, KeepsWithin}
 use Rattle.volume_tasks.specs.Formatting.{FormatsWhere}
 use Rattle.sandbox_command.specs.Modules.{profile_for}
 use Rattle.sandbox_command.specs.Reporting.{kept_where_refused, not_run, session_reason, volume_of}
-use Rattle.volume_tasks.specs.Doing.{Performs}
+use Rattle.volume_tasks.specs.Doing.{Performs, prints, reads_input}
 use Rattle.sandbox_command.specs.declared.program.Executed.{Executed}
 use Rattle.sandbox_command.specs.declared.work.VolumeWork.{VolumeWork}
 use Rattle.sandbox_command.specs.declared.work.VolumeWork.TheVariants as work
@@ -60,7 +63,7 @@ pub record NotLoaded (run : Run) (bytes : List ℕ) (status : ℕ) (summary : Op
   pub summary_is : summary ≡ Some (not_run run (reason.Module fault) kept.None status)
 
 module _ {D R W1 W2 : Type 0} (is_honest : D → Type 0) (disk : D → Disk) (sectors_on failures : D → ℕ) (goes_on : ℕ → D → D → Type 0)
-    (remaining : R → Option (List ℕ)) (out_contents : W1 → Option (List ℕ)) (err_contents : W2 → Option (List ℕ)) where
+    (remaining : R → Option (List ℕ)) (out_contents : W1 → Option (List ℕ)) (err_contents : W2 → Option (List ℕ)) (ear : Hearing R W1 W2) where
   -- The volume is refused.
   pub record NoVolume (run : Run) (device : D) (input : R) (out : W1) (err : W2) (left : Executed D R W1 W2) : Type 0 where
     pub refused : Refused D
@@ -77,10 +80,10 @@ module _ {D R W1 W2 : Type 0} (is_honest : D → Type 0) (disk : D → Disk) (se
     pub opened : IsOpenFor is_honest disk sectors_on failures (volume_of run) device volume
     pub settings : Settings
     pub are_settings : AreSettings run random settings
-    pub launched : Launches is_honest disk sectors_on failures goes_on remaining out_contents err_contents m run (given settings volume input out err) left
+    pub launched : Launches is_honest disk sectors_on failures goes_on remaining out_contents err_contents ear m run (given settings volume input out err) left
     -- At any moment a crash leaves what it could leave before, what opening leaves, or the tree of a host that the run comes by.
     pub crash : is_honest device → Leaves (disk device) (disk left.device)
-        (λ c. LeftByOpening is_honest disk sectors_on failures (volume_of run) volume c ⊎ LeftByRun is_honest disk sectors_on failures goes_on remaining out_contents err_contents m run (given settings volume input out err) left launched c)
+        (λ c. LeftByOpening is_honest disk sectors_on failures (volume_of run) volume c ⊎ LeftByRun is_honest disk sectors_on failures goes_on remaining out_contents err_contents ear m run (given settings volume input out err) left launched c)
     pub honest : is_honest device → is_honest left.device
 
   -- the volume is refused, or the module is launched with it
@@ -101,8 +104,11 @@ module _ {D R W1 W2 : Type 0} (is_honest : D → Type 0) (disk : D → Disk) (se
       ⊎ ((NotLoaded run bytes left.status left.summary × IsUntouched device input out err left)
       ⊎ ((m : Module) × SpellsWith (profile_for run.floats) bytes m × IsValid m × RunsOn run m random device input out err left))
 
+module _ {D R W1 W2 : Type 0} (is_honest : D → Type 0) (disk : D → Disk) (sectors_on failures : D → ℕ) (goes_on : ℕ → D → D → Type 0)
+    (remaining : R → Option (List ℕ)) (out_contents : W1 → Option (List ℕ)) (err_contents : W2 → Option (List ℕ)) (reads : StreamCalls R) (writes : StreamCalls W1) where
   -- A device is formatted; a task is done with the volume on a device, a tar stream brought into it, or one of its directories
-  -- printed as one. Then the output is flushed, which keeps what it has.
+  -- printed as one. Then the output is flushed, which keeps what it has. Where the input is read, or something
+  -- is printed, the stream is the cause of a failure that is laid on it.
   abbrev pub Executes : VolumeWork → D → R → W1 → W2 → Executed D R W1 W2 → Type 0
   Executes (work.Format sectors slots version new) device input out err left =
       (done : Result (Unit {0}) Failure) × FormatsWhere new version is_honest disk sectors_on failures device sectors slots left.device done
@@ -112,16 +118,20 @@ module _ {D R W1 W2 : Type 0} (is_honest : D → Type 0) (disk : D → Disk) (se
       × Performs is_honest disk sectors_on failures task device (remaining input) (remaining left.input) (out_contents out) (out_contents left.out) left.device done
       × (left.status ≡ ended_status failure_status done left.flushed) × (left.summary ≡ None)
       × TellsChecked (checked_damage task done) (err_contents err) (err_contents left.err)
+      × (reads_input task ≡ true → IsCause (Moves reads.moved) reads.refused done input left.input)
+      × (prints task ≡ true → (printed : W1) × Hears (Moves writes.moved) (Refuses writes.moved writes.refused) (blames_stream done) out printed)
   Executes (work.Import path) device input out err left =
       (done : Result ℕ ImportFailure)
       × PerformsImport is_honest disk sectors_on failures path.now device (remaining input) (remaining left.input) left.device done
       × (left.status ≡ ended_status import_status done left.flushed) × (left.summary ≡ None)
       × Keeps (out_contents out) (out_contents left.out) × AppendsSome (err_contents err) (err_contents left.err)
+      × Hears (Moves reads.moved) reads.refused (blames_input done) input left.input
   Executes (work.Export path) device input out err left =
       (done : Result (Unit {0}) ExportFailure)
       × PerformsExport is_honest disk sectors_on failures path.now device (out_contents out) (out_contents left.out) left.device done
       × (left.status ≡ ended_status export_status done left.flushed) × (left.summary ≡ None)
       × (left.input ≡ input) × AppendsSome (err_contents err) (err_contents left.err)
+      × ((printed : W1) × Hears (Moves writes.moved) (Refuses writes.moved writes.refused) (blames_output done) out printed)
 
 -- No sector of the device past its volume was written: past the one that it was made, or that stood on it.
 abbrev pub StaysWithin : {D : Type 0} → (D → Type 0) → (D → Disk) → (D → ℕ) → (ℕ → D → D → Type 0) → VolumeWork → D → D → Type 0

@@ -19,6 +19,7 @@ use Rattle.sandbox_words.specs.declared.request.Invocation.{Invocation}
 use Rattle.sandbox_words.specs.declared.request.Invocation.TheVariants as asked
 use Rattle.sandbox_words.specs.Request.{Text}
 use Rattle.sandbox_words.specs.CommandLine.{AsksFor, program}
+use Rattle.stream_answers.specs.Hearing.{Hears, Moves, Refuses}
 use Rattle.sandbox_command.specs.declared.program.Executed.{Executed}
 use Rattle.sandbox_command.specs.declared.work.VolumeWork.{VolumeWork}
 use Rattle.sandbox_command.specs.declared.work.VolumeWork.TheVariants as work
@@ -26,7 +27,7 @@ use Rattle.sandbox_command.specs.declared.host_places.HostPlaces.{HostPlaces}
 use Rattle.sandbox_command.specs.declared.host_volume.HostVolume.{HostVolume}
 use Rattle.sandbox_command.specs.declared.streams.Streams.{Streams}
 use Rattle.sandbox_command.specs.Alone.{RunsAlone}
-use Rattle.sandbox_command.specs.Around.{Around, EndsGiven, Flushes}
+use Rattle.sandbox_command.specs.Around.{Around, Calling, EndsGiven, Flushes}
 use Rattle.sandbox_command.specs.Execution.{StaysWithin, Executes}
 use Rattle.sandbox_command.specs.Flushing.{Answered}
 use Rattle.sandbox_command.specs.Formatting.{room_for, version_for}
@@ -70,7 +71,7 @@ module _ {P I O V R W1 W2 : Type 0} (on : Around P I O V R W1 W2) where
   -- given up as it was.
   pub record HasExecuted (does : VolumeWork) (device : V) (given : Streams R W1 W2) (p q : P) (status : ℕ) : Type 0 where
     pub left : Executed V R W1 W2
-    pub executes : Executes on.volume.honest on.volume.disk on.volume.size on.volume.failures on.volume.goes_on on.input.remaining on.out.contents on.err.contents
+    pub executes : Executes on.volume.honest on.volume.disk on.volume.size on.volume.failures on.volume.goes_on on.input.remaining on.out.contents on.err.contents on.calls.given.input on.calls.given.out
         does device given.input given.out given.err left
     pub answered : Answered on.flushes.out_flushed on.flushes.out_refuses left.flushed left.out
     pub stays_within : StaysWithin on.volume.honest on.volume.disk on.volume.size on.volume.goes_on does device left.device
@@ -92,7 +93,11 @@ module _ {P I O V R W1 W2 : Type 0} (on : Around P I O V R W1 W2) where
   -- What these bytes are as a module was printed, nothing was read, and all was given up as it was then.
   pub record HasInspected (floats : Bool) (bytes : Text) (given : Streams R W1 W2) (p q : P) (status : ℕ) : Type 0 where
     pub left : Executed (Unit {0}) R W1 W2
-    pub inspects : Inspects (profile_for floats) bytes (on.out.contents given.out) (on.out.contents left.out) left.flushed status
+    -- the output as it was before it was flushed, and whether it failed
+    pub printed : W1
+    pub failed : Bool
+    pub heard : Hears (Moves on.calls.given.out.moved) (Refuses on.calls.given.out.moved on.calls.given.out.refused) failed given.out printed
+    pub inspects : Inspects (profile_for floats) bytes (on.out.contents given.out) (on.out.contents left.out) failed left.flushed status
     pub answered : Answered on.flushes.out_flushed on.flushes.out_refuses left.flushed left.out
     pub input_is : left.input ≡ given.input
     pub lines : AppendsSome (on.err.contents given.err) (on.err.contents left.err)
@@ -134,8 +139,8 @@ abbrev pub file_disk : HostVolume → Disk
 file_disk d = kept d.device.sectors d.device.moments.unsynced d.device.moments.times
 
 -- Of the bytes of files nothing is known, and what the system did with a name is known to the code alone that asked for it.
-abbrev pub system : {R W1 W2 : Type 0} → Reader R → Writer W1 → Writer W2 → Flushes Output W1 W2 → Around HostPlaces File Output HostVolume R W1 W2
-system input out err flushes = record {
+abbrev pub system : {R W1 W2 : Type 0} → Reader R → Writer W1 → Writer W2 → Flushes Output W1 W2 → Calling File Output R W1 W2 → Around HostPlaces File Output HostVolume R W1 W2
+system input out err flushes calls = record {
   places = record {
     asked = λ access before after. Unit {0};
     refused = λ access kind before after. WasRefused access kind;
@@ -157,12 +162,14 @@ system input out err flushes = record {
   out = out;
   err = err;
   flushes = flushes;
+  calls = calls;
 }
 
-module _ {R W1 W2 : Type 0} (input : Reader R) (out : Writer W1) (err : Writer W2) (flushes : Flushes Output W1 W2) where
+module _ {R W1 W2 : Type 0} (input : Reader R) (out : Writer W1) (err : Writer W2) (flushes : Flushes Output W1 W2)
+    (calls : Calling File Output R W1 W2) where
   -- on the files that the system has under their names
   abbrev pub IsPerformedOnSystem : Invocation → Streams R W1 W2 → (status : ℕ) → Type 0
-  IsPerformedOnSystem invocation given status = (p : HostPlaces) × (q : HostPlaces) × IsPerformed (system input out err flushes) invocation given p q status
+  IsPerformedOnSystem invocation given status = (p : HostPlaces) × (q : HostPlaces) × IsPerformed (system input out err flushes calls) invocation given p q status
 
   -- The words can't be read, or the command line is refused. Or what some words ask for is performed.
   abbrev pub IsAnswered : Streams R W1 W2 → (status : ℕ) → Type 0

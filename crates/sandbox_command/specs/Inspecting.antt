@@ -1,6 +1,6 @@
 -- What inspecting a module prints, and how it ends (`crates/module_survey/specs`). `Inspects` takes the text from that
 -- crate, with the WASI calls of a guest as links, and adds the exit status.
-use Rattle.std.specs.Prelude.{◌≡◌, ◌⊎◌, ℕ, List, Bool, Option, Result, Ok, Err, if◌then◌else◌}
+use Rattle.std.specs.Prelude.{◌≡◌, ◌≢◌, ◌⊎◌, ℕ, List, Bool, true, false, Option, Result, Ok, Err, if◌then◌else◌}
 use Rattle.std.specs.declared.io.ErrorKind.{ErrorKind}
 use Rattle.std.specs.declared.io.ErrorKind.TheVariants.{OutOfMemory}
 use Rattle.wasm_module.specs.declared.fault.LoadFault.{LoadFault}
@@ -19,9 +19,9 @@ refused_status OutOfMemory = 122
 refused_status k = 124
 
 -- All that is told of the bytes was printed, with the calls that a guest is given. Or memory or the output was refused, after
--- a beginning of it.
-abbrev pub Inspects : Profile → List ℕ → Option (List ℕ) → Option (List ℕ) → (flushed : Bool) → ℕ → Type 0
-Inspects p bytes before after flushed status =
-    ((outcome : Result (Unit {0}) LoadFault) × Tells link p bytes before after outcome × (status ≡ survey_status outcome flushed))
+-- a beginning of it; and where it wasn't memory, the output failed.
+abbrev pub Inspects : Profile → List ℕ → Option (List ℕ) → Option (List ℕ) → (failed flushed : Bool) → ℕ → Type 0
+Inspects p bytes before after failed flushed status =
+    ((outcome : Result (Unit {0}) LoadFault) × Tells link p bytes before after outcome × (status ≡ survey_status outcome flushed) × (failed ≡ false))
     ⊎ ((kind : ErrorKind) × (status ≡ refused_status kind)
-    × PrintsBeginning link p bytes before after kind)
+    × PrintsBeginning link p bytes before after kind × (kind ≢ OutOfMemory → failed ≡ true))

@@ -15,7 +15,7 @@ use Rattle.wasm_steps.specs.Steps.{CallsOf, Reach}
 use Rattle.wasi_calls.specs.declared.host.wasi_host.HostParts.{HostParts}
 use Rattle.wasi_calls.specs.World.{World}
 use Rattle.wasi_calls.specs.Calls as world
-use Rattle.wasi_calls.specs.host.Worlds.{HostState, StreamBytes, StreamsMove, MayFollow, before_moving, after_moving, world_of}
+use Rattle.wasi_calls.specs.host.Worlds.{HostState, StreamBytes, StreamsMove, MayFollow, before_moving, after_moving, world_of, Hearing, hearing}
 use Rattle.sandbox_core.specs.declared.fault.SessionFault.{SessionFault}
 use Rattle.sandbox_core.specs.declared.report.Report.{Report}
 use Rattle.sandbox_core.specs.Devices.{Devices, Calls, numbers_of, tree_of}
@@ -25,6 +25,7 @@ use Rattle.sandbox_core.specs.declared.tally.Tally.{Tally}
 use Rattle.sandbox_core.specs.Report.{ReportsCounted}
 use Rattle.sandbox_words.specs.declared.request.Run.{Run}
 use Rattle.run_report.specs.declared.counted.Counted.{Counted}
+use Rattle.run_report.specs.Counting.{counted_moved, counted_refused, counted_refused_or_full}
 use Rattle.wasm_interp.specs.Frames.{frames_of}
 use Rattle.observed_run.specs.Telling.{TellsFrames}
 use Rattle.sandbox_command.specs.declared.program.Executed.{Executed}
@@ -45,8 +46,13 @@ abbrev pub known_of : {D : Type 0} → (D → Type 0) → (D → Disk) → (D �
 known_of is_honest disk sectors_on failures goes_on =
     record { honest = is_honest; disk = disk; size = sectors_on; failures = failures; goes_on = goes_on }
 
+-- what is told of the calls on streams that are counted
+abbrev pub counted_hearing : {R W1 W2 : Type 0} → Hearing R W1 W2 → Hearing (Counted R) (Counted W1) (Counted W2)
+counted_hearing ear = hearing (counted_moved ear.input.moved) (counted_refused ear.input.refused)
+    (counted_moved ear.out.moved) (counted_refused_or_full ear.out.refused) (counted_moved ear.err.moved) (counted_refused_or_full ear.err.refused)
+
 module _ {D R W1 W2 : Type 0} (is_honest : D → Type 0) (disk : D → Disk) (sectors_on failures : D → ℕ) (goes_on : ℕ → D → D → Type 0)
-    (remaining : R → Option (List ℕ)) (out_contents : W1 → Option (List ℕ)) (err_contents : W2 → Option (List ℕ)) where
+    (remaining : R → Option (List ℕ)) (out_contents : W1 → Option (List ℕ)) (err_contents : W2 → Option (List ℕ)) (ear : Hearing R W1 W2) where
   -- a host whose streams are counted
   abbrev pub Host : Type 0
   Host = HostState D (Counted R) (Counted W1) (Counted W2)
@@ -58,6 +64,7 @@ module _ {D R W1 W2 : Type 0} (is_honest : D → Type 0) (disk : D → Disk) (se
     input = record { remaining = counted_bytes remaining };
     out = record { contents = counted_bytes out_contents };
     err = record { contents = counted_bytes err_contents };
+    ear = counted_hearing ear;
   }
 
   abbrev pub HostCalls : CallsOf Host

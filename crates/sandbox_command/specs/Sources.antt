@@ -1,6 +1,7 @@
 -- What an execution reads and writes: the streams that the program was given, or files where a run names them. A stream
 -- that it was given and that isn't the guest's is spared; the program's own lines go there on the side of errors.
 use Rattle.std.specs.Prelude.{ℕ, List, Option, Some, None}
+use Rattle.wasi_calls.specs.host.Worlds.{Hearing, StreamCalls}
 use Rattle.sandbox_command.specs.declared.streams.Source.{Source}
 use Rattle.sandbox_command.specs.declared.streams.Source.TheVariants as source
 use Rattle.sandbox_command.specs.declared.streams.Sink.{Sink}
@@ -29,6 +30,27 @@ source_answered of_file of_given (source.Given before) (source.Given after) = of
 source_answered of_file of_given (source.Given before) (source.Opened after) = ⊥
 source_answered of_file of_given (source.Opened before) (source.Given after) = ⊥
 source_answered of_file of_given (source.Opened before) (source.Opened after) = of_file before after
+
+-- what is told of the calls on one of them
+abbrev pub source_calls : {F R : Type 0} → StreamCalls F → StreamCalls R → StreamCalls (Source F R)
+source_calls of_file of_given = record {
+  moved = λ before bytes after. source_answered (λ a b. of_file.moved a bytes b) (λ a b. of_given.moved a bytes b) before after;
+  refused = source_answered of_file.refused of_given.refused;
+}
+
+abbrev pub sink_calls : {F W : Type 0} → StreamCalls F → StreamCalls W → StreamCalls (Sink F W)
+sink_calls of_file of_given = record {
+  moved = λ before bytes after. sink_answered (λ a b. of_file.moved a bytes b) (λ a b. of_given.moved a bytes b) before after;
+  refused = sink_answered of_file.refused of_given.refused;
+}
+
+-- and on the three streams of a run, with files that it reads and writes
+abbrev pub calls_of_run : {I O R W1 W2 : Type 0} → StreamCalls I → StreamCalls O → Hearing R W1 W2 → Hearing (Source I R) (Sink O W1) (Sink O W2)
+calls_of_run reads writes given = record {
+  input = source_calls reads given.input;
+  out = sink_calls writes given.out;
+  err = sink_calls writes given.err;
+}
 
 -- a guest reads the stream that the program was given, or a file where one is named
 abbrev pub source_of : {F R : Type 0} → Option F → R → Source F R

@@ -18,6 +18,7 @@ use Rattle.run_report.specs.declared.fault.Fault.{Fault}
 use Rattle.run_report.specs.declared.summary.Summary.{Summary}
 use Rattle.run_report.specs.Reporting.{report_text}
 use Rattle.sandbox_device.specs.declared.ram_device.RamDevice.{RamDevice}
+use Rattle.wasi_calls.specs.host.Worlds.{StreamCalls}
 use Rattle.sandbox_words.specs.declared.request.Run.{Run}
 use Rattle.sandbox_words.specs.Request.{Text}
 use Rattle.sandbox_command.specs.declared.program.Executed.{Executed}
@@ -83,7 +84,8 @@ abbrev pub LacksFiles : {P I O V : Type 0} → Ghosts P I O V → Run → Test �
 LacksFiles places run t kind p q = IsRefusedAmong places.asked places.refused (stream_accesses run t) kind p q
     ⊎ ((run.image ≡ None) × (kind ≡ OutOfMemory) × Chain places.asked (stream_accesses run t) p q)
 
-module _ {P I O V : Type 0} (places : Ghosts P I O V) (read : Reader I) (written : Writer O) (flushed refuses : O → O → Type 0) where
+module _ {P I O V : Type 0} (places : Ghosts P I O V) (read : Reader I) (written : Writer O) (flushed refuses : O → O → Type 0)
+    (reads : StreamCalls I) (writes : StreamCalls O) where
   -- A run of the module as the words say, with all their fuel, on sectors of its own, those of the image or empty ones, and
   -- with the files of the test for its streams; and what its report says. All that it left was given up as it was.
   pub record IsTested (run : Run) (bytes : List ℕ) (m : Module) (random : Text) (t : Test) (p q : P) (summary : Option Summary) (frames : Text) : Type 0 where
@@ -99,7 +101,8 @@ module _ {P I O V : Type 0} (places : Ghosts P I O V) (read : Reader I) (written
     pub new : IsImage run.image device.sectors
     pub of_image : IsOfImage places.is_image run.image device
     pub left : Executed RamDevice I O O
-    pub runs : RunsOn in_memory.honest in_memory.disk in_memory.size in_memory.failures in_memory.goes_on read.remaining written.contents written.contents run m random device input out err left
+    pub runs : RunsOn in_memory.honest in_memory.disk in_memory.size in_memory.failures in_memory.goes_on read.remaining written.contents written.contents
+        (record { input = reads; out = writes; err = writes }) run m random device input out err left
     pub answered : RunAnswered flushed refuses flushed refuses left
     pub summary_is : summary ≡ left.summary
     -- its report tells where it stopped
@@ -187,4 +190,4 @@ module _ {P I O V : Type 0} (places : Ghosts P I O V) (read : Reader I) (written
 
 -- the same, and then the streams that were given are given up
 abbrev pub RunsList : {P I O V R W1 W2 : Type 0} → Around P I O V R W1 W2 → Run → Text → Streams R W1 W2 → (p q : P) → (status : ℕ) → Type 0
-RunsList on run list given p q status = (done : _) × RunsLines on.places on.read on.written on.flushes.file_flushed on.flushes.file_refuses run list p done status × EndsGiven on given done q
+RunsList on run list given p q status = (done : _) × RunsLines on.places on.read on.written on.flushes.file_flushed on.flushes.file_refuses on.calls.reads on.calls.writes run list p done status × EndsGiven on given done q

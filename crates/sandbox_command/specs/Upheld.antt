@@ -6,18 +6,19 @@ use Rattle.vol_sector.specs.Disk.{Image, Disk}
 use Rattle.vol_tree.specs.Stands.{StandsAs}
 use Rattle.wasm_module.specs.declared.module.Module.{Module}
 use Rattle.wasi_calls.specs.declared.host.wasi_host.HostParts.{HostParts}
+use Rattle.wasi_calls.specs.host.Worlds.{Hearing}
 use Rattle.sandbox_core.specs.Headline.{Upholds}
 use Rattle.sandbox_words.specs.declared.request.Run.{Run}
 use Rattle.sandbox_command.specs.declared.program.Executed.{Executed}
 use Rattle.sandbox_command.specs.Running.{Ran, counted_devices}
 
 module _ {D R W1 W2 : Type 0} (is_honest : D → Type 0) (disk : D → Disk) (sectors_on failures : D → ℕ) (goes_on : ℕ → D → D → Type 0)
-    (remaining : R → Option (List ℕ)) (out_contents : W1 → Option (List ℕ)) (err_contents : W2 → Option (List ℕ)) where
+    (remaining : R → Option (List ℕ)) (out_contents : W1 → Option (List ℕ)) (err_contents : W2 → Option (List ℕ)) (ear : Hearing R W1 W2) where
   -- On a device that keeps its model, from a volume of which a crash leaves its tree alone.
   abbrev pub RunUpholds : Type 0
   RunUpholds = (m : Module) (run : Run) (parts : HostParts D R W1 W2) (left : Executed D R W1 W2)
-      → (ran : Ran is_honest disk sectors_on failures goes_on remaining out_contents err_contents m run parts left)
+      → (ran : Ran is_honest disk sectors_on failures goes_on remaining out_contents err_contents ear m run parts left)
       → is_honest parts.volume.device
       → ((c : Image) → (disk parts.volume.device).may_leave c → StandsAs c parts.volume.numbers parts.volume.tree)
-      → Upholds (counted_devices is_honest disk sectors_on failures goes_on remaining out_contents err_contents) m parts.settings.pages
+      → Upholds (counted_devices is_honest disk sectors_on failures goes_on remaining out_contents err_contents ear) m parts.settings.pages
       (parts.volume.tree ∷ []) 0 ran.session ran.counted.reports.resumes ran.counted.reports.last

@@ -3,10 +3,10 @@
 ghost use Rattle.std.specs.Prelude.{◌≡◌, ◌≤◌, MatchResult};
 ghost use Rattle.std.specs.IoError.{error_kind};
 ghost use Rattle.std.specs.Process.{exit_status};
-ghost use Rattle.sandbox_command.specs.Around.{EndsGiven, around, flushing};
+ghost use Rattle.sandbox_command.specs.Around.{EndsGiven, around, calling, flushing};
 ghost use Rattle.sandbox_command.specs.Files.{HasExecuted, IsAnswered, IsPerformed, IsPerformedOnSystem, DoesInspect};
-ghost use Rattle.stream_answers.specs.System.{HasRefused};
-ghost use Rattle.sandbox_command.specs.Flushing.{FileFlushed};
+ghost use Rattle.stream_answers.specs.System.{HasRefused, WasGiven};
+ghost use Rattle.sandbox_command.specs.Flushing.{FileFlushed, FileTook};
 ghost use Rattle.sandbox_command.specs.Status.{file_status};
 
 use crate::clashing::clashes;
@@ -53,6 +53,7 @@ pub fn exit_code<R: Inlet + Drop, W1: Outlet + Drop, W2: Outlet + Drop>(
     mut err: W2,
 ) -> ExitCode
     ensures tells { IsAnswered R.Read W1.Write W2.Write (flushing FileFlushed HasRefused W1.flushed W1.refuses W2.flushed W2.refuses)
+        (calling WasGiven HasRefused FileTook HasRefused R.gave R.refused W1.took W1.refused W2.took W2.refused)
         (record { input = input; out = out; err = err }) (exit_status result) }
     ensures within { exit_status result ≤ 125 }
 {
@@ -78,7 +79,8 @@ pub fn perform<R: Inlet + Drop, W1: Outlet + Drop, W2: Outlet + Drop>(
     err: W2,
 ) -> u8
     ensures tells { IsPerformedOnSystem R.Read W1.Write W2.Write
-        (flushing FileFlushed HasRefused W1.flushed W1.refuses W2.flushed W2.refuses) invocation.now (record { input = input; out = out; err = err }) result }
+        (flushing FileFlushed HasRefused W1.flushed W1.refuses W2.flushed W2.refuses)
+        (calling WasGiven HasRefused FileTook HasRefused R.gave R.refused W1.took W1.refused W2.took W2.refused) invocation.now (record { input = input; out = out; err = err }) result }
     ensures within { result ≤ 124 }
 {
     let mut places = HostPlaces::of(rt, invocation);
@@ -101,7 +103,8 @@ pub fn perform_in<P: Places, R: Inlet + Drop, W1: Outlet + Drop, W2: Outlet + Dr
     given: Streams<R, W1, W2>,
 ) -> u8
     ensures tells { IsPerformed (around P.Places P.Input.Read P.Output.Write P.Volume.Device R.Read W1.Write W2.Write
-        (flushing P.Output.flushed P.Output.refuses W1.flushed W1.refuses W2.flushed W2.refuses))
+        (flushing P.Output.flushed P.Output.refuses W1.flushed W1.refuses W2.flushed W2.refuses)
+        (calling P.Input.gave P.Input.refused P.Output.took P.Output.refused R.gave R.refused W1.took W1.refused W2.took W2.refused))
         invocation.now given places.old places.new result }
     ensures within { result ≤ 124 }
 {
@@ -172,7 +175,8 @@ fn end_clashing<P: Places, R: Inlet + Drop, W1: Outlet + Drop, W2: Outlet + Drop
 ) -> u8
     ensures status { result ≡ 124 }
     ensures ends { EndsGiven (around P.Places P.Input.Read P.Output.Write P.Volume.Device R.Read W1.Write W2.Write
-        (flushing P.Output.flushed P.Output.refuses W1.flushed W1.refuses W2.flushed W2.refuses))
+        (flushing P.Output.flushed P.Output.refuses W1.flushed W1.refuses W2.flushed W2.refuses)
+        (calling P.Input.gave P.Input.refused P.Output.took P.Output.refused R.gave R.refused W1.took W1.refused W2.took W2.refused))
         given places.old places.new }
 {
     let mut given = given;
@@ -195,11 +199,13 @@ fn execute_on<P: Places, R: Inlet + Drop, W1: Outlet + Drop, W2: Outlet + Drop>(
 ) -> u8
     ensures tells { MatchResult device
         (λ device. HasExecuted (around P.Places P.Input.Read P.Output.Write P.Volume.Device R.Read W1.Write W2.Write
-        (flushing P.Output.flushed P.Output.refuses W1.flushed W1.refuses W2.flushed W2.refuses))
+        (flushing P.Output.flushed P.Output.refuses W1.flushed W1.refuses W2.flushed W2.refuses)
+        (calling P.Input.gave P.Input.refused P.Output.took P.Output.refused R.gave R.refused W1.took W1.refused W2.took W2.refused))
         work.entry device given places.old places.new result)
         (λ error. (result ≡ file_status (error_kind error))
         × EndsGiven (around P.Places P.Input.Read P.Output.Write P.Volume.Device R.Read W1.Write W2.Write
-        (flushing P.Output.flushed P.Output.refuses W1.flushed W1.refuses W2.flushed W2.refuses)) given places.old places.new) }
+        (flushing P.Output.flushed P.Output.refuses W1.flushed W1.refuses W2.flushed W2.refuses)
+        (calling P.Input.gave P.Input.refused P.Output.took P.Output.refused R.gave R.refused W1.took W1.refused W2.took W2.refused)) given places.old places.new) }
     ensures within { result ≤ 124 }
 {
     match device {
@@ -224,7 +230,8 @@ fn inspect_file<P: Places, R: Inlet + Drop, W1: Outlet + Drop, W2: Outlet + Drop
     given: Streams<R, W1, W2>,
 ) -> u8
     ensures tells { DoesInspect (around P.Places P.Input.Read P.Output.Write P.Volume.Device R.Read W1.Write W2.Write
-        (flushing P.Output.flushed P.Output.refuses W1.flushed W1.refuses W2.flushed W2.refuses))
+        (flushing P.Output.flushed P.Output.refuses W1.flushed W1.refuses W2.flushed W2.refuses)
+        (calling P.Input.gave P.Input.refused P.Output.took P.Output.refused R.gave R.refused W1.took W1.refused W2.took W2.refused))
         floats path.now given places.old places.new result }
     ensures within { result ≤ 124 }
 {

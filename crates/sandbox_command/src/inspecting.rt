@@ -1,7 +1,8 @@
 //! What a module is, printed.
 
-ghost use Rattle.std.specs.Prelude.{◌≡◌, IfErr, IfOk};
+ghost use Rattle.std.specs.Prelude.{◌≡◌, Bool, IfErr, IfOk};
 ghost use Rattle.std.specs.IoError.{error_kind};
+ghost use Rattle.stream_answers.specs.Hearing.{Hears, Moves, Refuses};
 ghost use Rattle.sandbox_command.specs.Flushing.{Answered};
 ghost use Rattle.sandbox_command.specs.Inspecting.{Inspects, refused_status, survey_status};
 ghost use Rattle.sandbox_command.specs.Streams.{AppendsSome};
@@ -67,7 +68,8 @@ pub(crate) fn inspect<R: Drop, W1: Outlet + Drop, W2: Write + Drop>(
     profile: Profile,
     given: Streams<R, W1, W2>,
 ) -> Executed<(), R, W1, W2>
-    ensures tells { Inspects profile bytes.now (W1.contents given.out) (W1.contents result.out) result.flushed result.status }
+    ensures tells { (failed : Bool) × Inspects profile bytes.now (W1.contents given.out) (W1.contents result.out) failed result.flushed result.status
+        × ((printed : W1) × Hears (Moves W1.took) (Refuses W1.took W1.refused) failed given.out printed) }
     ensures input { result.input ≡ given.input }
     ensures err { AppendsSome (W2.contents given.err) (W2.contents result.err) }
     ensures answered { Answered W1.flushed W1.refuses result.flushed result.out }

@@ -6,6 +6,8 @@ ghost use Rattle.std.specs.IoError.{error_kind};
 ghost use Rattle.clap.specs.Values.{kind_of};
 ghost use Rattle.sandbox_core.specs.Session.{given};
 ghost use Rattle.run_report.specs.declared.fault.Fault.TheVariants as reason;
+ghost use Rattle.wasi_calls.specs.host.Worlds.{hearing};
+ghost use Rattle.sandbox_command.specs.Around.{calls_of};
 ghost use Rattle.sandbox_command.specs.Flushing.{Answered, BothAnswered, RunAnswered};
 ghost use Rattle.sandbox_command.specs.Status.{status_of, EndsWith, load_status, session_status};
 ghost use Rattle.sandbox_command.specs.Status.{volume_status, words_status, command_line_status};
@@ -448,6 +450,7 @@ pub(crate) fn run_valid<
     ensures module { result.0 ≡ runnable.entry }
     ensures fuel_use { TellsUse stacks result.1.stopped }
     ensures runs { RunsOn D.honest D.disk D.size D.failures D.goes_on R.remaining W1.contents W2.contents
+        (hearing R.gave R.refused W1.took W1.refused W2.took W2.refused)
         run.now (module_in runnable.entry) random.now device streams.input streams.out streams.err result.1 }
     ensures answered { RunAnswered W1.flushed W1.refuses W2.flushed W2.refuses result.1 }
 {
@@ -484,6 +487,7 @@ pub(crate) fn run<D: Device + Drop, R: Inlet + Drop, W1: Outlet + Drop, W2: Outl
     requires { IfSome stacks (λ s. s ≡ no_stacks) }
     ensures fuel_use { TellsUse stacks result.0.stopped }
     ensures runs { Runs D.honest D.disk D.size D.failures D.goes_on R.remaining W1.contents W2.contents
+        (hearing R.gave R.refused W1.took W1.refused W2.took W2.refused)
         run.now «module».now random.now device streams.input streams.out streams.err result.0 }
     ensures answered { RunAnswered W1.flushed W1.refuses W2.flushed W2.refuses result.0 }
     ensures lines { TellsLines (profile_for run.now.floats) «module».now run.now.frames result.0.stopped result.1.items }
@@ -518,7 +522,7 @@ pub fn execute<D: Device + Drop, R: Inlet + Drop, W1: Outlet + Drop, W2: Write +
     given: Streams<R, W1, W2>,
 ) -> Executed<D, R, W1, W2>
     ensures tells { Executes D.honest D.disk D.size D.failures D.goes_on R.remaining W1.contents W2.contents
-        work.entry device given.input given.out given.err result }
+        (calls_of R.gave R.refused) (calls_of W1.took W1.refused) work.entry device given.input given.out given.err result }
     ensures answered { Answered W1.flushed W1.refuses result.flushed result.out }
     ensures stays_within { StaysWithin D.honest D.disk D.size D.goes_on work.entry device result.device }
     ensures within { result.status ≤ 124 }

@@ -3,7 +3,7 @@
 ghost use Rattle.std.specs.Prelude.{◌≡◌, ℕ, List, Err, Some};
 ghost use Rattle.std.specs.IoError.{error_kind};
 ghost use Rattle.sandbox_command.specs.Alone.{IsLedger, IsTold, IsUnfilled, KeepsIt, RunsAlone, RunsFilled, RunsInMemory, RunsOnMedium, RunsWith, file_of, stacks_of};
-ghost use Rattle.sandbox_command.specs.Around.{EndsGiven, around, flushing};
+ghost use Rattle.sandbox_command.specs.Around.{EndsGiven, around, calling, flushing};
 ghost use Rattle.sandbox_command.specs.Archive.{Fills};
 ghost use Rattle.sandbox_command.specs.Beginning.{unread};
 ghost use Rattle.sandbox_command.specs.Places.{IsOfName};
@@ -55,7 +55,8 @@ pub(crate) fn run_alone<P: Places, R: Inlet + Drop, W1: Outlet + Drop, W2: Outle
     given: Streams<R, W1, W2>,
 ) -> u8
     ensures { RunsAlone (around P.Places P.Input.Read P.Output.Write P.Volume.Device R.Read W1.Write W2.Write
-        (flushing P.Output.flushed P.Output.refuses W1.flushed W1.refuses W2.flushed W2.refuses))
+        (flushing P.Output.flushed P.Output.refuses W1.flushed W1.refuses W2.flushed W2.refuses)
+        (calling P.Input.gave P.Input.refused P.Output.took P.Output.refused R.gave R.refused W1.took W1.refused W2.took W2.refused))
         run.now given places.old places.new result }
 {
     match open_all(alloc, places, run) {
@@ -78,7 +79,8 @@ pub(crate) fn end_refused<P: Places, R: Inlet + Drop, W1: Outlet + Drop, W2: Out
 ) -> u8
     ensures status { result ≡ file_status (error_kind error.now) }
     ensures ends { EndsGiven (around P.Places P.Input.Read P.Output.Write P.Volume.Device R.Read W1.Write W2.Write
-        (flushing P.Output.flushed P.Output.refuses W1.flushed W1.refuses W2.flushed W2.refuses))
+        (flushing P.Output.flushed P.Output.refuses W1.flushed W1.refuses W2.flushed W2.refuses)
+        (calling P.Input.gave P.Input.refused P.Output.took P.Output.refused R.gave R.refused W1.took W1.refused W2.took W2.refused))
         given places.old places.new }
 {
     let mut given = given;
@@ -100,7 +102,8 @@ fn end_unread<P: Places, R: Inlet + Drop, W1: Outlet + Drop, W2: Outlet + Drop>(
     ensures { (told : P) × (lines : Text) × AreLinesOfNone lines
         × IsTold P.Places P.Output.Write run.now.report report (Some (unread run.now (error_kind error.now))) lines (file_status (error_kind error.now)) places.old told result
         × EndsGiven (around P.Places P.Input.Read P.Output.Write P.Volume.Device R.Read W1.Write W2.Write
-        (flushing P.Output.flushed P.Output.refuses W1.flushed W1.refuses W2.flushed W2.refuses)) given told places.new }
+        (flushing P.Output.flushed P.Output.refuses W1.flushed W1.refuses W2.flushed W2.refuses)
+        (calling P.Input.gave P.Input.refused P.Output.took P.Output.refused R.gave R.refused W1.took W1.refused W2.took W2.refused)) given told places.new }
 {
     let mut given = given;
     let ending = Ending {
@@ -133,7 +136,8 @@ fn end_unfilled<P: Places, R: Inlet + Drop, W1: Outlet + Drop, W2: Outlet + Drop
     requires profile { IsLedger P.is_output run.now.profile wired.profile }
     ensures { (archive : List ℕ) → Fills archive (Err failure)
         → IsUnfilled (around P.Places P.Input.Read P.Output.Write P.Volume.Device R.Read W1.Write W2.Write
-        (flushing P.Output.flushed P.Output.refuses W1.flushed W1.refuses W2.flushed W2.refuses))
+        (flushing P.Output.flushed P.Output.refuses W1.flushed W1.refuses W2.flushed W2.refuses)
+        (calling P.Input.gave P.Input.refused P.Output.took P.Output.refused R.gave R.refused W1.took W1.refused W2.took W2.refused))
         run.now archive wired.«module».items wired.streams wired.spare (file_of wired.profile) report places.old places.new result }
 {
     let Wired {
@@ -183,7 +187,8 @@ fn run_filled<P: Places, R: Inlet + Drop, W1: Outlet + Drop, W2: Outlet + Drop>(
     requires report { IsOfName P.is_output run.now.report report }
     requires profile { IsLedger P.is_output run.now.profile wired.profile }
     ensures { RunsFilled (around P.Places P.Input.Read P.Output.Write P.Volume.Device R.Read W1.Write W2.Write
-        (flushing P.Output.flushed P.Output.refuses W1.flushed W1.refuses W2.flushed W2.refuses))
+        (flushing P.Output.flushed P.Output.refuses W1.flushed W1.refuses W2.flushed W2.refuses)
+        (calling P.Input.gave P.Input.refused P.Output.took P.Output.refused R.gave R.refused W1.took W1.refused W2.took W2.refused))
         run.now archive.items wired.«module».items wired.random.items wired.streams wired.spare (file_of wired.profile) report places.old places.new result }
 {
     let bytes = archive.as_slice();
@@ -207,7 +212,8 @@ fn run_opened<P: Places, R: Inlet + Drop, W1: Outlet + Drop, W2: Outlet + Drop>(
     requires report { IsOfName P.is_output run.now.report report }
     requires profile { IsLedger P.is_output run.now.profile opened.profile }
     ensures { RunsOnMedium (around P.Places P.Input.Read P.Output.Write P.Volume.Device R.Read W1.Write W2.Write
-        (flushing P.Output.flushed P.Output.refuses W1.flushed W1.refuses W2.flushed W2.refuses))
+        (flushing P.Output.flushed P.Output.refuses W1.flushed W1.refuses W2.flushed W2.refuses)
+        (calling P.Input.gave P.Input.refused P.Output.took P.Output.refused R.gave R.refused W1.took W1.refused W2.took W2.refused))
         opened.medium run.now opened given report places.old places.new result }
 {
     let Opened {
@@ -255,7 +261,8 @@ fn run_in_file<P: Places, R: Inlet + Drop, W1: Outlet + Drop, W2: Outlet + Drop>
     requires report { IsOfName P.is_output run.now.report report }
     requires profile { IsLedger P.is_output run.now.profile wired.profile }
     ensures { RunsWith (around P.Places P.Input.Read P.Output.Write P.Volume.Device R.Read W1.Write W2.Write
-        (flushing P.Output.flushed P.Output.refuses W1.flushed W1.refuses W2.flushed W2.refuses)) P.Volume.Device
+        (flushing P.Output.flushed P.Output.refuses W1.flushed W1.refuses W2.flushed W2.refuses)
+        (calling P.Input.gave P.Input.refused P.Output.took P.Output.refused R.gave R.refused W1.took W1.refused W2.took W2.refused)) P.Volume.Device
         (λ left before said p q status summary after. KeepsIt P.Places left before said p q status summary after)
         run.now wired.«module».items wired.random.items device wired.streams wired.spare (file_of wired.profile) report places.old places.new result }
 {
@@ -291,7 +298,8 @@ fn run_in_memory<P: Places, R: Inlet + Drop, W1: Outlet + Drop, W2: Outlet + Dro
     requires report { IsOfName P.is_output run.now.report report }
     requires profile { IsLedger P.is_output run.now.profile wired.profile }
     ensures { RunsInMemory (around P.Places P.Input.Read P.Output.Write P.Volume.Device R.Read W1.Write W2.Write
-        (flushing P.Output.flushed P.Output.refuses W1.flushed W1.refuses W2.flushed W2.refuses))
+        (flushing P.Output.flushed P.Output.refuses W1.flushed W1.refuses W2.flushed W2.refuses)
+        (calling P.Input.gave P.Input.refused P.Output.took P.Output.refused R.gave R.refused W1.took W1.refused W2.took W2.refused))
         run.now wired.«module».items wired.random.items device wired.streams wired.spare (file_of wired.profile) report places.old places.new result }
 {
     let Wired {

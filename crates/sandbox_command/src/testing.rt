@@ -3,7 +3,7 @@
 ghost use Rattle.std.specs.Prelude.{◌≡◌, ◌⊎◌, ◌↔◌, ◌++◌, ◌∷◌, IfErr, IfOk, IsTrue, MatchOption, MatchResult, string_bytes};
 ghost use Rattle.std.specs.IoError.{error_kind};
 ghost use Rattle.sandbox_core.specs.declared.fault.SessionFault.TheVariants as opening;
-ghost use Rattle.sandbox_command.specs.Around.{around, flushing};
+ghost use Rattle.sandbox_command.specs.Around.{around, calling, calls_of, flushing};
 ghost use Rattle.sandbox_command.specs.Places.{IsRefusedAmong};
 ghost use Rattle.sandbox_command.specs.Status.{session_status};
 ghost use Rattle.sandbox_command.specs.Testing.{AreRead, HasFailed, HasNoTest, HasRun, IsNoTest, IsTest, IsTestedOrUnread, IsWord, LacksFiles, Lists, RunsLines, RunsList, RunsTests, line_of, list_accesses};
@@ -146,7 +146,8 @@ fn tested<'m, P: Places>(
     requires supplied { AreSupplies run.now supplies.now }
     requires ready { IsReadyFor run.now.limits.pages runnable }
     ensures module { result.0 ≡ runnable.entry }
-    ensures tested { IsTestedOrUnread P.Places P.Input.Read P.Output.Write P.Output.flushed P.Output.refuses run.now files.entry.«module».now (module_in runnable.entry) files.entry.random.now test.entry
+    ensures tested { IsTestedOrUnread P.Places P.Input.Read P.Output.Write P.Output.flushed P.Output.refuses (calls_of P.Input.gave P.Input.refused) (calls_of P.Output.took P.Output.refused)
+        run.now files.entry.«module».now (module_in runnable.entry) files.entry.random.now test.entry
         places.old places.new result.1 result.2.items }
 {
     match prepare(alloc, places, run, test) {
@@ -205,8 +206,10 @@ fn run_test<'m, P: Places>(
     requires ready { IsReadyFor run.now.limits.pages runnable }
     ensures module { result.0 ≡ runnable.entry }
     ensures ends { OneEndsAs
-        (HasRun P.Places P.Input.Read P.Output.Write P.Output.flushed P.Output.refuses run.now files.entry.«module».now (module_in runnable.entry) files.entry.random.now)
-        (HasFailed P.Places P.Input.Read P.Output.Write P.Output.flushed P.Output.refuses run.now files.entry.«module».now (module_in runnable.entry) files.entry.random.now)
+        (HasRun P.Places P.Input.Read P.Output.Write P.Output.flushed P.Output.refuses (calls_of P.Input.gave P.Input.refused) (calls_of P.Output.took P.Output.refused)
+        run.now files.entry.«module».now (module_in runnable.entry) files.entry.random.now)
+        (HasFailed P.Places P.Input.Read P.Output.Write P.Output.flushed P.Output.refuses (calls_of P.Input.gave P.Input.refused) (calls_of P.Output.took P.Output.refused)
+        run.now files.entry.«module».now (module_in runnable.entry) files.entry.random.now)
         result.1 test.entry places.old places.new }
 {
     let Ok(report) = places.make(test.report) else {
@@ -234,8 +237,10 @@ fn run_all<'m, P: Places>(
     requires supplied { AreSupplies run.now supplies.now }
     requires ready { IsReadyFor run.now.limits.pages runnable }
     ensures { AllEndAs
-        (HasRun P.Places P.Input.Read P.Output.Write P.Output.flushed P.Output.refuses run.now files.entry.«module».now (module_in runnable.entry) files.entry.random.now)
-        (HasFailed P.Places P.Input.Read P.Output.Write P.Output.flushed P.Output.refuses run.now files.entry.«module».now (module_in runnable.entry) files.entry.random.now)
+        (HasRun P.Places P.Input.Read P.Output.Write P.Output.flushed P.Output.refuses (calls_of P.Input.gave P.Input.refused) (calls_of P.Output.took P.Output.refused)
+        run.now files.entry.«module».now (module_in runnable.entry) files.entry.random.now)
+        (HasFailed P.Places P.Input.Read P.Output.Write P.Output.flushed P.Output.refuses (calls_of P.Input.gave P.Input.refused) (calls_of P.Output.took P.Output.refused)
+        run.now files.entry.«module».now (module_in runnable.entry) files.entry.random.now)
         result tests.now places.old places.new }
 {
     let mut runnable = runnable;
@@ -314,7 +319,8 @@ fn run_tests<P: Places, W: Write>(
     tests: &[Test<'_>],
     err: &mut W,
 ) -> u8
-    ensures runs { RunsTests P.Places P.Input.Read P.Output.Write P.Output.flushed P.Output.refuses run.now «module».now random.now tests.now places.old places.new result }
+    ensures runs { RunsTests P.Places P.Input.Read P.Output.Write P.Output.flushed P.Output.refuses (calls_of P.Input.gave P.Input.refused) (calls_of P.Output.took P.Output.refused)
+        run.now «module».now random.now tests.now places.old places.new result }
     ensures line { AppendsSome (W.contents err.old) (W.contents err.new) }
 {
     let supplies = match supplied(alloc, run) {
@@ -366,7 +372,8 @@ fn run_lines<P: Places, W: Write>(
     list: &str,
     err: &mut W,
 ) -> u8
-    ensures runs { RunsLines P.Places P.Input.Read P.Output.Write P.Output.flushed P.Output.refuses run.now list.now places.old places.new result }
+    ensures runs { RunsLines P.Places P.Input.Read P.Output.Write P.Output.flushed P.Output.refuses (calls_of P.Input.gave P.Input.refused) (calls_of P.Output.took P.Output.refused)
+        run.now list.now places.old places.new result }
     ensures line { AppendsSome (W.contents err.old) (W.contents err.new) }
 {
     let (text, module, random) = match list_and_files(alloc, places, run, list) {
@@ -399,7 +406,8 @@ pub fn run_list<P: Places, R: Inlet + Drop, W1: Outlet + Drop, W2: Outlet + Drop
     given: Streams<R, W1, W2>,
 ) -> u8
     ensures { RunsList (around P.Places P.Input.Read P.Output.Write P.Volume.Device R.Read W1.Write W2.Write
-        (flushing P.Output.flushed P.Output.refuses W1.flushed W1.refuses W2.flushed W2.refuses))
+        (flushing P.Output.flushed P.Output.refuses W1.flushed W1.refuses W2.flushed W2.refuses)
+        (calling P.Input.gave P.Input.refused P.Output.took P.Output.refused R.gave R.refused W1.took W1.refused W2.took W2.refused))
         run.now list.now given places.old places.new result }
 {
     let mut given = given;

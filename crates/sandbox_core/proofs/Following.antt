@@ -5,6 +5,9 @@ use Rattle.std.specs.List.{count_by}
 use Rattle.std.proofs.lemmas.List.Sums.{sum_by-append}
 use Rattle.wasm_steps.specs.declared.pause.Pause.{Pause}
 use Rattle.wasm_steps.specs.declared.pause.Pause.TheVariants.{Called, Spent, Ended}
+use Rattle.wasi_calls.specs.host.Worlds.{HearsStreams}
+use Rattle.wasi_calls.proofs.bodies.StreamsHeard.{unheard}
+use Rattle.wasi_calls.proofs.runs.StreamsKeep.{streams_then}
 use Rattle.sandbox_core.specs.declared.tally.Tally.{Tally}
 use Rattle.sandbox_core.specs.Devices.{Devices}
 use Rattle.sandbox_core.specs.Session.{SessionState, Resumes, History, Follow, is_answered, is_called, is_synced}
@@ -95,3 +98,8 @@ module _ {D R W1 W2 : Type 0} (on : Devices D R W1 W2) where
       → is_called p ≡ false → is_synced p ≡ false → Followed on s u tally
   followed_to_end s t u units p tally (rs, follow, tallies) more uncalled unsynced =
       (rs ++ (p, u) ∷ [], follow_on rs s t u units p follow more, tallied_on rs p u tally tally tallies (adds_nothing rs p tally tallies uncalled unsynced))
+
+  -- the streams are heard in all of them
+  pub heard_follow : (rs : History S) (s t : S) → Follow on s rs t → HearsStreams on.ear s.host t.host
+  heard_follow [] s t same = unheard on.ear s.host t.host (ap (λ (x : S). x.host.input) same) (ap (λ (x : S). x.host.out) same) (ap (λ (x : S). x.host.err) same)
+  heard_follow (r ∷ rs) s t ((units, more), rest) = streams_then on.ear s.host r.1.host t.host more.heard (heard_follow rs r.1 t rest)

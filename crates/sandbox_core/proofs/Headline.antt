@@ -45,6 +45,7 @@ use Rattle.std.proofs.KnownBytes.{Consumes-nil, Consumes-trans, Appends-nil, App
 use Rattle.sandbox_core.specs.Devices.{Devices, Calls as CallsOn}
 use Rattle.wasi_calls.specs.declared.streams.Terminals.{Terminals}
 use Rattle.sandbox_core.specs.Session.{SessionState, OpensWith, Shares, History, Follow, is_synced, pauses_of, seeded_by}
+use Rattle.sandbox_core.proofs.Following.{heard_follow}
 use Rattle.sandbox_core.proofs.Reaching.{resumes_compose}
 use Rattle.sandbox_core.specs.Runs.{ResumesFollow, answered}
 use Rattle.sandbox_core.specs.Safety.{IsSafeVolume}
@@ -345,8 +346,9 @@ module _ {D R W1 W2 : Type 0} (on : Devices D R W1 W2) where
             kept = keeps_all disk_of numbers_of tree_of (turns_of s rs) s.host trees from (safe trees from before) (turns rs s s' follow still);
             size = sizes rs s s' follow;
             goes = goes_on rs s s' follow;
+            heard = heard_follow on rs s s' follow;
             confined = λ w w' shown shown_after. confines_host Calls Shows honest_of first.instance s.host s'.host w w' (first_configuration first.entered first.store) run.0 (answered (pauses_of rs))
-                (are_rows on.device.honest on.device.disk on.device.size on.device.failures on.device.goes_on on.input.remaining on.out.contents on.err.contents) still shown
+                (are_rows on.device.honest on.device.disk on.device.size on.device.failures on.device.goes_on on.input.remaining on.out.contents on.err.contents on.ear) still shown
                 (subst HasOnlyDirectoriesOpen (sym shown.1) (world_begins opens.fits shown.0)) run.2 shown_after;
           }
 

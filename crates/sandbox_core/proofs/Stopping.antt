@@ -18,7 +18,7 @@ use Rattle.sandbox_core.specs.Session.{SessionState, Resumes, Finishes, History,
 use Rattle.sandbox_core.specs.Runs.{StopsAs, RunsWithin, LeftInRun}
 use Rattle.sandbox_core.specs.Report.{Reports}
 use Rattle.sandbox_core.specs.Slices.{AreCalls, stop_of, outcome_after, Stops, RunsSlice, StopsAfter, ReportsStop}
-use Rattle.sandbox_core.proofs.Following.{follow_on}
+use Rattle.sandbox_core.proofs.Following.{follow_on, heard_follow}
 use Rattle.sandbox_core.proofs.Reaching.{SafeSoFar, safe_so_far, safe_on, ran_out, ran_to_end, commit_after}
 
 -- a refused step that has its unit has it with more fuel, too
@@ -193,14 +193,16 @@ module _ {D R W1 W2 : Type 0} (on : Devices D R W1 W2) where
       let more = stops.resume in
       let run = ran first stops.middle last stops.units fuel stops.pause outcome safe more stops.within stops.running stops.stops in
       let numbers = more.numbers ∙ safe.numbered in
+      let followed : Follow on first resumes last = subst (λ (rs : History S). Follow on first rs last) (sym stops.all) (follow_on on stops.before first stops.middle last stops.units stops.pause stops.follow more) in
       let reports : Reports on first fuel (record { outcome = outcome; used = used; pages = pages; broken = broken; volume = finished.volume; input = finished.input; out = finished.out; err = finished.err }) = record {
         last = last;
         used = used_is;
         within = let rise = rises_within stops.pause stops.units (used_by stops.middle) (used_by last) more.run.units_rise in omega (arith, used_is, rise, stops.within);
         pages = pages_is;
         broken = broken_is;
+        heard = heard_follow on resumes first last followed;
         resumes = resumes;
-        follow = subst (λ (rs : History S). Follow on first rs last) (sym stops.all) (follow_on on stops.before first stops.middle last stops.units stops.pause stops.follow more);
+        follow = followed;
         run = run.run;
         unit = run.unit;
         volume = finishes.volume;

@@ -16,7 +16,7 @@ use Rattle.wasi_calls.specs.host.Links.{link}
 use Rattle.wasi_calls.specs.World.{World}
 use Rattle.wasi_calls.specs.Calls as world
 use Rattle.wasi_calls.specs.host.Worlds.{HostState, StreamBytes, StreamsMove, MayFollow, before_moving, after_moving}
-use Rattle.wasi_calls.specs.host.Worlds.{Shows, world_of}
+use Rattle.wasi_calls.specs.host.Worlds.{HearsStreams, Shows, world_of}
 use Rattle.wasi_calls.specs.laws.Moments.{Turn, AllKept}
 use Rattle.wasi_calls.specs.laws.Confined.{IsConfined, named_by}
 use Rattle.sandbox_core.specs.Devices.{Devices, Calls, disk_of, numbers_of, tree_of}
@@ -68,6 +68,8 @@ module _ {D R W1 W2 : Type 0} (on : Devices D R W1 W2) where
     -- on a device of the same size, which goes on
     pub size : on.device.size s'.host.volume.device ≡ on.device.size s.host.volume.device
     pub goes : GoesOn on.device.goes_on s.host.volume s'.host.volume
+    -- a stream that refused is marked as failed and wasn't asked again, and one that is marked has refused
+    pub heard : HearsStreams on.ear s.host s'.host
     -- entries outside the directories that were open at first stay as they are, and aren't reached
     pub confined : (w w' : World) → Shows s.host w → Shows s'.host w'
         → IsConfined w.tree (named_by w.table) w'.tree w'.table

@@ -8,7 +8,7 @@ use Rattle.wasm_steps.specs.Configuration.{Instance, Configuration}
 use Rattle.wasm_interp.specs.Machine.{Represents, outcome_of}
 use Rattle.wasm_interp.specs.Promise.{HasItsUnit}
 use Rattle.wasm_steps.specs.declared.pause.Pause.TheVariants.{Ended}
-use Rattle.wasi_calls.specs.host.Worlds.{stream_failed}
+use Rattle.wasi_calls.specs.host.Worlds.{HearsStreams, stream_failed}
 use Rattle.sandbox_core.specs.declared.report.Report.{Report}
 use Rattle.sandbox_core.specs.Devices.{Devices, Calls, IsHonest, disk_of, numbers_of, tree_of}
 use Rattle.sandbox_core.specs.Session.{SessionState, Commits, History, Follow, used_by}
@@ -25,7 +25,9 @@ module _ {D R W1 W2 : Type 0} (on : Devices D R W1 W2) where
     pub used : report.used ≡ used_by last
     pub within : report.used ≤ fuel
     pub pages : report.pages ≡ length last.machine.memory / 65536
+    -- whether a stream failed; and it did exactly where its last call was refused
     pub broken : report.broken ≡ stream_failed last.host
+    pub heard : HearsStreams on.ear session.host last.host
     -- the resumes that it was made of, one after another
     pub resumes : History (SessionState D R W1 W2)
     pub follow : Follow on session resumes last

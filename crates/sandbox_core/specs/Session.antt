@@ -24,7 +24,7 @@ use Rattle.wasi_calls.specs.declared.host.wasi_host.HostParts.{HostParts}
 use Rattle.wasi_calls.specs.host.Settings.{settings_fit}
 use Rattle.wasi_calls.specs.host.Links.{link}
 use Rattle.wasi_calls.specs.supplies.Random.{seeded}
-use Rattle.wasi_calls.specs.host.Worlds.{HostState}
+use Rattle.wasi_calls.specs.host.Worlds.{HearsStreams, HostState}
 use Rattle.path_walk.specs.Walk.{Asked}
 use Rattle.wasi_calls.specs.host.Making.{HasPreopens, preopens_of}
 use Rattle.wasi_calls.specs.laws.Moments.{IsTurn, PauseSynced, is_sync}
@@ -145,13 +145,15 @@ is_synced other = false
 
 module _ {D R W1 W2 : Type 0} (on : Devices D R W1 W2) where
   -- A resume is one of the machine over the host. On any device the volume's numbers stay, and the device's size, and the
-  -- device goes on. Each image that a crash may leave since it began could be left before, or stands under these numbers for a tree that one
-  -- could leave then, or for the tree before or after; and for the tree after where the resume answered a sync.
+  -- device goes on. A stream that refuses is marked as failed, and isn't asked again. Each image that a crash may leave since
+  -- the resume began could be left before, or stands under these numbers for a tree that one could leave then, or for the tree
+  -- before or after; and for the tree after where the resume answered a sync.
   pub record Resumes (old new : SessionState D R W1 W2) (units : ℕ) (p : Pause) : Type 0 where
     pub run : Resumed (HostState D R W1 W2) (Calls on) old.host new.host old.machine new.machine units p
     pub numbers : new.host.volume.numbers ≡ old.host.volume.numbers
     pub size : on.device.size new.host.volume.device ≡ on.device.size old.host.volume.device
     pub goes : GoesOn on.device.goes_on old.host.volume new.host.volume
+    pub heard : HearsStreams on.ear old.host new.host
     pub honest_after : IsHonest on old.host → IsHonest on new.host
     pub crash : IsHonest on old.host
         → IsTurn (disk_of on old.host) (disk_of on new.host) (numbers_of old.host) (tree_of old.host) (tree_of new.host)

@@ -30,7 +30,7 @@ pub trait Resumable<D: Device, R: Inlet, W1: Outlet, W2: Outlet> {
     /// isn't left.
     fn resume(&mut self, units: u64) -> Pause
         requires { used_by (state self.old) + units < 2 ^ 64 }
-        ensures { Resumes (devices D.Device R.Read W1.Write W2.Write)
+        ensures { Resumes (devices D.Device R.Read W1.Write W2.Write R.gave R.refused W1.took W1.refused W2.took W2.refused)
             (state self.old) (state self.new) units result };
 
     /// Sets how many values the guest's stack has at most.

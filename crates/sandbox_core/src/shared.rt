@@ -199,7 +199,7 @@ where
     /// Goes on as `Session::resume` does.
     pub fn resume(&mut self, units: u64) -> Pause
         requires { used_by self.old + units < 2 ^ 64 }
-        ensures { Resumes (devices D.Device R.Read W1.Write W2.Write)
+        ensures { Resumes (devices D.Device R.Read W1.Write W2.Write R.gave R.refused W1.took W1.refused W2.took W2.refused)
             self.old self.new units result }
     {
         self.machine.resume(&mut self.host, units)

@@ -1,11 +1,13 @@
--- What is heard of the input, where a refusal of a task may blame it.
+-- What is heard of a stream, where a refusal of a task may blame it.
 use Rattle.std.proofs.Common.{◌≡◌, ℕ, true, false, Result, Ok, Err, IsErrAnd, refl, ap}
 use Rattle.std.proofs.lemmas.Bool.{false≢true}
 use Rattle.stream_answers.specs.Hearing.{Goes, Hears}
 use Rattle.volume_archive.proofs.Blamed.{hears_none}
 use Rattle.volume_tasks.specs.Blame.{IsCause, blames_stream, is_stream}
+use Rattle.volume_tasks.specs.Exporting.{blames_output}
 use Rattle.volume_tasks.specs.Importing.{blames_input}
 use Rattle.volume_tasks.specs.declared.failure.Failure.{Failure}
+use Rattle.volume_tasks.specs.declared.exporting.ExportFailure.{ExportFailure}
 use Rattle.volume_tasks.specs.declared.importing.ImportFailure.{ImportFailure}
 
 -- a refusal that is handed on blames what it blamed
@@ -16,6 +18,10 @@ blame (Err f) reason is = ap is_stream is
 pub blame_import : (r : Result ℕ ImportFailure) (reason : ImportFailure) → IsErrAnd r (λ f. f ≡ reason) → blames_input r ≡ blames_input (Err reason)
 blame_import (Ok x) reason is = absurd is
 blame_import (Err f) reason is = ap (λ (g : ImportFailure). blames_input (Err g)) is
+
+pub blame_export : (r : Result (Unit {0}) ExportFailure) (reason : ExportFailure) → IsErrAnd r (λ f. f ≡ reason) → blames_output r ≡ blames_output (Err reason)
+blame_export (Ok x) reason is = absurd is
+blame_export (Err f) reason is = ap (λ (g : ExportFailure). blames_output (Err g)) is
 
 module _ {S : Type 0} (went refused : S → S → Type 0) where
   -- the refusal that blames the stream is the cause

@@ -20,9 +20,3 @@ told serial e s is = rw (is.kind, worded, is.size) refl
 -- the facts of what is told are those of the entry
 pub facts_told : (T : Tree) (serial : ℕ) (e : Entry) (s : Stat) → entry T serial ≡ Some e → IsStat serial e s → stat_facts serial s ≡ facts_at T serial
 facts_told T serial e s there is = told serial e s is ∙ sym (ap (λ (o : Option Entry). option_map_or (facts_of serial) o []) there)
-
--- the parts that are written
-pub facts_written : (serial : ℕ) (s : Stat) (word : List ℕ) → word ≡ word_of_kind s.kind
-    → concat (codes "kind:" ∷ word ∷ codes "\nsize:" ∷ decimal s.size ∷ codes "\nserial:" ∷ decimal serial ∷ codes "\n" ∷ []) ≡ stat_facts serial s
-unfolding stat_facts
-facts_written serial s word is = rw is refl

@@ -108,6 +108,18 @@ reads_input (Upgrade huge) = false
 reads_input (Stat path) = false
 reads_input (Changing change) = false
 
+-- a task that prints: the entries of a directory, a file, or what is told of a volume or an entry
+abbrev pub prints : Task → Bool
+prints (Ls path) = true
+prints (LsAs path form) = true
+prints (Get path) = true
+prints (Put path) = false
+prints (PutWhole path) = false
+prints Check = true
+prints (Upgrade huge) = false
+prints (Stat path) = true
+prints (Changing change) = false
+
 -- the tasks that read nothing of the input
 abbrev pub ReadsNothing : Task → Type 0
 ReadsNothing (Ls path) = Unit {0}

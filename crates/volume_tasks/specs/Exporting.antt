@@ -27,6 +27,13 @@ blames_export (Err (Volume fault)) = is_device fault
 blames_export (Err (Path e)) = is_io {X = Unit {0}} (Err e)
 blames_export (Err (Stopped why)) = archive.blames_device {X = Unit {0}} (Err why)
 
+-- and which are the output's: fault 41
+abbrev pub blames_output : Result (Unit {0}) ExportFailure → Bool
+blames_output (Ok x) = false
+blames_output (Err (Volume fault)) = false
+blames_output (Err (Path e)) = false
+blames_output (Err (Stopped why)) = archive.is_stream why
+
 -- All entries below the directory that the path names were printed. Or the path is refused with its errno, and nothing is
 -- printed; or a beginning of them was printed, and the cause says why no more.
 abbrev pub PrintsDirectory : Tree → Text → Option (List ℕ) → Option (List ℕ) → Result (Unit {0}) ExportFailure → Type 0

@@ -1,14 +1,12 @@
 //! Names as GNU `ls` writes them by `-b` in the C locale.
 
-ghost use Rattle.std.specs.Prelude.{◌≡◌, Some, OnOk};
+ghost use Rattle.std.specs.Prelude.{◌≡◌, ◌≤◌, ◌+◌, ◌*◌, ◌++◌, length};
 ghost use Rattle.std.specs.List.{flat_map};
-ghost use Rattle.std.specs.Io.KnownBytes.{Appends};
+ghost use Rattle.volume_tasks.specs.declared.output.TheConstants.{LINE_ROOM};
 ghost use Rattle.volume_tasks.specs.Listing.{escaped_byte, letter_of, line_end, name_as};
 
-use crate::output::Line;
+use crate::output::{Line, put};
 use sandbox_words::ListForm;
-use std::io;
-use std::io::Write;
 
 /// What stands behind the backslash for this byte, where that is one letter, a space or a backslash.
 fn letter(byte: u8) -> Option<u8>
@@ -28,49 +26,55 @@ fn letter(byte: u8) -> Option<u8>
     }
 }
 
-/// Writes a byte of a name.
-fn write_byte(byte: u8, line: &mut Line) -> io::Result<()>
-    ensures { OnOk result
-        (Appends (Some line.old.items) (Some line.new.items) (escaped_byte byte)) }
+/// Puts a byte of a name behind a line.
+fn put_byte(byte: u8, line: &mut Line)
+    requires { length line.old.items + 4 ≤ LINE_ROOM }
+    ensures items { line.new.items ≡ line.old.items ++ escaped_byte byte }
+    ensures len { length line.new.items ≤ length line.old.items + 4 }
 {
     match letter(byte) {
-        Some(letter) => line.write_all(&[b'\\', letter]),
-        None if 32 < byte && byte < 127 => line.write_all(&[byte]),
-        None => line.write_all(&[
-            b'\\',
-            b'0' + byte / 64,
-            b'0' + byte / 8 % 8,
-            b'0' + byte % 8,
-        ]),
+        Some(letter) => put(line, &[b'\\', letter]),
+        None if 32 < byte && byte < 127 => put(line, &[byte]),
+        None => put(
+            line,
+            &[
+                b'\\',
+                b'0' + byte / 64,
+                b'0' + byte / 8 % 8,
+                b'0' + byte % 8,
+            ],
+        ),
     }
 }
 
-/// Writes a name with its bytes escaped.
-fn write_escaped(name: &[u8], line: &mut Line) -> io::Result<()>
-    ensures { OnOk result
-        (Appends (Some line.old.items) (Some line.new.items) (flat_map escaped_byte name.now)) }
+/// Puts a name behind a line, its bytes escaped.
+fn put_escaped(name: &[u8], line: &mut Line)
+    requires { length line.old.items + 4 * length name.now ≤ LINE_ROOM }
+    ensures items { line.new.items ≡ line.old.items ++ flat_map escaped_byte name.now }
+    ensures len { length line.new.items ≤ length line.old.items + 4 * length name.now }
 {
     for byte in name {
-        write_byte(*byte, line)?;
+        put_byte(*byte, line);
     }
-    Ok(())
 }
 
-/// Writes a name in this form.
-pub(crate) fn write_name(name: &[u8], form: ListForm, line: &mut Line) -> io::Result<()>
-    ensures { OnOk result
-        (Appends (Some line.old.items) (Some line.new.items) (name_as form name.now)) }
+/// Puts a name behind a line, in this form.
+pub(crate) fn put_name(name: &[u8], form: ListForm, line: &mut Line)
+    requires { length line.old.items + 4 * length name.now ≤ LINE_ROOM }
+    ensures items { line.new.items ≡ line.old.items ++ name_as form name.now }
+    ensures len { length line.new.items ≤ length line.old.items + 4 * length name.now }
 {
     if form.escape {
-        write_escaped(name, line)
+        put_escaped(name, line);
     } else {
-        line.write_all(name)
+        put(line, name);
     }
 }
 
 /// What a line ends with in this form.
 pub(crate) fn line_end(form: ListForm) -> &'static [u8]
-    ensures { result.now ≡ line_end form }
+    ensures text { result.now ≡ line_end form }
+    ensures len { length result.now ≡ 1 }
 {
     if form.null { b"\0" } else { b"\n" }
 }

@@ -3,13 +3,13 @@
 ghost use Rattle.std.specs.Prelude.{◌⊎◌, ◌≡◌, ◌↔◌, OnOk, true};
 ghost use Rattle.std.specs.Io.KnownBytes.{Keeps};
 ghost use Rattle.vol_sector.specs.Disk.{Leaves, counted};
-ghost use Rattle.stream_answers.specs.Hearing.{Moves};
-ghost use Rattle.volume_tasks.specs.Blame.{IsCause, blames_device};
+ghost use Rattle.stream_answers.specs.Hearing.{Hears, Moves, Refuses};
+ghost use Rattle.volume_tasks.specs.Blame.{IsCause, blames_device, blames_stream};
 ghost use Rattle.volume_tasks.specs.Tasks.{ReflectsAny};
 ghost use Rattle.vol_tree.specs.Opened.{GoesOn};
 ghost use Rattle.volume_tasks.specs.Going.{KeepsWithin};
 ghost use Rattle.volume_tasks.specs.Doing.{Does, IsPartOf, Lasts, Performs, IsRaised, version_after};
-ghost use Rattle.volume_tasks.specs.Doing.{PrintsNothing, ReadsNothing, reads_input};
+ghost use Rattle.volume_tasks.specs.Doing.{PrintsNothing, ReadsNothing, prints, reads_input};
 ghost use Rattle.volume_tasks.specs.internal.Working.{IsWorking};
 
 use crate::changing::change_tree;
@@ -63,6 +63,8 @@ fn done_with<D: Device, R: Inlet, W: Outlet>(
     ensures goes_on { GoesOn D.goes_on volume.old volume.new }
     ensures heard { reads_input task.entry ≡ true
         → IsCause (Moves R.gave) R.refused result input.old input.new }
+    ensures printed { prints task.entry ≡ true
+        → Hears (Moves W.took) (Refuses W.took W.refused) (blames_stream result) out.old out.new }
     ensures reads_nothing { ReadsNothing task.entry
         → R.remaining input.new ≡ R.remaining input.old }
     ensures prints_nothing { PrintsNothing task.entry
@@ -95,6 +97,8 @@ pub fn perform<D: Device, R: Inlet, W: Outlet>(
     ensures goes_on { KeepsWithin D.honest D.disk D.size D.goes_on device result.1 }
     ensures heard { reads_input task.entry ≡ true
         → IsCause (Moves R.gave) R.refused result.0 input.old input.new }
+    ensures printed { prints task.entry ≡ true
+        → Hears (Moves W.took) (Refuses W.took W.refused) (blames_stream result.0) out.old out.new }
 {
     match Volume::open(alloc, device) {
         Ok(mut volume) => {

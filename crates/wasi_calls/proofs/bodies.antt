@@ -4,3 +4,4 @@ pub mod AskingCalls
 pub mod BufferCalls
 pub mod PlainCalls
 pub mod VolumeCalls
+pub mod StreamsHeard

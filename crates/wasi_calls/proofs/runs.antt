@@ -6,3 +6,4 @@ pub mod HostLaws
 pub mod Moments
 pub mod ReachedEntries
 pub mod RowsKeep
+pub mod StreamsKeep

@@ -21,5 +21,6 @@ pub use host::settings::{Preopen, Settings};
 pub use host::wasi_host::{HostParts, RefusedHost, WasiHost};
 pub use laws::{
     confined, confined_host, host_calls_are_rows, host_calls_keep_moments, kept, pauses,
+    streams_are_heard,
 };
 pub use streams::{Input, Output, Terminals};

@@ -5,6 +5,7 @@ use Rattle.std.specs.Io.KnownBytes.{Keeps}
 use Rattle.vol_sector.specs.Disk.{Disk}
 use Rattle.wasm_interp.specs.declared.frames.Frame.{Frame}
 use Rattle.wasm_interp.specs.Frames.{frames_of}
+use Rattle.wasi_calls.specs.host.Worlds.{Hearing}
 use Rattle.sandbox_core.specs.declared.report.Report.{Report}
 use Rattle.sandbox_core.specs.declared.tally.Tally.{Tally}
 use Rattle.sandbox_core.specs.Session.{SessionState, limited_to}
@@ -21,14 +22,14 @@ use Rattle.sandbox_command.specs.Status.{EndsWith}
 use Rattle.sandbox_command.specs.internal.Seeds.{prepared_by}
 
 module _ {D R W1 W2 : Type 0} (is_honest : D → Type 0) (disk : D → Disk) (sectors_on failures : D → ℕ) (goes_on : ℕ → D → D → Type 0)
-    (remaining : R → Option (List ℕ)) (out_contents : W1 → Option (List ℕ)) (err_contents : W2 → Option (List ℕ)) where
+    (remaining : R → Option (List ℕ)) (out_contents : W1 → Option (List ℕ)) (err_contents : W2 → Option (List ℕ)) (ear : Hearing R W1 W2) where
   pub record RunsSession (run : Run) (imported : ℕ) (begun : SessionState D (Counted R) (Counted W1) (Counted W2)) (left : Executed D R W1 W2) : Type 0 where
     pub report : Report D (Counted R) (Counted W1) (Counted W2)
     pub tally : Tally
     pub room : List Frame
     pub depth : ℕ
     pub stacks : Option Stacks
-    pub reported : ReportsCharged (counted_devices is_honest disk sectors_on failures goes_on remaining out_contents err_contents)
+    pub reported : ReportsCharged (counted_devices is_honest disk sectors_on failures goes_on remaining out_contents err_contents ear)
         (prepared_by run (limited_to run.limits.values begun)) run.limits.fuel (slice_of run) report tally room depth stacks
     pub stopped : Stopped
     pub is_stopped : left.stopped ≡ Some stopped

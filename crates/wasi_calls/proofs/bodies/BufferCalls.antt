@@ -12,7 +12,7 @@ use Rattle.wasi_calls.specs.declared.host.inner.Inner.{Inner}
 use Rattle.wasi_calls.specs.World.{World}
 use Rattle.wasi_calls.specs.Checks.{Checked, Done, Buffer, Refusals, and_then, buffers, descriptor, has, range}
 use Rattle.wasi_calls.specs.Calls.{row}
-use Rattle.wasi_calls.specs.host.Worlds.{HasFailed, world_of}
+use Rattle.wasi_calls.specs.host.Worlds.{HasFailed, world_of, Hearing}
 use Rattle.wasi_calls.specs.internal.Bodies.{IsSetUp, Serves, state_of}
 use Rattle.wasi_calls.specs.internal.checks.Buffers.{usable, list_of, AreUsable}
 use Rattle.wasi_calls.proofs.checks.AfterBuffers.{has_right, usable_row}
@@ -25,26 +25,26 @@ use Rattle.wasi_calls.proofs.bodies.VolumeCalls.{refused_first}
 use Rattle.wasi_calls.proofs.descriptors.MovingCalls.{serves_roomy}
 
 module _ {D R W1 W2 X : Type 0} (honest : D → Type 0) (disk : D → Disk) (sectors_on failures : D → ℕ) (device_goes_on : ℕ → D → D → Type 0)
-    (remaining : R → Option (List ℕ)) (out_contents : W1 → Option (List ℕ)) (err_contents : W2 → Option (List ℕ))
+    (remaining : R → Option (List ℕ)) (out_contents : W1 → Option (List ℕ)) (err_contents : W2 → Option (List ℕ)) (ear : Hearing R W1 W2)
     (c : HostCall) (used : ℕ) (args : List ℕ) (old : Inner D R W1 W2) (h : IsSetUp remaining old) (m : List ℕ) (q : Request)
     (check : World → Checked X) (rest : World → X → List Buffer → Checked Done)
     (same : (w : World) → row c w m used args ≡ and_then (check w) (λ x. and_then (buffers m q.iovs q.count) (λ bs. and_then (range m q.result_at 4) (λ _. rest w x bs)))) where
   -- a check refuses, whatever the room for the buffers has by then
   refused : (room : _) (e : ℕ) → MOST_BUFFERS ≤ vec_capacity room → (e ≡ 29 → HasFailed c (state_of old)) → ((w : World) → w.table ≡ table_of old.descriptors → row c w m used args ≡ Err e)
-      → Serves honest disk sectors_on failures device_goes_on remaining out_contents err_contents c used args old m (record old { buffers = room }) m e
+      → Serves honest disk sectors_on failures device_goes_on remaining out_contents err_contents ear c used args old m (record old { buffers = room }) m e
   refused room e place io is =
-      serves_roomy honest disk sectors_on failures device_goes_on remaining out_contents err_contents c used args old (record old { buffers = room }) m m e io h place h.piece refl
+      serves_roomy honest disk sectors_on failures device_goes_on remaining out_contents err_contents ear c used args old (record old { buffers = room }) m m e io h place h.piece refl
       (volume_rests honest disk sectors_on failures device_goes_on old.volume) (no_more (table_of old.descriptors))
       (λ known b. let w = world_of (state_of old) b in refused_first w m (λ v. row c v m used args) old.volume e refl (is w refl))
 
   pub refused_check : (e : ℕ) → ((w : World) → check w ≢ Err 29) → ((w : World) → w.table ≡ table_of old.descriptors → check w ≡ Err e)
-      → Serves honest disk sectors_on failures device_goes_on remaining out_contents err_contents c used args old m old m e
+      → Serves honest disk sectors_on failures device_goes_on remaining out_contents err_contents ear c used args old m old m e
   refused_check e never is =
       refused old.buffers e h.buffers (check_not_29 (table_of old.descriptors) check e never is) (λ w table. same w ∙ stops _ _ e (is w table))
 
   module _ (x : X) (passes : (w : World) → w.table ≡ table_of old.descriptors → check w ≡ Ok x) where
     pub refused_buffers : (room : _) (e : ℕ) → MOST_BUFFERS ≤ vec_capacity room → usable m q.iovs q.count q.result_at ≡ Err e
-        → Serves honest disk sectors_on failures device_goes_on remaining out_contents err_contents c used args old m (record old { buffers = room }) m e
+        → Serves honest disk sectors_on failures device_goes_on remaining out_contents err_contents ear c used args old m (record old { buffers = room }) m e
     refused_buffers room e place is =
         refused room e place (not_29 (usable m q.iovs q.count q.result_at) e (usable_never m q.iovs q.count q.result_at) is)
         (λ w table. same w ∙ (goes_on _ _ x (passes w table) ∙ (usable_row m q.iovs q.count q.result_at (rest w x) ∙ stops _ _ e is)))

@@ -10,16 +10,17 @@ use Rattle.wasi_calls.specs.World.{World}
 use Rattle.wasi_calls.specs.Checks.{Checked, Done}
 use Rattle.wasm_store.specs.declared.call.HostCall.{HostCall}
 use Rattle.wasi_calls.specs.Calls.{row, reaches_volume, Answered}
-use Rattle.wasi_calls.specs.host.Worlds.{HostState, HasFailed, StreamsMove, StreamBytes, world_of, VolumeStep}
+use Rattle.wasi_calls.specs.host.Worlds.{HostState, HasFailed, StreamsMove, StreamBytes, world_of, VolumeStep, Hearing}
 use Rattle.wasi_calls.specs.internal.Bodies.{NoMoreEntries, state_of, with_volume, with_table, IsSetUp, Serves}
 use Rattle.std.specs.Io.KnownBytes.{IsAtEnd}
 use Rattle.wasi_calls.specs.host.Settings.{settings_fit}
 use Rattle.wasi_calls.specs.declared.checks.buffers.TheConstants.{MOST_BUFFERS}
 use Rattle.wasi_calls.specs.declared.streams.inputs.TheConstants.{INPUT_PIECE}
 use Rattle.wasi_calls.proofs.bodies.PlainCalls.{nothing, same_after, streams_rest, settings_rest}
+use Rattle.wasi_calls.proofs.bodies.StreamsHeard.{unheard}
 
 module _ {D R W1 W2 : Type 0} (honest : D → Type 0) (disk : D → Disk) (sectors_on failures : D → ℕ) (goes_on : ℕ → D → D → Type 0)
-    (remaining : R → Option (List ℕ)) (out_contents : W1 → Option (List ℕ)) (err_contents : W2 → Option (List ℕ)) where
+    (remaining : R → Option (List ℕ)) (out_contents : W1 → Option (List ℕ)) (err_contents : W2 → Option (List ℕ)) (ear : Hearing R W1 W2) where
   pub moved_set_up : (old : Inner D R W1 W2) (v : Opened D) (d : Descriptors) → IsSetUp remaining old → VolumeStep honest disk sectors_on failures goes_on old.volume v
       → NoMoreEntries (table_of old.descriptors) (table_of d) → IsSetUp remaining (record old { volume = v; descriptors = d })
   moved_set_up old v d h step entries = record {
@@ -40,7 +41,7 @@ module _ {D R W1 W2 : Type 0} (honest : D → Type 0) (disk : D → Disk) (secto
       → ((w : World) → row c w m used args ≡ r w)
       → ((IsTrue (reaches_volume c (table_of old.descriptors) args) → honest old.volume.device) → (b : StreamBytes)
       → Answered r (world_of (state_of old) b) m (with_table (table_of d) (with_volume v (world_of (state_of old) b))) m' e)
-      → Serves honest disk sectors_on failures goes_on remaining out_contents err_contents c used args old m (record old { volume = v; descriptors = d }) m' e
+      → Serves honest disk sectors_on failures goes_on remaining out_contents err_contents ear c used args old m (record old { volume = v; descriptors = d }) m' e
   serves_moved c used args r old v d m m' e io h step entries same answers =
       let new : Inner D R W1 W2 = record old { volume = v; descriptors = d } in
       let same_run : (λ (w : World). row c w m used args) ≡ r = λ i w. same w i in
@@ -48,13 +49,14 @@ module _ {D R W1 W2 : Type 0} (honest : D → Type 0) (disk : D → Disk) (secto
         set_up = moved_set_up old v d h step entries;
         row = λ known. (
           nothing,
-          streams_rest honest disk sectors_on failures goes_on remaining out_contents err_contents old v d old.settings old.generator,
+          streams_rest honest disk sectors_on failures goes_on remaining out_contents err_contents ear old v d old.settings old.generator,
           λ others end. subst (λ (b' : StreamBytes). Answered (λ w. row c w m used args) (world_of (state_of old) others) m (world_of (state_of new) b') m' e) (sym (same_after others))
               (subst (λ (x : World → Checked Done). Answered x (world_of (state_of old) others) m (world_of (state_of new) others) m' e) (sym same_run) (answers known others)),
         );
         volume = step;
         settings = refl;
         io = io;
+        heard = unheard ear (state_of old) (state_of new) refl refl refl;
       }
 
   -- A call that changes the volume and positions, and leaves what it likes in the room for its bytes.
@@ -65,7 +67,7 @@ module _ {D R W1 W2 : Type 0} (honest : D → Type 0) (disk : D → Disk) (secto
       → VolumeStep honest disk sectors_on failures goes_on old.volume new.volume → NoMoreEntries (table_of old.descriptors) (table_of new.descriptors)
       → ((IsTrue (reaches_volume c (table_of old.descriptors) args) → honest old.volume.device) → (b : StreamBytes)
       → Answered (λ w. row c w m used args) (world_of (state_of old) b) m (with_table (table_of new.descriptors) (with_volume new.volume (world_of (state_of old) b))) m' e)
-      → Serves honest disk sectors_on failures goes_on remaining out_contents err_contents c used args old m new m' e
+      → Serves honest disk sectors_on failures goes_on remaining out_contents err_contents ear c used args old m new m' e
   serves_roomy c used args old new m m' e io h buffers piece state step entries answers =
       let moved = moved_set_up old new.volume new.descriptors h step entries in
       record {
@@ -79,11 +81,12 @@ module _ {D R W1 W2 : Type 0} (honest : D → Type 0) (disk : D → Disk) (secto
         row = λ known. (
           nothing,
           subst (λ (s : HostState D R W1 W2). StreamsMove remaining out_contents err_contents (state_of old) s nothing) (sym state)
-              (streams_rest honest disk sectors_on failures goes_on remaining out_contents err_contents old new.volume new.descriptors old.settings old.generator),
+              (streams_rest honest disk sectors_on failures goes_on remaining out_contents err_contents ear old new.volume new.descriptors old.settings old.generator),
           λ others end. subst (λ (b' : StreamBytes). Answered (λ w. row c w m used args) (world_of (state_of old) others) m (world_of (state_of new) b') m' e) (sym (same_after others))
               (subst (λ (s : HostState D R W1 W2). Answered (λ w. row c w m used args) (world_of (state_of old) others) m (world_of s others) m' e) (sym state) (answers known others)),
         );
         volume = step;
         settings = settings_rest old.settings new.settings (ap (λ (s : HostState D R W1 W2). s.settings) state);
         io = io;
+        heard = unheard ear (state_of old) (state_of new) (ap (λ (s : HostState D R W1 W2). s.input) state) (ap (λ (s : HostState D R W1 W2). s.out) state) (ap (λ (s : HostState D R W1 W2). s.err) state);
       }

@@ -11,11 +11,12 @@ use Rattle.wasi_fd.specs.Table.{table_of}
 use Rattle.wasi_calls.specs.declared.host.inner.Inner.{Inner}
 use Rattle.wasi_calls.specs.World.{World}
 use Rattle.wasi_calls.specs.Calls.{row, word, Answered, Calls}
-use Rattle.wasi_calls.specs.host.Worlds.{StreamBytes, before_moving, after_moving, world_of, HostCalls}
+use Rattle.wasi_calls.specs.host.Worlds.{StreamBytes, before_moving, after_moving, world_of, HostCalls, Hearing}
 use Rattle.wasi_calls.specs.laws.Moments.{IsSynced}
 use Rattle.wasi_calls.specs.internal.Bodies.{state_of, IsSetUp, IsReadyForCalls, KnowsEntries, Serves}
 use Rattle.wasi_calls.proofs.bodies.PlainCalls.{nothing, same_after, streams_rest, volume_rests}
 use Rattle.wasi_calls.proofs.runs.EntriesStay.{still_there, few_open}
+use Rattle.wasi_calls.proofs.bodies.StreamsHeard.{unheard}
 
 -- a call that doesn't end the guest means its row
 by_row_of : (c : HostCall) (w : World) (m : List ℕ) (used : ℕ) (args : List ℕ) (w' : World) (m' : List ℕ) (e : Errno) (answer : Answer) → c ≢ call.ProcExit → answer ≡ value e
@@ -31,11 +32,11 @@ value_exit : (e : Errno) (status : ℕ) → value e ≡ exit status → ⊥
 value_exit e status is = cc
 
 module _ {D R W1 W2 : Type 0} (honest : D → Type 0) (disk : D → Disk) (sectors_on failures : D → ℕ) (goes_on : ℕ → D → D → Type 0)
-    (remaining : R → Option (List ℕ)) (out_contents : W1 → Option (List ℕ)) (err_contents : W2 → Option (List ℕ)) where
+    (remaining : R → Option (List ℕ)) (out_contents : W1 → Option (List ℕ)) (err_contents : W2 → Option (List ℕ)) (ear : Hearing R W1 W2) where
   pub called : (c : HostCall) (old new : Inner D R W1 W2) (m m' : List ℕ) (used : ℕ) (args : List ℕ) (e : Errno) (answer : Answer) → c ≢ call.ProcExit → answer ≡ value e
-      → Serves honest disk sectors_on failures goes_on remaining out_contents err_contents c used args old m new m' e.0
+      → Serves honest disk sectors_on failures goes_on remaining out_contents err_contents ear c used args old m new m' e.0
       → (honest old.volume.device → IsSynced c e.0 (disk new.volume.device) new.volume.numbers new.volume.tree)
-      → HostCalls honest disk sectors_on failures goes_on remaining out_contents err_contents (state_of old) m used c args (state_of new) m' answer
+      → HostCalls honest disk sectors_on failures goes_on remaining out_contents err_contents ear (state_of old) m used c args (state_of new) m' answer
   unfolding number_in
   called c old new m m' used args e answer goes_on is serves synced = record {
     row = λ h.
@@ -50,25 +51,27 @@ module _ {D R W1 W2 : Type 0} (honest : D → Type 0) (disk : D → Disk) (secto
         let same : e.0 ≡ other.0 = ap number_in (sym is ∙ told) in
         subst (λ (n : ℕ). IsSynced c n (disk new.volume.device) new.volume.numbers new.volume.tree) same (synced h);
     exits = λ status told. absurd (value_exit e status (sym is ∙ told));
+    heard = serves.heard;
   }
 
   -- the guest ends, and the host stays
   pub ends : (old : Inner D R W1 W2) (m : List ℕ) (used : ℕ) (args : List ℕ) (status : ℕ) → IsSetUp remaining old → status ≡ word args 0
-      → HostCalls honest disk sectors_on failures goes_on remaining out_contents err_contents (state_of old) m used call.ProcExit args (state_of old) m (exit status)
+      → HostCalls honest disk sectors_on failures goes_on remaining out_contents err_contents ear (state_of old) m used call.ProcExit args (state_of old) m (exit status)
   ends old m used args status set_up is =
       record {
-        row = λ h. (nothing, streams_rest honest disk sectors_on failures goes_on remaining out_contents err_contents old old.volume old.descriptors old.settings old.generator, λ others last. (ap exit is, ap (λ (b : StreamBytes). world_of (state_of old) b) (same_after others), refl));
+        row = λ h. (nothing, streams_rest honest disk sectors_on failures goes_on remaining out_contents err_contents ear old old.volume old.descriptors old.settings old.generator, λ others last. (ap exit is, ap (λ (b : StreamBytes). world_of (state_of old) b) (same_after others), refl));
         volume = volume_rests honest disk sectors_on failures goes_on old.volume;
         settings = refl;
         io = λ e told. absurd (value_exit e status (sym told));
         synced = λ h e told. absurd (value_exit e status (sym told));
         exits = λ other told. refl;
+        heard = unheard ear (state_of old) (state_of old) refl refl refl;
       }
 
   -- after a call the host is ready for the next
   pub still_ready : (c : HostCall) (old new : Inner D R W1 W2) (m m' : List ℕ) (used : ℕ) (args : List ℕ) (errno : ℕ) → (honest old.volume.device → IsTree old.volume.tree)
       → KnowsEntries honest old.volume (table_of old.descriptors)
-      → Serves honest disk sectors_on failures goes_on remaining out_contents err_contents c used args old m new m' errno → IsReadyForCalls honest remaining new
+      → Serves honest disk sectors_on failures goes_on remaining out_contents err_contents ear c used args old m new m' errno → IsReadyForCalls honest remaining new
   still_ready c old new m m' used args errno tree known serves = record {
     set_up = serves.set_up;
     known = record {

@@ -5,13 +5,13 @@ use Rattle.vol_tree.specs.Opened.{Opened}
 use Rattle.wasi_fd.specs.Table.{table_of}
 use Rattle.wasi_calls.specs.World.{World}
 use Rattle.wasi_calls.specs.laws.Confined.{IsHostOf}
-use Rattle.wasi_calls.specs.host.Worlds.{HostState, Shows, before_moving, after_moving, VolumeStep, HostCalls}
+use Rattle.wasi_calls.specs.host.Worlds.{HostState, Shows, before_moving, after_moving, VolumeStep, HostCalls, Hearing}
 use Rattle.wasi_calls.proofs.bodies.PlainCalls.{nothing}
 use Rattle.wasi_calls.specs.laws.Moments.{IsTurn, CallsKeepMoments}
 
 module _ {D R W1 W2 : Type 0} (honest : D → Type 0) (disk : D → Disk) (sectors_on failures : D → ℕ) (goes_on : ℕ → D → D → Type 0)
-    (remaining : R → Option (List ℕ)) (out_contents : W1 → Option (List ℕ)) (err_contents : W2 → Option (List ℕ)) where
-  pub are_rows : IsHostOf {H = HostState D R W1 W2} (HostCalls honest disk sectors_on failures goes_on remaining out_contents err_contents) Shows (λ h. honest h.volume.device)
+    (remaining : R → Option (List ℕ)) (out_contents : W1 → Option (List ℕ)) (err_contents : W2 → Option (List ℕ)) (ear : Hearing R W1 W2) where
+  pub are_rows : IsHostOf {H = HostState D R W1 W2} (HostCalls honest disk sectors_on failures goes_on remaining out_contents err_contents ear) Shows (λ h. honest h.volume.device)
   are_rows = record {
     tree = λ h v w is also.
         let first : v.tree ≡ h.volume.tree = ap (λ (w : World). w.tree) is.1 in
@@ -46,7 +46,7 @@ module _ {D R W1 W2 : Type 0} (honest : D → Type 0) (disk : D → Disk) (secto
   pub keep_moments : ((d : D) (t : ℕ) (image : Image) → honest d → t ≤ (disk d).operation_count → (disk d).may_leave image → (disk d).left_since t image)
       → ((d : D) (image : Image) → honest d → (disk d).left_since (disk d).operation_count image → (disk d).may_leave image)
       → CallsKeepMoments {H = HostState D R W1 W2} (λ h. disk h.volume.device) (λ h. h.volume.numbers) (λ h. h.volume.tree) (λ h. honest h.volume.device)
-      (HostCalls honest disk sectors_on failures goes_on remaining out_contents err_contents)
+      (HostCalls honest disk sectors_on failures goes_on remaining out_contents err_contents ear)
   keep_moments now only = record {
     turn = λ h h' m m' used x args e a is_honest. since h.volume h'.volume a.volume is_honest;
     synced = λ h h' m m' used x args e a is_honest. a.synced is_honest e refl;

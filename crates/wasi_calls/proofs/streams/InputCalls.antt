@@ -20,7 +20,7 @@ use Rattle.wasi_calls.specs.World.{World, unread, reads_short, most_read, least_
 use Rattle.wasi_calls.specs.Checks.{Checked, Done, Buffer, put, total, scattered}
 use Rattle.wasm_store.specs.declared.call.HostCall.{HostCall}
 use Rattle.wasi_calls.specs.Calls.{row, Answered, by_row, input_fails, input_left, filled}
-use Rattle.wasi_calls.specs.host.Worlds.{HostState, StreamBytes, HasFailed, LeavesNone, StreamsMove, before_moving, after_moving, world_of, VolumeStep}
+use Rattle.wasi_calls.specs.host.Worlds.{HostState, StreamBytes, HasFailed, LeavesNone, StreamsMove, before_moving, after_moving, world_of, VolumeStep, Hearing, HearsInput, HearsStreams}
 use Rattle.wasi_calls.specs.internal.Bodies.{state_of, errno_of, IsSetUp, Serves}
 use Rattle.wasi_calls.specs.internal.streams.Inputs.{Broke, IsRead, read_to}
 use Rattle.wasi_calls.proofs.checks.Chains.{guard_passes, guard_fails, goes_on, stops}
@@ -33,6 +33,7 @@ use Rattle.wasi_calls.specs.declared.checks.buffers.TheConstants.{MOST_BUFFERS}
 use Rattle.wasi_calls.specs.declared.streams.inputs.TheConstants.{INPUT_PIECE}
 use Rattle.wasi_calls.proofs.streams.ReaderBytes.{ended_or, none_long}
 use Rattle.wasi_calls.proofs.streams.ShortReads.{piece_of, no_piece, later, reads_so_many, reads_no_more, reads_before_failure}
+use Rattle.wasi_calls.proofs.bodies.StreamsHeard.{output_unheard}
 
 -- ---- the bytes before a read and after it
 
@@ -95,13 +96,13 @@ unread_ended : (w : World) → w.input_ended ≡ true → unread w ≡ []
 unread_ended w is = ap (λ (b : Bool). cond b [] w.input) is
 
 module _ {D R W1 W2 : Type 0} (honest : D → Type 0) (disk : D → Disk) (sectors_on failures : D → ℕ) (device_goes_on : ℕ → D → D → Type 0)
-    (remaining : R → Option (List ℕ)) (out_contents : W1 → Option (List ℕ)) (err_contents : W2 → Option (List ℕ))
+    (remaining : R → Option (List ℕ)) (out_contents : W1 → Option (List ℕ)) (err_contents : W2 → Option (List ℕ)) (ear : Hearing R W1 W2)
     (c : HostCall) (used : ℕ) (args : List ℕ) (old new : Inner D R W1 W2) (m m' : List ℕ) (fd : ℕ) (bs : List Buffer) (result : ℕ)
     (h : IsSetUp remaining old) (buffers : MOST_BUFFERS ≤ vec_capacity new.buffers) (piece : INPUT_PIECE ≤ vec_capacity new.piece)
     (end : new.input.ended ≡ true → IsAtEnd (remaining new.input.reader))
     (state : state_of new ≡ state_of (record old { input = new.input }))
     (same : (v : World) → v.table ≡ table_of old.descriptors → row c v m used args ≡ read_to v fd (Stream Input) bs result)
-    (cause : new.input.failed ≡ true → HasFailed c (state_of new)) where
+    (cause : new.input.failed ≡ true → HasFailed c (state_of new)) (hears : HearsInput ear.input old.input new.input) where
   abbrev in_run : World → Checked Done
   in_run w = row c w m used args
 
@@ -120,13 +121,16 @@ module _ {D R W1 W2 : Type 0} (honest : D → Type 0) (disk : D → Disk) (secto
   in_rests : VolumeStep honest disk sectors_on failures device_goes_on old.volume new.volume
   in_rests = subst (λ (s : HostState D R W1 W2). VolumeStep honest disk sectors_on failures device_goes_on old.volume s.volume) (sym state) (volume_rests honest disk sectors_on failures device_goes_on old.volume)
 
+  in_heard : HearsStreams ear (state_of old) (state_of new)
+  in_heard = subst (λ (t : HostState D R W1 W2). HearsStreams ear (state_of old) t) (sym state) (record { input = hears; out = output_unheard ear.out old.out; err = output_unheard ear.err old.err })
+
   in_moves : (bytes pieces : List ℕ) → Consumes (remaining old.input.reader) (remaining new.input.reader) bytes → (old.input.ended ≡ true → (bytes ≡ []) × (new.input.ended ≡ true))
       → (old.interactive ≡ None → pieces ≡ []) → StreamsMove remaining out_contents err_contents (state_of old) (state_of new) (from_in bytes pieces)
   in_moves bytes pieces consumed ended none =
       subst (λ (t : HostState D R W1 W2). StreamsMove remaining out_contents err_contents (state_of old) t (from_in bytes pieces)) (sym state)
       (record { input = consumed; output = Appends-nil (out_contents old.out.writer); errors = Appends-nil (err_contents old.err.writer); ended = ended; end = λ is. inr (leaves_none _ _ bytes consumed (end is)); pieces = λ is. (none is, is) })
 
-  idle_in : old.input.failed ≡ true → new.input ≡ old.input → m' ≡ m → Serves honest disk sectors_on failures device_goes_on remaining out_contents err_contents c used args old m new m' 29
+  idle_in : old.input.failed ≡ true → new.input ≡ old.input → m' ≡ m → Serves honest disk sectors_on failures device_goes_on remaining out_contents err_contents ear c used args old m new m' 29
   idle_in failed none bytes =
       let still : state_of new ≡ state_of old = state ∙ λ i. state_of (record old { input = none i }) in
       record {
@@ -134,7 +138,7 @@ module _ {D R W1 W2 : Type 0} (honest : D → Type 0) (disk : D → Disk) (secto
         row = λ _. (
           nothing,
           subst (λ (s : HostState D R W1 W2). StreamsMove remaining out_contents err_contents (state_of old) s nothing) (sym still)
-              (streams_rest honest disk sectors_on failures device_goes_on remaining out_contents err_contents old old.volume old.descriptors old.settings old.generator),
+              (streams_rest honest disk sectors_on failures device_goes_on remaining out_contents err_contents ear old old.volume old.descriptors old.settings old.generator),
           λ others end.
               let w = world_of (state_of old) others in
               by_row (answers_refused (in_run w) w m (world_of (state_of new) (after_moving nothing others)) m' 29
@@ -142,13 +146,14 @@ module _ {D R W1 W2 : Type 0} (honest : D → Type 0) (disk : D → Disk) (secto
         );
         volume = in_rests;
         settings = in_settings;
+        heard = in_heard;
         io = λ _. cause (ap (λ (i : InputValue R). i.failed) none ∙ failed);
       }
 
   abbrev short_in : Bool
   short_in = is_some old.interactive
 
-  came_in : IsRead short_in remaining old.input new.input m bs result m' → Serves honest disk sectors_on failures device_goes_on remaining out_contents err_contents c used args old m new m' 0
+  came_in : IsRead short_in remaining old.input new.input m bs result m' → Serves honest disk sectors_on failures device_goes_on remaining out_contents err_contents ear c used args old m new m' 0
   came_in r =
       let bytes : List ℕ = r.dealt.bytes in
       let none = λ (is : old.input.ended ≡ true). none_long bytes (omega (arith, r.dealt.many, r.none is)) in
@@ -189,11 +194,12 @@ module _ {D R W1 W2 : Type 0} (honest : D → Type 0) (disk : D → Disk) (secto
         );
         volume = in_rests;
         settings = in_settings;
+        heard = in_heard;
         io = no_29_at_0;
       }
 
   broke_in : old.input.failed ≡ false → new.input.failed ≡ true → old.input.ended ≡ false → new.input.ended ≡ false
-      → Broke short_in (remaining old.input.reader) (remaining new.input.reader) m bs m' → Serves honest disk sectors_on failures device_goes_on remaining out_contents err_contents c used args old m new m' 29
+      → Broke short_in (remaining old.input.reader) (remaining new.input.reader) m bs m' → Serves honest disk sectors_on failures device_goes_on remaining out_contents err_contents ear c used args old m new m' 29
   broke_in before after goes_on still some =
       let dealt = some.some.dealt in
       let bytes : List ℕ = dealt.bytes in
@@ -235,15 +241,16 @@ module _ {D R W1 W2 : Type 0} (honest : D → Type 0) (disk : D → Disk) (secto
         );
         volume = in_rests;
         settings = in_settings;
+        heard = in_heard;
         io = λ _. cause after;
       }
 
   pub served_in : (r : Result (Unit {0}) Errno) → (old.input.failed ≡ true → (new.input ≡ old.input) × (m' ≡ m)) → OnOk r (IsRead short_in remaining old.input new.input m bs result m')
       → OnErr r (old.input.failed ≡ false → (new.input.failed ≡ true) × (old.input.ended ≡ false) × (new.input.ended ≡ false) × Broke short_in (remaining old.input.reader) (remaining new.input.reader) m bs m')
-      → IfErr r (λ e. e.0 ≡ 29) → Serves honest disk sectors_on failures device_goes_on remaining out_contents err_contents c used args old m new m' (errno_of r)
+      → IfErr r (λ e. e.0 ≡ 29) → Serves honest disk sectors_on failures device_goes_on remaining out_contents err_contents ear c used args old m new m' (errno_of r)
   served_in (Ok u) idle came broke answer = came_in came
   served_in (Err e) idle came broke answer =
-      subst (λ (n : ℕ). Serves honest disk sectors_on failures device_goes_on remaining out_contents err_contents c used args old m new m' n) (sym answer)
+      subst (λ (n : ℕ). Serves honest disk sectors_on failures device_goes_on remaining out_contents err_contents ear c used args old m new m' n) (sym answer)
       (elim (ended_or old.input.failed) [
         | inl is ↦ let none = idle is in idle_in is none.0 none.1
         | inr works ↦ let b = broke works in broke_in works b.0 b.1 b.2 b.3

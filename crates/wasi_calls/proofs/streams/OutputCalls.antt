@@ -20,7 +20,7 @@ use Rattle.wasi_calls.specs.World.{World, has_stream_failed, with_stream_failed,
 use Rattle.wasi_calls.specs.Checks.{Checked, Done, with_result}
 use Rattle.wasm_store.specs.declared.call.HostCall.{HostCall}
 use Rattle.wasi_calls.specs.Calls.{row, Answered, OutputFails, by_row, output_fails, errors_fail, output_of, output_after, with_all}
-use Rattle.wasi_calls.specs.host.Worlds.{HostState, StreamBytes, HasFailed, StreamsMove, after_moving, world_of, VolumeStep}
+use Rattle.wasi_calls.specs.host.Worlds.{HostState, StreamBytes, HasFailed, StreamsMove, after_moving, world_of, VolumeStep, Hearing, HearsStreams}
 use Rattle.wasi_calls.specs.internal.Bodies.{state_of, errno_of, IsSetUp, Serves}
 use Rattle.wasi_calls.specs.internal.files.Writing.{written_to}
 use Rattle.wasi_calls.specs.internal.streams.Outputs.{AppendsSome}
@@ -92,13 +92,13 @@ module _ {D R W1 W2 : Type 0} (remaining : R → Option (List ℕ)) (out_content
   }
 
 module _ {D R W1 W2 W : Type 0} (honest : D → Type 0) (disk : D → Disk) (sectors_on failures : D → ℕ) (device_goes_on : ℕ → D → D → Type 0)
-    (remaining : R → Option (List ℕ)) (out_contents : W1 → Option (List ℕ)) (err_contents : W2 → Option (List ℕ)) (contents : W → Option (List ℕ))
+    (remaining : R → Option (List ℕ)) (out_contents : W1 → Option (List ℕ)) (err_contents : W2 → Option (List ℕ)) (ear : Hearing R W1 W2) (contents : W → Option (List ℕ))
     (c : HostCall) (used : ℕ) (args : List ℕ) (old new : Inner D R W1 W2) (m m' : List ℕ) (fd : ℕ) (all : List ℕ) (result : ℕ)
     (h : IsSetUp remaining old) (buffers : MOST_BUFFERS ≤ vec_capacity new.buffers) (piece : INPUT_PIECE ≤ vec_capacity new.piece)
     (state : state_of new ≡ state_of (record old { out = new.out; err = new.err }))
     (s : StreamValue) (before after : OutputValue W) (takes : Takes remaining out_contents err_contents contents s (state_of old) (state_of new) before after)
     (same : (v : World) → v.table ≡ table_of old.descriptors → row c v m used args ≡ written_to v fd (Stream s) all result)
-    (cause : after.failed ≡ true → HasFailed c (state_of new)) where
+    (cause : after.failed ≡ true → HasFailed c (state_of new)) (hears : HearsStreams ear (state_of old) (state_of new)) where
   abbrev run : World → Checked Done
   run w = row c w m used args
 
@@ -115,21 +115,22 @@ module _ {D R W1 W2 W : Type 0} (honest : D → Type 0) (disk : D → Disk) (sec
   leaves : (out err : List ℕ) (e : ℕ) → (e ≡ 29 → HasFailed c (state_of new))
       → StreamsMove remaining out_contents err_contents (state_of old) (state_of new) (record { input = []; pieces = []; output = out; errors = err })
       → ((b : StreamBytes) → Answered run (world_of (state_of old) b) m (world_of (state_of new) (after_moving (record { input = []; pieces = []; output = out; errors = err }) b)) m' e)
-      → Serves honest disk sectors_on failures device_goes_on remaining out_contents err_contents c used args old m new m' e
+      → Serves honest disk sectors_on failures device_goes_on remaining out_contents err_contents ear c used args old m new m' e
   leaves out err e io moves answered = record {
     set_up = set_up;
     row = λ _. (record { input = []; pieces = []; output = out; errors = err }, moves, λ b end. answered b);
     volume = subst (λ (s : HostState D R W1 W2). VolumeStep honest disk sectors_on failures device_goes_on old.volume s.volume) (sym state) (volume_rests honest disk sectors_on failures device_goes_on old.volume);
     settings = settings_rest old.settings new.settings (ap (λ (s : HostState D R W1 W2). s.settings) state);
     io = io;
+    heard = hears;
   }
 
-  idle : before.failed ≡ true → after ≡ before → m' ≡ m → Serves honest disk sectors_on failures device_goes_on remaining out_contents err_contents c used args old m new m' 29
+  idle : before.failed ≡ true → after ≡ before → m' ≡ m → Serves honest disk sectors_on failures device_goes_on remaining out_contents err_contents ear c used args old m new m' 29
   idle failed none bytes =
       let still : state_of new ≡ state_of old = takes.rests none in
       leaves [] [] 29 (λ _. cause (ap (λ (o : OutputValue W). o.failed) none ∙ failed))
       (subst (λ (s : HostState D R W1 W2). StreamsMove remaining out_contents err_contents (state_of old) s nothing) (sym still)
-      (streams_rest honest disk sectors_on failures device_goes_on remaining out_contents err_contents old old.volume old.descriptors old.settings old.generator))
+      (streams_rest honest disk sectors_on failures device_goes_on remaining out_contents err_contents ear old old.volume old.descriptors old.settings old.generator))
       (λ b.
       let w = world_of (state_of old) b in
       by_row (answers_refused (run w) w m (world_of (state_of new) (after_moving nothing b)) m' 29
@@ -144,7 +145,7 @@ module _ {D R W1 W2 W : Type 0} (honest : D → Type 0) (disk : D → Disk) (sec
       same w refl ∙ goes_on _ _ (with_output w s all, length all) (goes_on _ _ tt (guard_passes _ 29 (ap not (takes.mark b ∙ works))))
 
   took : before.failed ≡ false → after.failed ≡ false → Appends (contents before.writer) (contents after.writer) all → m' ≡ written m result (little_bytes 4 (length all))
-      → Serves honest disk sectors_on failures device_goes_on remaining out_contents err_contents c used args old m new m' 0
+      → Serves honest disk sectors_on failures device_goes_on remaining out_contents err_contents ear c used args old m new m' 0
   took works working more bytes =
       leaves (takes.out all) (takes.err all) 0 no_29_at_0 (takes.moves all more)
       (λ b.
@@ -152,7 +153,7 @@ module _ {D R W1 W2 W : Type 0} (honest : D → Type 0) (disk : D → Disk) (sec
       by_row (answers_done (run w) w m _ m' (done w) (writes b works) (takes.done b all (working ∙ sym works)) bytes))
 
   broke : before.failed ≡ false → after.failed ≡ true → AppendsSome (contents before.writer) (contents after.writer) all → m' ≡ m
-      → Serves honest disk sectors_on failures device_goes_on remaining out_contents err_contents c used args old m new m' 29
+      → Serves honest disk sectors_on failures device_goes_on remaining out_contents err_contents ear c used args old m new m' 29
   broke works failed some bytes =
       let taken = some.taken in
       leaves (takes.out taken) (takes.err taken) 29 (λ _. cause failed) (takes.moves taken some.appended)
@@ -175,10 +176,10 @@ module _ {D R W1 W2 W : Type 0} (honest : D → Type 0) (disk : D → Disk) (sec
   pub served : (r : Result (Unit {0}) Errno) → (before.failed ≡ true → after ≡ before)
       → OnOk r ((before.failed ≡ false) × (after.failed ≡ false) × Appends (contents before.writer) (contents after.writer) all × (m' ≡ written m result (little_bytes 4 (length all))))
       → OnErr r (before.failed ≡ false → (after.failed ≡ true) × AppendsSome (contents before.writer) (contents after.writer) all)
-      → IfErr r (λ e. (e.0 ≡ 29) × (m' ≡ m)) → Serves honest disk sectors_on failures device_goes_on remaining out_contents err_contents c used args old m new m' (errno_of r)
+      → IfErr r (λ e. (e.0 ≡ 29) × (m' ≡ m)) → Serves honest disk sectors_on failures device_goes_on remaining out_contents err_contents ear c used args old m new m' (errno_of r)
   served (Ok u) rests takes_all breaks answer = took takes_all.0 takes_all.1 takes_all.2 takes_all.3
   served (Err e) rests takes_all breaks answer =
-      subst (λ (n : ℕ). Serves honest disk sectors_on failures device_goes_on remaining out_contents err_contents c used args old m new m' n) (sym answer.0)
+      subst (λ (n : ℕ). Serves honest disk sectors_on failures device_goes_on remaining out_contents err_contents ear c used args old m new m' n) (sym answer.0)
       (elim (either before.failed) [
         | inl is ↦ idle is (rests is) answer.1
         | inr works ↦ let b = breaks works in broke works b.0 b.1 answer.1

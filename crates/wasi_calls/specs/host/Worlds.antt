@@ -1,7 +1,8 @@
 -- A host over a volume and streams: what callers see of it, its world for given bytes of the streams, and what its
 -- calls say. A stream needn't tell its bytes, so `row` of `HostCalls` names those that moved, whatever the others are.
-use Rattle.std.specs.Prelude.{◌≡◌, ◌⊎◌, ◌||◌, ℕ, Bool, IsTrue, true, List, [], ◌++◌, Option, Some, None}
+use Rattle.std.specs.Prelude.{◌≡◌, ◌⊎◌, ◌||◌, ℕ, Bool, IsTrue, true, false, List, [], ◌++◌, Option, Some, None}
 use Rattle.std.specs.Io.KnownBytes.{Consumes, Appends}
+use Rattle.stream_answers.specs.Hearing.{Hears, Moves, Refuses}
 use Rattle.vol_sector.specs.Disk.{Disk, Leaves}
 use Rattle.vol_tree.specs.Opened.{Opened, Keeps, GoesOn, ReflectsOr, geometry}
 use Rattle.rand_chacha.specs.ChaCha.{ChaCha}
@@ -108,6 +109,42 @@ module _ {D R W1 W2 : Type 0} (remaining : R → Option (List ℕ)) (out_content
     pub end : new.input.ended ≡ true → (old.input.ended ≡ true) ⊎ LeavesNone (remaining old.input.reader) (remaining new.input.reader)
     pub pieces : old.interactive ≡ None → (moved.pieces ≡ []) × (new.interactive ≡ None)
 
+-- What is told of the calls on a stream, as the traits `Inlet` and `Outlet` tell it: which bytes one moved between two states, and
+-- between which it was refused.
+pub record StreamCalls (S : Type 0) : Type 1 where
+  pub moved : S → List ℕ → S → Type 0
+  pub refused : S → S → Type 0
+
+-- of the three streams
+pub record Hearing (R W1 W2 : Type 0) : Type 1 where
+  pub input : StreamCalls R
+  pub out : StreamCalls W1
+  pub err : StreamCalls W2
+
+abbrev pub hearing : {R W1 W2 : Type 0} → (R → List ℕ → R → Type 0) → (R → R → Type 0)
+    → (W1 → List ℕ → W1 → Type 0) → (W1 → W1 → Type 0) → (W2 → List ℕ → W2 → Type 0) → (W2 → W2 → Type 0) → Hearing R W1 W2
+hearing gave refused out_took out_refused err_took err_refused = record {
+  input = record { moved = gave; refused = refused };
+  out = record { moved = out_took; refused = out_refused };
+  err = record { moved = err_took; refused = err_refused };
+}
+
+-- A stream that had failed isn't asked. Else its calls went well, or the last of them was refused, and then it is marked as failed.
+abbrev pub HearsInput : {R : Type 0} → StreamCalls R → Input R → Input R → Type 0
+HearsInput calls old new = (old.failed ≡ true → new ≡ old)
+    × (old.failed ≡ false → Hears (Moves calls.moved) calls.refused new.failed old.reader new.reader)
+
+-- A writer that takes nothing of what it is offered has refused, too.
+abbrev pub HearsOutput : {W : Type 0} → StreamCalls W → Output W → Output W → Type 0
+HearsOutput calls old new = (old.failed ≡ true → new ≡ old)
+    × (old.failed ≡ false → Hears (Moves calls.moved) (Refuses calls.moved calls.refused) new.failed old.writer new.writer)
+
+-- so does each of the three
+pub record HearsStreams {D R W1 W2 : Type 0} (ear : Hearing R W1 W2) (old new : HostState D R W1 W2) : Type 0 where
+  pub input : HearsInput ear.input old.input new.input
+  pub out : HearsOutput ear.out old.out new.out
+  pub err : HearsOutput ear.err old.err new.err
+
 module _ {D : Type 0} (honest : D → Type 0) (disk : D → Disk) (sectors_on failures : D → ℕ) (goes_on : ℕ → D → D → Type 0) where
   -- What a call leaves of the volume. On any device it fails by one operation that failed, and after that none is done; and
   -- the device goes on.
@@ -119,7 +156,7 @@ module _ {D : Type 0} (honest : D → Type 0) (disk : D → Disk) (sectors_on fa
     pub goes : GoesOn goes_on old new
 
 module _ {D R W1 W2 : Type 0} (honest : D → Type 0) (disk : D → Disk) (sectors_on failures : D → ℕ) (goes_on : ℕ → D → D → Type 0)
-    (remaining : R → Option (List ℕ)) (out_contents : W1 → Option (List ℕ)) (err_contents : W2 → Option (List ℕ)) where
+    (remaining : R → Option (List ℕ)) (out_contents : W1 → Option (List ℕ)) (err_contents : W2 → Option (List ℕ)) (ear : Hearing R W1 W2) where
   -- What a call of the host means: that call of a world that the host shows, whatever other bytes its streams have; where
   -- the device keeps its model, or the call reaches no volume. On any device it takes of the settings random bytes alone,
   -- and 29 has its cause.
@@ -133,3 +170,4 @@ module _ {D R W1 W2 : Type 0} (honest : D → Type 0) (disk : D → Disk) (secto
     pub io : (e : Errno) → answer ≡ value e → e.0 ≡ 29 → HasFailed call new
     pub synced : honest old.volume.device → (e : Errno) → answer ≡ value e → IsSynced call e.0 (disk new.volume.device) new.volume.numbers new.volume.tree
     pub exits : (status : ℕ) → answer ≡ exit status → new ≡ old
+    pub heard : HearsStreams ear old new

@@ -22,7 +22,7 @@ use Rattle.wasi_calls.specs.declared.host.inner.Inner.{Inner}
 use Rattle.wasi_calls.specs.host.Settings.{settings_fit}
 use Rattle.wasi_calls.specs.World.{World}
 use Rattle.wasi_calls.specs.Calls.{row, reaches_volume, Answered}
-use Rattle.wasi_calls.specs.host.Worlds.{HostState, StreamBytes, world_of, HasFailed, StreamsMove, MayFollow, before_moving, after_moving, VolumeStep}
+use Rattle.wasi_calls.specs.host.Worlds.{HostState, StreamBytes, world_of, HasFailed, StreamsMove, MayFollow, before_moving, after_moving, VolumeStep, Hearing, HearsStreams}
 use Rattle.wasi_calls.specs.declared.checks.buffers.TheConstants.{MOST_BUFFERS}
 use Rattle.wasi_calls.specs.declared.streams.inputs.TheConstants.{INPUT_PIECE}
 
@@ -98,7 +98,7 @@ pub record IsFileOf {D : Type 0} (honest : D → Type 0) (v : Opened D) (serial 
   pub used : honest v.device → IsTrue (is_file_at v.tree serial)
 
 module _ {D R W1 W2 : Type 0} (honest : D → Type 0) (disk : D → Disk) (sectors_on failures : D → ℕ) (goes_on : ℕ → D → D → Type 0)
-    (remaining : R → Option (List ℕ)) (out_contents : W1 → Option (List ℕ)) (err_contents : W2 → Option (List ℕ)) where
+    (remaining : R → Option (List ℕ)) (out_contents : W1 → Option (List ℕ)) (err_contents : W2 → Option (List ℕ)) (ear : Hearing R W1 W2) where
   -- What the body of a call says: where the device keeps its model or the call reaches no volume, the call answers and
   -- leaves what its row says in a world that the host shows, or what its failing case allows.
   pub record Serves (c : HostCall) (used : ℕ) (args : List ℕ) (old : Inner D R W1 W2) (memory : List ℕ) (new : Inner D R W1 W2) (memory' : List ℕ) (errno : ℕ) : Type 0 where
@@ -110,6 +110,7 @@ module _ {D R W1 W2 : Type 0} (honest : D → Type 0) (disk : D → Disk) (secto
     pub volume : VolumeStep honest disk sectors_on failures goes_on old.volume new.volume
     pub settings : new.settings ≡ record old.settings { random = new.settings.random }
     pub io : errno ≡ 29 → HasFailed c (state_of new)
+    pub heard : HearsStreams ear (state_of old) (state_of new)
 
 -- the world with this table
 abbrev pub with_table : Table → World → World

@@ -231,11 +231,11 @@ fn value_of(answered: Result<(), Errno>) -> Answer
 
 impl<'s, 't, D: Device, R: Inlet, W1: Outlet, W2: Outlet> Host for WasiHost<'s, 't, D, R, W1, W2> {
     ghost use Rattle.wasi_calls.specs.host.Links.{link};
-    ghost use Rattle.wasi_calls.specs.host.Worlds.{HostCalls};
+    ghost use Rattle.wasi_calls.specs.host.Worlds.{HostCalls, hearing};
 
     ghost links = { λ _. link };
 
-    ghost calls = { HostCalls D.honest D.disk D.size D.failures D.goes_on R.remaining W1.contents W2.contents };
+    ghost calls = { HostCalls D.honest D.disk D.size D.failures D.goes_on R.remaining W1.contents W2.contents (hearing R.gave R.refused W1.took W1.refused W2.took W2.refused) };
 
     fn link(&self, module_name: &str, name: &str, func_type: &FuncType) -> Option<HostCall> {
         linking::call_of(module_name, name, func_type)

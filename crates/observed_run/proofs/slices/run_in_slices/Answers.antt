@@ -12,7 +12,7 @@ loop-outcome-init g c = record {
   started = omega (arith, c.used-until.ensures);
   within = omega (arith, c.used-until.ensures, c.requires.within);
   short = omega (arith, c.used-until.ensures);
-  goes = goes_first (devices g.D.Device g.R.Read g.W1.Write g.W2.Write) c.args.every (g.S.Resumable.state c.args.session.now) c.args.profile.now _ (none_tallied _ c.none-tally.ensures);
+  goes = goes_first (devices g.D.Device g.R.Read g.W1.Write g.W2.Write g.R.Inlet.gave g.R.Inlet.refused g.W1.Outlet.took g.W1.Outlet.refused g.W2.Outlet.took g.W2.Outlet.refused) c.args.every (g.S.Resumable.state c.args.session.now) c.args.profile.now _ (none_tallied _ c.none-tally.ensures);
 }
 
 pub run_charged-end-requires-clause-few : goal.run_charged-end-requires-clause-few
@@ -23,7 +23,7 @@ run_charged-end-requires-clause-few g c =
 -- a slice more, and its units were used
 pub loop-outcome-preserved : goal.loop-outcome-preserved
 loop-outcome-preserved g c =
-    let on = devices g.D.Device g.R.Read g.W1.Write g.W2.Write in
+    let on = devices g.D.Device g.R.Read g.W1.Write g.W2.Write g.R.Inlet.gave g.R.Inlet.refused g.W1.Outlet.took g.W1.Outlet.refused g.W2.Outlet.took g.W2.Outlet.refused in
     let so_far = c.loop-outcome.invariant in
     let now = g.S.Resumable.state c.loop-outcome.session in
     let new = g.S.Resumable.state c.run_charged-end.new.session in
@@ -40,7 +40,7 @@ loop-outcome-preserved g c =
 -- the run ended
 pub returns-in-Some : goal.returns-in-Some
 returns-in-Some g c =
-    let on = devices g.D.Device g.R.Read g.W1.Write g.W2.Write in
+    let on = devices g.D.Device g.R.Read g.W1.Write g.W2.Write g.R.Inlet.gave g.R.Inlet.refused g.W1.Outlet.took g.W1.Outlet.refused g.W2.Outlet.took g.W2.Outlet.refused in
     let so_far = c.loop-outcome.invariant in
     let now = g.S.Resumable.state c.loop-outcome.session in
     let new = g.S.Resumable.state c.run_charged-end.new.session in
@@ -51,7 +51,7 @@ returns-in-Some g c =
 -- the fuel was used
 pub returns-then-until-fuel : goal.returns-then-until-fuel
 returns-then-until-fuel g c =
-    let on = devices g.D.Device g.R.Read g.W1.Write g.W2.Write in
+    let on = devices g.D.Device g.R.Read g.W1.Write g.W2.Write g.R.Inlet.gave g.R.Inlet.refused g.W1.Outlet.took g.W1.Outlet.refused g.W2.Outlet.took g.W2.Outlet.refused in
     let so_far = c.loop-outcome.invariant in
     let now = g.S.Resumable.state c.loop-outcome.session in
     let new = g.S.Resumable.state c.run_charged-end.new.session in

@@ -10,7 +10,7 @@ invariant-loop-outcome g l = record {
   started : used_by (g.S.Resumable.state l.session) ≤ l.until;
   within : l.until ≤ l.fuel;
   short : l.until - used_by (g.S.Resumable.state l.session) ≤ max l.every 1;
-  goes : GoesInSlices (devices g.D.Device g.R.Read g.W1.Write g.W2.Write) l.every (g.S.Resumable.state l.initial.session) (g.S.Resumable.state l.session) l.tally l.initial.profile l.profile;
+  goes : GoesInSlices (devices g.D.Device g.R.Read g.W1.Write g.W2.Write g.R.Inlet.gave g.R.Inlet.refused g.W1.Outlet.took g.W1.Outlet.refused g.W2.Outlet.took g.W2.Outlet.refused) l.every (g.S.Resumable.state l.initial.session) (g.S.Resumable.state l.session) l.tally l.initial.profile l.profile;
 }
 
 abbrev pub decreases-loop-outcome : goal.decreases-loop-outcome

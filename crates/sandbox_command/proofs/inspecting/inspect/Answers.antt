@@ -12,8 +12,12 @@ returns-clause-tells g c =
     let surveyed = c.survey-surveyed in
     let left = c.left_with.result in
     let said = c.left_with.ensures in
-    subst (λ (w : g.row.W1.Denot). Inspects c.args.profile bytes before (outs w) left.flushed left.status) (sym said.out)
-    (subst (λ (flushed : Bool). Inspects c.args.profile bytes before (outs c.try_flush-flushed.new.self) flushed left.status) (sym said.flushed)
-    (subst (λ (status : ℕ). Inspects c.args.profile bytes before (outs c.try_flush-flushed.new.self) c.try_flush-flushed.result status) (sym said.status)
+    let heard = surveyed.ensures.heard in
+    let failed = heard.failed in
+    let inspects =
+    subst (λ (w : g.row.W1.Denot). Inspects c.args.profile bytes before (outs w) failed left.flushed left.status) (sym said.out)
+    (subst (λ (flushed : Bool). Inspects c.args.profile bytes before (outs c.try_flush-flushed.new.self) failed flushed left.status) (sym said.flushed)
+    (subst (λ (status : ℕ). Inspects c.args.profile bytes before (outs c.try_flush-flushed.new.self) failed c.try_flush-flushed.result status) (sym said.status)
     (inspected error_kind c.args.profile bytes before (outs surveyed.new.out) (outs c.try_flush-flushed.new.self) surveyed.result c.try_flush-flushed.result c.survey_ended-status.result
-    surveyed.ensures.tells surveyed.ensures.begins c.try_flush-flushed.ensures.bytes c.survey_ended-status.ensures.told c.survey_ended-status.ensures.refused)))
+    surveyed.ensures.tells surveyed.ensures.begins c.try_flush-flushed.ensures.bytes c.survey_ended-status.ensures.told c.survey_ended-status.ensures.refused failed heard.worked heard.blamed))) in
+    (failed, inspects, (surveyed.new.out, heard.heard))

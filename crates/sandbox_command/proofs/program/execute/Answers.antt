@@ -1,8 +1,12 @@
-use Rattle.std.proofs.Common.{sym, subst}
-use Rattle.volume_tasks.specs.Doing.{Performs}
+use Rattle.std.proofs.Common.{◌≡◌, true, sym, subst}
+use Rattle.stream_answers.specs.Hearing.{Hears, Moves}
+use Rattle.volume_tasks.specs.Blame.{IsCause}
+use Rattle.volume_tasks.specs.Doing.{Performs, reads_input}
 use Rattle.volume_tasks.specs.Going.{FormatsWithin, KeepsWithin}
 use Rattle.volume_tasks.specs.Exporting.{PerformsExport}
+use Rattle.volume_tasks.specs.Importing.{PerformsImport, blames_input}
 use Rattle.sandbox_command.specs.declared.work.VolumeWork.{VolumeWork}
+use Rattle.sandbox_command.specs.Around.{calls_of}
 use Rattle.sandbox_command.specs.Execution.{Executes, StaysWithin}
 use Rattle.volume_tasks.proofs.Flushed.{performs_flushed}
 use Rattle.sandbox_command.proofs.AfterFlush.{export_flushed}
@@ -26,8 +30,28 @@ returns-in-Task-clause-tells g c =
     c.perform-done.result.1 done c.perform-done.ensures.performs ended.out in
     let at_input = subst (λ (r : g.row.R.Denot). Performs honest disk size failures task c.args.device (remaining c.args.given.input) (remaining r) (outs c.args.given.out) (outs left.out) c.perform-done.result.1 done) (sym ended.input) flushed in
     let performs = subst (λ (d : g.row.D.Denot). Performs honest disk size failures task c.args.device (remaining c.args.given.input) (remaining left.input) (outs c.args.given.out) (outs left.out) d done) (sym ended.device) at_input in
-    subst (λ (it : VolumeWork). Executes honest disk size failures goes_on remaining outs g.W2.Write.contents it c.args.device c.args.given.input c.args.given.out c.args.given.err left) (sym c.in-Task.is)
-    (done, performs, ended.status, ended.summary, ended.err)
+    let heard = subst (λ (r : g.row.R.Denot). reads_input task ≡ true → IsCause (Moves g.R.Inlet.gave) g.R.Inlet.refused done c.args.given.input r) (sym ended.input) c.perform-done.ensures.heard in
+    subst (λ (it : VolumeWork). Executes honest disk size failures goes_on remaining outs g.W2.Write.contents (calls_of g.R.Inlet.gave g.R.Inlet.refused) (calls_of g.W1.Outlet.took g.W1.Outlet.refused) it c.args.device c.args.given.input c.args.given.out c.args.given.err left) (sym c.in-Task.is)
+    (done, performs, ended.status, ended.summary, ended.err, heard, λ prints. (c.perform-done.new.out, c.perform-done.ensures.printed prints))
+
+-- a tar stream was brought in, and then the output flushed
+pub returns-in-Import-clause-tells : goal.returns-in-Import-clause-tells
+returns-in-Import-clause-tells g c =
+    let honest = g.D.Device.honest in
+    let disk = g.D.Device.disk in
+    let size = g.D.Device.size in
+    let failures = g.D.Device.failures in
+    let goes_on = g.D.Device.goes_on in
+    let remaining = g.R.Read.remaining in
+    let path = c.in-Import.path.now in
+    let done = c.import_into-done.result.0 in
+    let left = c.ended-in-Import.result in
+    let ended = c.ended-in-Import.ensures in
+    let at_input = subst (λ (r : g.row.R.Denot). PerformsImport honest disk size failures path c.args.device (remaining c.args.given.input) (remaining r) c.import_into-done.result.1 done) (sym ended.input) c.import_into-done.ensures.performs in
+    let performs = subst (λ (d : g.row.D.Denot). PerformsImport honest disk size failures path c.args.device (remaining c.args.given.input) (remaining left.input) d done) (sym ended.device) at_input in
+    let heard = subst (λ (r : g.row.R.Denot). Hears (Moves g.R.Inlet.gave) g.R.Inlet.refused (blames_input done) c.args.given.input r) (sym ended.input) c.import_into-done.ensures.heard in
+    subst (λ (it : VolumeWork). Executes honest disk size failures goes_on remaining g.W1.Write.contents g.W2.Write.contents (calls_of g.R.Inlet.gave g.R.Inlet.refused) (calls_of g.W1.Outlet.took g.W1.Outlet.refused) it c.args.device c.args.given.input c.args.given.out c.args.given.err left) (sym c.in-Import.is)
+    (done, performs, ended.status, ended.summary, ended.out, ended.err, heard)
 
 -- the directory was printed, and then the output flushed
 pub returns-in-Export-clause-tells : goal.returns-in-Export-clause-tells
@@ -44,8 +68,8 @@ returns-in-Export-clause-tells g c =
     let ended = c.ended-in-Export.ensures in
     let flushed = export_flushed honest disk size failures goes_on path c.args.device (outs c.args.given.out) (outs c.export_from-done.new.out) (outs left.out) c.export_from-done.result.1 done ended.out c.export_from-done.ensures.performs in
     let performs = subst (λ (d : g.row.D.Denot). PerformsExport honest disk size failures path c.args.device (outs c.args.given.out) (outs left.out) d done) (sym ended.device) flushed in
-    subst (λ (it : VolumeWork). Executes honest disk size failures goes_on g.R.Read.remaining outs g.W2.Write.contents it c.args.device c.args.given.input c.args.given.out c.args.given.err left) (sym c.in-Export.is)
-    (done, performs, ended.status, ended.summary, ended.input, ended.err)
+    subst (λ (it : VolumeWork). Executes honest disk size failures goes_on g.R.Read.remaining outs g.W2.Write.contents (calls_of g.R.Inlet.gave g.R.Inlet.refused) (calls_of g.W1.Outlet.took g.W1.Outlet.refused) it c.args.device c.args.given.input c.args.given.out c.args.given.err left) (sym c.in-Export.is)
+    (done, performs, ended.status, ended.summary, ended.input, ended.err, (c.export_from-done.new.out, c.export_from-done.ensures.heard))
 
 -- ---- the sectors past the volume
 

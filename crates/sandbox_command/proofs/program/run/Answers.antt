@@ -4,6 +4,7 @@ use Rattle.wasm_module.specs.declared.module.Module.{Module}
 use Rattle.wasm_module.specs.Module.{SpellsWith}
 use Rattle.wasm_valid.specs.Validity.{IsValid}
 use Rattle.run_report.specs.declared.fault.Fault.{Fault}
+use Rattle.wasi_calls.specs.host.Worlds.{hearing}
 use Rattle.sandbox_command.specs.Execution.{IsUntouched}
 use Rattle.sandbox_command.specs.Modules.{profile_for}
 use Rattle.sandbox_command.specs.Stopping.{AreLinesBy, TellsLines}
@@ -26,7 +27,7 @@ pub returns-clause-runs : goal.returns-clause-runs
 returns-clause-runs g c =
     let ended = c.not_begun-left.ensures in
     let streams = c.args.streams in
-    let untouched : IsUntouched g.D.Device.honest g.D.Device.disk g.D.Device.size g.D.Device.failures g.D.Device.goes_on g.R.Read.remaining g.W1.Write.contents g.W2.Write.contents
+    let untouched : IsUntouched g.D.Device.honest g.D.Device.disk g.D.Device.size g.D.Device.failures g.D.Device.goes_on g.R.Read.remaining g.W1.Write.contents g.W2.Write.contents (hearing g.R.Inlet.gave g.R.Inlet.refused g.W1.Outlet.took g.W1.Outlet.refused g.W2.Outlet.took g.W2.Outlet.refused)
     c.args.device streams.input streams.out streams.err c.not_begun-left.result = record {
       device_is = ended.device;
       flushed = ended.flushed;

@@ -1,6 +1,7 @@
 use Rattle.std.proofs.Common.{sym, ap, subst, ◌∙◌}
 use Rattle.volume_tasks.specs.Volumes.{IsOpenFor, IsRefusedFor}
 use Rattle.wasm_module.specs.declared.module.Module.{Module}
+use Rattle.wasi_calls.specs.host.Worlds.{hearing}
 use Rattle.sandbox_command.specs.Running.{Launches}
 use Rattle.sandbox_command.specs.declared.runnable.Runnable.{Runnable}
 use Rattle.sandbox_command.specs.internal.Runnable.{IsReadyFor, module_in}
@@ -12,7 +13,7 @@ use Rattle.sandbox_command.proofs.program.run_valid.Goals as goal
 pub returns-in-Err-clause-runs : goal.returns-in-Err-clause-runs
 returns-in-Err-clause-runs g c =
     let ended = c.no_volume.ensures in
-    no_volume g.D.Device g.R.Read.remaining g.W1.Write.contents g.W2.Write.contents c.args.run.now (module_in c.args.runnable) c.args.random.now
+    no_volume g.D.Device g.R.Read.remaining g.W1.Write.contents g.W2.Write.contents (hearing g.R.Inlet.gave g.R.Inlet.refused g.W1.Outlet.took g.W1.Outlet.refused g.W2.Outlet.took g.W2.Outlet.refused) c.args.run.now (module_in c.args.runnable) c.args.random.now
     c.args.device c.args.streams.input c.args.streams.out c.args.streams.err c.in-Err.refused c.no_volume.result
     (subst (λ file. IsRefusedFor g.D.Device.honest g.D.Device.disk g.D.Device.size g.D.Device.failures file c.args.device c.in-Err.refused) c.volume_of.ensures c.in-Err.ensures.refused)
     ended.ends ended.flushed ended.summary ended.device ended.input ended.out ended.err
@@ -21,22 +22,22 @@ returns-in-Err-clause-runs g c =
 pub returns-in-Prepared-clause-runs : goal.returns-in-Prepared-clause-runs
 returns-in-Prepared-clause-runs g c =
     let parts = c.parts_of-parts.result in
-    on_volume g.D.Device g.R.Read.remaining g.W1.Write.contents g.W2.Write.contents c.args.run.now (module_in c.args.runnable) c.args.random.now
+    on_volume g.D.Device g.R.Read.remaining g.W1.Write.contents g.W2.Write.contents (hearing g.R.Inlet.gave g.R.Inlet.refused g.W1.Outlet.took g.W1.Outlet.refused g.W2.Outlet.took g.W2.Outlet.refused) c.args.run.now (module_in c.args.runnable) c.args.random.now
     c.args.device c.args.streams.input c.args.streams.out c.args.streams.err c.in-Ok.volume parts c.launch_prepared-left.result
     (subst (λ named. IsOpenFor g.D.Device.honest g.D.Device.disk g.D.Device.size g.D.Device.failures named c.args.device c.in-Ok.volume) c.volume_of.ensures c.in-Ok.ensures.opens)
     c.parts_of-parts.ensures.settings c.parts_of-parts.ensures.parts
-    (subst (λ (m : Module). Launches g.D.Device.honest g.D.Device.disk g.D.Device.size g.D.Device.failures g.D.Device.goes_on g.R.Read.remaining g.W1.Write.contents g.W2.Write.contents m c.args.run.now parts c.launch_prepared-left.result)
+    (subst (λ (m : Module). Launches g.D.Device.honest g.D.Device.disk g.D.Device.size g.D.Device.failures g.D.Device.goes_on g.R.Read.remaining g.W1.Write.contents g.W2.Write.contents (hearing g.R.Inlet.gave g.R.Inlet.refused g.W1.Outlet.took g.W1.Outlet.refused g.W2.Outlet.took g.W2.Outlet.refused) m c.args.run.now parts c.launch_prepared-left.result)
     (sym (ap module_in c.in-Prepared.is)) c.launch_prepared-left.ensures.launches)
 
 pub returns-in-Bare-clause-runs : goal.returns-in-Bare-clause-runs
 returns-in-Bare-clause-runs g c =
     let parts = c.parts_of-parts.result in
     let left = c.launch_bare-valid.result.1 in
-    on_volume g.D.Device g.R.Read.remaining g.W1.Write.contents g.W2.Write.contents c.args.run.now (module_in c.args.runnable) c.args.random.now
+    on_volume g.D.Device g.R.Read.remaining g.W1.Write.contents g.W2.Write.contents (hearing g.R.Inlet.gave g.R.Inlet.refused g.W1.Outlet.took g.W1.Outlet.refused g.W2.Outlet.took g.W2.Outlet.refused) c.args.run.now (module_in c.args.runnable) c.args.random.now
     c.args.device c.args.streams.input c.args.streams.out c.args.streams.err c.in-Ok.volume parts left
     (subst (λ named. IsOpenFor g.D.Device.honest g.D.Device.disk g.D.Device.size g.D.Device.failures named c.args.device c.in-Ok.volume) c.volume_of.ensures c.in-Ok.ensures.opens)
     c.parts_of-parts.ensures.settings c.parts_of-parts.ensures.parts
-    (subst (λ (m : Module). Launches g.D.Device.honest g.D.Device.disk g.D.Device.size g.D.Device.failures g.D.Device.goes_on g.R.Read.remaining g.W1.Write.contents g.W2.Write.contents m c.args.run.now parts left)
+    (subst (λ (m : Module). Launches g.D.Device.honest g.D.Device.disk g.D.Device.size g.D.Device.failures g.D.Device.goes_on g.R.Read.remaining g.W1.Write.contents g.W2.Write.contents (hearing g.R.Inlet.gave g.R.Inlet.refused g.W1.Outlet.took g.W1.Outlet.refused g.W2.Outlet.took g.W2.Outlet.refused) m c.args.run.now parts left)
     (sym (ap module_in c.in-Bare.is)) c.launch_bare-valid.ensures.launches)
 
 pub returns-in-Err-clause-fuel_use : goal.returns-in-Err-clause-fuel_use

@@ -6,7 +6,7 @@ use Rattle.sandbox_command.specs.declared.closing.Left.{Left}
 use Rattle.sandbox_command.specs.Sources.{sink_contents}
 use Rattle.sandbox_command.specs.Streams.{AppendsSome}
 use Rattle.sandbox_command.specs.Alone.{HandsAll, IsProfiled, file_of}
-use Rattle.sandbox_command.specs.Around.{around, flushing, in_memory}
+use Rattle.sandbox_command.specs.Around.{around, calling, flushing, in_memory}
 use Rattle.sandbox_words.specs.Request.{Text}
 use Rattle.sandbox_command.specs.Modules.{profile_for}
 use Rattle.sandbox_command.specs.Stopping.{TellsLines}
@@ -38,7 +38,7 @@ returns g c =
     let after = delivered.result.1.device in
     let profiled = c.profiled-ending.new.places in
     let ending = c.profiled-ending.result in
-    runs_with (around g.P.Places g.P.Input.Read g.P.Output.Write g.P.Volume.Device g.R.Read g.W1.Write g.W2.Write (flushing g.P.Output.Outlet.flushed g.P.Output.Outlet.refuses g.W1.Outlet.flushed g.W1.Outlet.refuses g.W2.Outlet.flushed g.W2.Outlet.refuses)) in_memory
+    runs_with (around g.P.Places g.P.Input.Read g.P.Output.Write g.P.Volume.Device g.R.Read g.W1.Write g.W2.Write (flushing g.P.Output.Outlet.flushed g.P.Output.Outlet.refuses g.W1.Outlet.flushed g.W1.Outlet.refuses g.W2.Outlet.flushed g.W2.Outlet.refuses) (calling g.P.Input.Inlet.gave g.P.Input.Inlet.refused g.P.Output.Outlet.took g.P.Output.Outlet.refused g.R.Inlet.gave g.R.Inlet.refused g.W1.Outlet.took g.W1.Outlet.refused g.W2.Outlet.took g.W2.Outlet.refused)) in_memory
     (λ left before said p q status summary after. HandsAll g.P.Places run left before said p q status summary after)
     run c.args.device c.args.wired.streams c.args.wired.spare (file_of c.args.wired.profile) c.args.report
     _ _ _ _ c.as_slice-module.ensures.value c.as_slice-random.ensures.value ended c.run-ended.ensures.runs c.run-ended.ensures.answered

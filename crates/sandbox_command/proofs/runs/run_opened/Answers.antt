@@ -1,13 +1,13 @@
 use Rattle.std.proofs.Common.{sym, subst}
 use Rattle.sandbox_command.specs.declared.opening.Medium.{Medium}
 use Rattle.sandbox_command.specs.Alone.{KeepsIt, RunsFilled, RunsInMemory, RunsOnMedium, RunsWith, file_of}
-use Rattle.sandbox_command.specs.Around.{around, flushing}
+use Rattle.sandbox_command.specs.Around.{around, calling, flushing}
 use Rattle.sandbox_command.proofs.Finishing.{rewired}
 use Rattle.sandbox_command.proofs.runs.run_opened.Goals as goal
 
 pub returns-in-File : goal.returns-in-File
 returns-in-File g c =
-    let on = around g.P.Places g.P.Input.Read g.P.Output.Write g.P.Volume.Device g.R.Read g.W1.Write g.W2.Write (flushing g.P.Output.Outlet.flushed g.P.Output.Outlet.refuses g.W1.Outlet.flushed g.W1.Outlet.refuses g.W2.Outlet.flushed g.W2.Outlet.refuses) in
+    let on = around g.P.Places g.P.Input.Read g.P.Output.Write g.P.Volume.Device g.R.Read g.W1.Write g.W2.Write (flushing g.P.Output.Outlet.flushed g.P.Output.Outlet.refuses g.W1.Outlet.flushed g.W1.Outlet.refuses g.W2.Outlet.flushed g.W2.Outlet.refuses) (calling g.P.Input.Inlet.gave g.P.Input.Inlet.refused g.P.Output.Outlet.took g.P.Output.Outlet.refused g.R.Inlet.gave g.R.Inlet.refused g.W1.Outlet.took g.W1.Outlet.refused g.W2.Outlet.took g.W2.Outlet.refused) in
     let run = c.args.run.now in
     let opened = c.args.opened in
     subst (λ (m : Medium _). RunsOnMedium on m run opened c.args.given c.args.report c.args.places.now c.run_in_file.new.places c.run_in_file.result) (sym c.in-File.is)
@@ -19,7 +19,7 @@ returns-in-File g c =
 
 pub returns-in-Memory : goal.returns-in-Memory
 returns-in-Memory g c =
-    let on = around g.P.Places g.P.Input.Read g.P.Output.Write g.P.Volume.Device g.R.Read g.W1.Write g.W2.Write (flushing g.P.Output.Outlet.flushed g.P.Output.Outlet.refuses g.W1.Outlet.flushed g.W1.Outlet.refuses g.W2.Outlet.flushed g.W2.Outlet.refuses) in
+    let on = around g.P.Places g.P.Input.Read g.P.Output.Write g.P.Volume.Device g.R.Read g.W1.Write g.W2.Write (flushing g.P.Output.Outlet.flushed g.P.Output.Outlet.refuses g.W1.Outlet.flushed g.W1.Outlet.refuses g.W2.Outlet.flushed g.W2.Outlet.refuses) (calling g.P.Input.Inlet.gave g.P.Input.Inlet.refused g.P.Output.Outlet.took g.P.Output.Outlet.refused g.R.Inlet.gave g.R.Inlet.refused g.W1.Outlet.took g.W1.Outlet.refused g.W2.Outlet.took g.W2.Outlet.refused) in
     let run = c.args.run.now in
     let opened = c.args.opened in
     subst (λ (m : Medium _). RunsOnMedium on m run opened c.args.given c.args.report c.args.places.now c.run_in_memory.new.places c.run_in_memory.result) (sym c.in-Memory.is)
@@ -31,7 +31,7 @@ returns-in-Memory g c =
 
 pub returns-in-Archive : goal.returns-in-Archive
 returns-in-Archive g c =
-    let on = around g.P.Places g.P.Input.Read g.P.Output.Write g.P.Volume.Device g.R.Read g.W1.Write g.W2.Write (flushing g.P.Output.Outlet.flushed g.P.Output.Outlet.refuses g.W1.Outlet.flushed g.W1.Outlet.refuses g.W2.Outlet.flushed g.W2.Outlet.refuses) in
+    let on = around g.P.Places g.P.Input.Read g.P.Output.Write g.P.Volume.Device g.R.Read g.W1.Write g.W2.Write (flushing g.P.Output.Outlet.flushed g.P.Output.Outlet.refuses g.W1.Outlet.flushed g.W1.Outlet.refuses g.W2.Outlet.flushed g.W2.Outlet.refuses) (calling g.P.Input.Inlet.gave g.P.Input.Inlet.refused g.P.Output.Outlet.took g.P.Output.Outlet.refused g.R.Inlet.gave g.R.Inlet.refused g.W1.Outlet.took g.W1.Outlet.refused g.W2.Outlet.took g.W2.Outlet.refused) in
     let run = c.args.run.now in
     let opened = c.args.opened in
     subst (λ (m : Medium _). RunsOnMedium on m run opened c.args.given c.args.report c.args.places.now c.run_filled.new.places c.run_filled.result) (sym c.in-Archive.is)

@@ -19,7 +19,7 @@ interact-requires g c = ap (λ s. s.host.interactive) (c.seed.ensures ∙ ap (λ
 pub returns-clause-told : goal.returns-clause-told
 returns-clause-told g c =
     let told = c.run_charged.result.0 in
-    subst (λ s. ReportsCharged (devices g.D.Device g.R.Read g.W1.Write g.W2.Write) s c.args.run.now.limits.fuel (slice_of c.args.run.now) told.report told.tally c.run_charged.new.room told.depth c.run_charged.result.1)
+    subst (λ s. ReportsCharged (devices g.D.Device g.R.Read g.W1.Write g.W2.Write g.R.Inlet.gave g.R.Inlet.refused g.W1.Outlet.took g.W1.Outlet.refused g.W2.Outlet.took g.W2.Outlet.refused) s c.args.run.now.limits.fuel (slice_of c.args.run.now) told.report told.tally c.run_charged.new.room told.depth c.run_charged.result.1)
     (c.interact.ensures ∙ ap (λ s. with_terminals (terminals_of c.args.run.now) s) (c.seed.ensures ∙ ap (λ s. with_seed c.args.run.now.seed s) c.limit_values.ensures)) c.run_charged.ensures.told
 
 pub returns-clause-kept : goal.returns-clause-kept

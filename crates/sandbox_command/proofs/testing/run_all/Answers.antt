@@ -1,5 +1,6 @@
 use Rattle.std.proofs.Common.{◌≡◌, ◌⊎◌, ◌<◌, ◌+◌, ℕ, Bool, true, false, List, length, take, get_or, inl, inr, refl, sym, ◌∙◌, ap, subst}
 use Rattle.wasm_module.specs.declared.module.Module.{Module}
+use Rattle.sandbox_command.specs.Around.{calls_of}
 use Rattle.sandbox_command.specs.declared.testing.Test.{Test}
 use Rattle.sandbox_command.specs.Testing.{HasFailed, HasRun}
 use Rattle.sandbox_command.specs.internal.Runnable.{IsReadyFor, module_in}
@@ -26,16 +27,16 @@ loop-test-preserved g c =
     record {
       same = c.run_test-kept.ensures.«module» ∙ c.loop-test.invariant.same;
       ends = one_more
-          (λ m. HasRun g.P.Places g.P.Input.Read g.P.Output.Write g.P.Output.Outlet.flushed g.P.Output.Outlet.refuses c.args.run.now c.args.files.«module».now m c.args.files.random.now)
-          (λ m. HasFailed g.P.Places g.P.Input.Read g.P.Output.Write g.P.Output.Outlet.flushed g.P.Output.Outlet.refuses c.args.run.now c.args.files.«module».now m c.args.files.random.now)
+          (λ m. HasRun g.P.Places g.P.Input.Read g.P.Output.Write g.P.Output.Outlet.flushed g.P.Output.Outlet.refuses (calls_of g.P.Input.Inlet.gave g.P.Input.Inlet.refused) (calls_of g.P.Output.Outlet.took g.P.Output.Outlet.refused) c.args.run.now c.args.files.«module».now m c.args.files.random.now)
+          (λ m. HasFailed g.P.Places g.P.Input.Read g.P.Output.Write g.P.Output.Outlet.flushed g.P.Output.Outlet.refuses (calls_of g.P.Input.Inlet.gave g.P.Input.Inlet.refused) (calls_of g.P.Output.Outlet.took g.P.Output.Outlet.refused) c.args.run.now c.args.files.«module».now m c.args.files.random.now)
           (module_in c.args.runnable) (module_in c.loop-test.runnable) c.loop-test.have_run c.run_test-kept.result.1 c.if-have_run.have_run cases c.args.tests.now c.loop-test.test-index _ c.args.places.now c.loop-test.places c.run_test-kept.new.places
           (ap module_in c.loop-test.invariant.same) c.loop-test-test.true c.loop-test.invariant.ends c.run_test-kept.ensures.ends;
     }
 
 pub returns : goal.returns
 returns g c = AllEndAs-end
-    (HasRun g.P.Places g.P.Input.Read g.P.Output.Write g.P.Output.Outlet.flushed g.P.Output.Outlet.refuses c.args.run.now c.args.files.«module».now (module_in c.args.runnable) c.args.files.random.now)
-    (HasFailed g.P.Places g.P.Input.Read g.P.Output.Write g.P.Output.Outlet.flushed g.P.Output.Outlet.refuses c.args.run.now c.args.files.«module».now (module_in c.args.runnable) c.args.files.random.now)
+    (HasRun g.P.Places g.P.Input.Read g.P.Output.Write g.P.Output.Outlet.flushed g.P.Output.Outlet.refuses (calls_of g.P.Input.Inlet.gave g.P.Input.Inlet.refused) (calls_of g.P.Output.Outlet.took g.P.Output.Outlet.refused) c.args.run.now c.args.files.«module».now (module_in c.args.runnable) c.args.files.random.now)
+    (HasFailed g.P.Places g.P.Input.Read g.P.Output.Write g.P.Output.Outlet.flushed g.P.Output.Outlet.refuses (calls_of g.P.Input.Inlet.gave g.P.Input.Inlet.refused) (calls_of g.P.Output.Outlet.took g.P.Output.Outlet.refused) c.args.run.now c.args.files.«module».now (module_in c.args.runnable) c.args.files.random.now)
     c.loop-test.have_run c.args.tests.now c.loop-test.test-index c.args.places.now c.loop-test.places c.loop-test-test.false c.loop-test.invariant.ends
 
 -- it is ready as it was

@@ -1,4 +1,5 @@
 use Rattle.std.proofs.Common.{◌≡◌, take}
+use Rattle.sandbox_command.specs.Around.{calls_of}
 use Rattle.sandbox_command.specs.Testing.{HasFailed, HasRun}
 use Rattle.sandbox_command.specs.internal.Runnable.{module_in}
 use Rattle.sandbox_command.specs.internal.Tests.{AllEndAs}
@@ -9,7 +10,7 @@ abbrev pub invariant-loop-test : goal.invariant-loop-test
 invariant-loop-test g l = record {
   same : l.runnable ≡ l.initial.runnable;
   ends : AllEndAs
-      (HasRun g.P.Places g.P.Input.Read g.P.Output.Write g.P.Output.Outlet.flushed g.P.Output.Outlet.refuses l.run l.files.«module».now (module_in l.initial.runnable) l.files.random.now)
-      (HasFailed g.P.Places g.P.Input.Read g.P.Output.Write g.P.Output.Outlet.flushed g.P.Output.Outlet.refuses l.run l.files.«module».now (module_in l.initial.runnable) l.files.random.now)
+      (HasRun g.P.Places g.P.Input.Read g.P.Output.Write g.P.Output.Outlet.flushed g.P.Output.Outlet.refuses (calls_of g.P.Input.Inlet.gave g.P.Input.Inlet.refused) (calls_of g.P.Output.Outlet.took g.P.Output.Outlet.refused) l.run l.files.«module».now (module_in l.initial.runnable) l.files.random.now)
+      (HasFailed g.P.Places g.P.Input.Read g.P.Output.Write g.P.Output.Outlet.flushed g.P.Output.Outlet.refuses (calls_of g.P.Input.Inlet.gave g.P.Input.Inlet.refused) (calls_of g.P.Output.Outlet.took g.P.Output.Outlet.refused) l.run l.files.«module».now (module_in l.initial.runnable) l.files.random.now)
       l.have_run (take l.test-index l.tests) l.initial.places l.places;
 }

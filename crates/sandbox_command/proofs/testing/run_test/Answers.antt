@@ -13,6 +13,8 @@ use Rattle.sandbox_words.specs.declared.request.Run.{Run}
 use Rattle.sandbox_words.specs.Request.{Text}
 use Rattle.std.specs.declared.io.Read.{Ghosts as Reader}
 use Rattle.std.specs.declared.io.Write.{Ghosts as Writer}
+use Rattle.wasi_calls.specs.host.Worlds.{StreamCalls}
+use Rattle.sandbox_command.specs.Around.{calls_of}
 use Rattle.sandbox_command.specs.declared.places.Places.{Ghosts}
 use Rattle.sandbox_command.specs.declared.testing.Test.{Test}
 use Rattle.sandbox_command.specs.Beginning.{unread}
@@ -35,9 +37,9 @@ no_guest : (run : Run) (kind : ErrorKind) (outcome : Outcome) → (unread run ki
 no_guest run OutOfMemory outcome is = ran_refused (sym is)
 no_guest run kind outcome is = ran_refused (sym is)
 
-module _ {P I O V : Type 0} (places : Ghosts P I O V) (read : Reader I) (written : Writer O) (flushed refuses : O → O → Type 0) (run : Run) (bytes : List ℕ) (m : Module) (random : Text) (t : Test) where
+module _ {P I O V : Type 0} (places : Ghosts P I O V) (read : Reader I) (written : Writer O) (flushed refuses : O → O → Type 0) (reads : StreamCalls I) (writes : StreamCalls O) (run : Run) (bytes : List ℕ) (m : Module) (random : Text) (t : Test) where
   abbrev Tested : (made tested : P) → Option Summary → (frames : Text) → Type 0
-  Tested made tested said frames = IsTestedOrUnread places read written flushed refuses run bytes m random t made tested said frames
+  Tested made tested said frames = IsTestedOrUnread places read written flushed refuses reads writes run bytes m random t made tested said frames
 
   -- there is always something to be said
   said_something : (made tested : P) (said : Option Summary) (frames : Text) → said ≡ None → Tested made tested said frames → ⊥
@@ -52,13 +54,13 @@ module _ {P I O V : Type 0} (places : Ghosts P I O V) (read : Reader I) (written
 
   -- where a guest ran, its files could be read and made
   was_tested : (made tested : P) (summary : Summary) (frames : Text) (outcome : Outcome) → summary.end ≡ Ran outcome → Tested made tested (Some summary) frames
-      → IsTested places read written flushed refuses run bytes m random t made tested (Some summary) frames
+      → IsTested places read written flushed refuses reads writes run bytes m random t made tested (Some summary) frames
   was_tested made tested summary frames outcome ran (inl (kind, lacks, same, none)) = absurd (no_guest run kind outcome (sym (ap end_in same) ∙ ran))
   was_tested made tested summary frames outcome ran (inr it) = it
 
   ends : (has_run : Bool) (p made tested q : P) (report : O) (summary : Summary) (frames : Text) → places.is_output t.report.now report → places.asked (Makes t.report.now) p made → Tested made tested (Some summary) frames
       → IsTold places written has_run t.report.now report summary frames tested q
-      → OneEndsAs (HasRun places read written flushed refuses run bytes m random) (HasFailed places read written flushed refuses run bytes m random) has_run t p q
+      → OneEndsAs (HasRun places read written flushed refuses reads writes run bytes m random) (HasFailed places read written flushed refuses reads writes run bytes m random) has_run t p q
   ends true p made tested q report summary frames its is_made ran_so it = record {
     report = report;
     is_its_report = its;
@@ -103,18 +105,18 @@ returns-in_default g c =
 -- something is always said
 pub returns-in_default-said : goal.returns-in_default-said
 returns-in_default-said g c =
-    absurd (said_something g.P.Places g.P.Input.Read g.P.Output.Write g.P.Output.Outlet.flushed g.P.Output.Outlet.refuses
+    absurd (said_something g.P.Places g.P.Input.Read g.P.Output.Write g.P.Output.Outlet.flushed g.P.Output.Outlet.refuses (calls_of g.P.Input.Inlet.gave g.P.Input.Inlet.refused) (calls_of g.P.Output.Outlet.took g.P.Output.Outlet.refused)
     c.args.run.now c.args.files.«module».now (module_in c.args.runnable) c.args.files.random.now c.args.test c.make.new.self c.tested-runnable.new.places c.tested-runnable.result.1 c.tested-runnable.result.2.items c.in_default-said.is c.tested-runnable.ensures.tested)
 
 pub returns : goal.returns
 returns g c = record {
   «module» = c.tested-runnable.ensures.«module»;
-  ends = ends g.P.Places g.P.Input.Read g.P.Output.Write g.P.Output.Outlet.flushed g.P.Output.Outlet.refuses
+  ends = ends g.P.Places g.P.Input.Read g.P.Output.Write g.P.Output.Outlet.flushed g.P.Output.Outlet.refuses (calls_of g.P.Input.Inlet.gave g.P.Input.Inlet.refused) (calls_of g.P.Output.Outlet.took g.P.Output.Outlet.refused)
       c.args.run.now c.args.files.«module».now (module_in c.args.runnable) c.args.files.random.now c.args.test c.is_told_of_guest-has_run.result c.args.places.now c.make.new.self c.tested-runnable.new.places _ c.in-Ok.report c.in-Some.summary
       c.as_slice.result.now c.in-Ok.ensures.output c.make.ensures.asked
-      (subst (λ (text : Text). IsTestedOrUnread g.P.Places g.P.Input.Read g.P.Output.Write g.P.Output.Outlet.flushed g.P.Output.Outlet.refuses
+      (subst (λ (text : Text). IsTestedOrUnread g.P.Places g.P.Input.Read g.P.Output.Write g.P.Output.Outlet.flushed g.P.Output.Outlet.refuses (calls_of g.P.Input.Inlet.gave g.P.Input.Inlet.refused) (calls_of g.P.Output.Outlet.took g.P.Output.Outlet.refused)
       c.args.run.now c.args.files.«module».now (module_in c.args.runnable) c.args.files.random.now c.args.test c.make.new.self c.tested-runnable.new.places (Some c.in-Some.summary) text) (sym c.as_slice.ensures.value)
-      (subst (λ (s : Option Summary). IsTestedOrUnread g.P.Places g.P.Input.Read g.P.Output.Write g.P.Output.Outlet.flushed g.P.Output.Outlet.refuses
+      (subst (λ (s : Option Summary). IsTestedOrUnread g.P.Places g.P.Input.Read g.P.Output.Write g.P.Output.Outlet.flushed g.P.Output.Outlet.refuses (calls_of g.P.Input.Inlet.gave g.P.Input.Inlet.refused) (calls_of g.P.Output.Outlet.took g.P.Output.Outlet.refused)
       c.args.run.now c.args.files.«module».now (module_in c.args.runnable) c.args.files.random.now c.args.test c.make.new.self c.tested-runnable.new.places s c.tested-runnable.result.2.items) c.in-Some.is c.tested-runnable.ensures.tested))
       c.is_told_of_guest-has_run.ensures;
 }

@@ -5,6 +5,7 @@ use Rattle.wasm_module.specs.Module.{SpellsWith}
 use Rattle.wasm_valid.specs.Validity.{IsValid}
 use Rattle.run_report.specs.declared.fault.Fault.TheVariants as reason
 use Rattle.run_report.specs.declared.summary.Kept.TheVariants as kept
+use Rattle.sandbox_command.specs.Around.{calls_of}
 use Rattle.sandbox_command.specs.Modules.{profile_for}
 use Rattle.sandbox_command.specs.Reporting.{not_run, session_reason}
 use Rattle.sandbox_command.specs.internal.Runnable.{module_in}
@@ -34,8 +35,8 @@ returns-then-run_all-clause-runs g c =
       inl (
         refl,
         went_all
-            (HasRun g.P.Places g.P.Input.Read g.P.Output.Write g.P.Output.Outlet.flushed g.P.Output.Outlet.refuses c.args.run.now c.args.«module».now prepared c.args.random.now)
-            (HasFailed g.P.Places g.P.Input.Read g.P.Output.Write g.P.Output.Outlet.flushed g.P.Output.Outlet.refuses c.args.run.now c.args.«module».now prepared c.args.random.now)
+            (HasRun g.P.Places g.P.Input.Read g.P.Output.Write g.P.Output.Outlet.flushed g.P.Output.Outlet.refuses (calls_of g.P.Input.Inlet.gave g.P.Input.Inlet.refused) (calls_of g.P.Output.Outlet.took g.P.Output.Outlet.refused) c.args.run.now c.args.«module».now prepared c.args.random.now)
+            (HasFailed g.P.Places g.P.Input.Read g.P.Output.Write g.P.Output.Outlet.flushed g.P.Output.Outlet.refuses (calls_of g.P.Input.Inlet.gave g.P.Input.Inlet.refused) (calls_of g.P.Output.Outlet.took g.P.Output.Outlet.refused) c.args.run.now c.args.«module».now prepared c.args.random.now)
             c.run_all.result c.args.tests.now _ _ c.if-run_all.true c.run_all.ensures,
       ),
     ))
@@ -53,8 +54,8 @@ returns-in-Ok-load_with-clause-runs g c =
       inr (
         c.refuse_tests.ensures.status,
         failed_some
-            (HasRun g.P.Places g.P.Input.Read g.P.Output.Write g.P.Output.Outlet.flushed g.P.Output.Outlet.refuses c.args.run.now c.args.«module».now prepared c.args.random.now)
-            (HasFailed g.P.Places g.P.Input.Read g.P.Output.Write g.P.Output.Outlet.flushed g.P.Output.Outlet.refuses c.args.run.now c.args.«module».now prepared c.args.random.now)
+            (HasRun g.P.Places g.P.Input.Read g.P.Output.Write g.P.Output.Outlet.flushed g.P.Output.Outlet.refuses (calls_of g.P.Input.Inlet.gave g.P.Input.Inlet.refused) (calls_of g.P.Output.Outlet.took g.P.Output.Outlet.refused) c.args.run.now c.args.«module».now prepared c.args.random.now)
+            (HasFailed g.P.Places g.P.Input.Read g.P.Output.Write g.P.Output.Outlet.flushed g.P.Output.Outlet.refuses (calls_of g.P.Input.Inlet.gave g.P.Input.Inlet.refused) (calls_of g.P.Output.Outlet.took g.P.Output.Outlet.refused) c.args.run.now c.args.«module».now prepared c.args.random.now)
             c.run_all.result c.args.tests.now _ _ c.if-run_all.false c.run_all.ensures,
       ),
     ))

@@ -2,13 +2,14 @@ use Rattle.std.proofs.Common.{arith, ◌∙◌}
 use Rattle.vol_tree.proofs.GoingOn.{goes_then}
 use Rattle.sandbox_core.specs.Devices.{Calls, devices, disk_of, numbers_of, tree_of}
 use Rattle.sandbox_core.specs.Report.{Reports}
+use Rattle.sandbox_core.proofs.Following.{heard_follow}
 use Rattle.sandbox_core.proofs.Reaching.{commit_after}
 use Rattle.sandbox_core.proofs.report.run_counted_with_module.Goals as goal
 
 -- the report has what the run and the commit left
 pub returns-clause-counted : goal.returns-clause-counted
 returns-clause-counted g c =
-    let on = devices g.D.Device g.R.Read g.W1.Write g.W2.Write in
+    let on = devices g.D.Device g.R.Read g.W1.Write g.W2.Write g.R.Inlet.gave g.R.Inlet.refused g.W1.Outlet.took g.W1.Outlet.refused g.W2.Outlet.took g.W2.Outlet.refused in
     let last = c.run_out-outcome.new.session in
     let ran = c.run_out-outcome.ensures.run in
     let finishes = c.finish_with_module-valid.ensures.finishes in
@@ -18,6 +19,7 @@ returns-clause-counted g c =
       within = omega (arith, c.used-used.ensures, c.run_out-outcome.ensures.within);
       pages = c.pages-pages.ensures;
       broken = c.has_failed_stream-broken.ensures;
+      heard = heard_follow on ran.followed.0 c.args.session last ran.followed.1;
       resumes = ran.followed.0;
       follow = ran.followed.1;
       run = ran.run;

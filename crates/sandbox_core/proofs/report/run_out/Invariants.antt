@@ -13,9 +13,9 @@ invariant-running g l = record {
   going : outcome_of l.initial.session.machine ≡ None → outcome_of l.session.machine ≡ None;
   size : g.D.Device.size l.session.host.volume.device ≡ g.D.Device.size l.initial.session.host.volume.device;
   goes : GoesOn g.D.Device.goes_on l.initial.session.host.volume l.session.host.volume;
-  followed : Followed (devices g.D.Device g.R.Read g.W1.Write g.W2.Write) l.initial.session l.session l.tally;
-  so_far : SafeSoFar _ (Calls (devices g.D.Device g.R.Read g.W1.Write g.W2.Write))
-      (disk_of (devices g.D.Device g.R.Read g.W1.Write g.W2.Write))
+  followed : Followed (devices g.D.Device g.R.Read g.W1.Write g.W2.Write g.R.Inlet.gave g.R.Inlet.refused g.W1.Outlet.took g.W1.Outlet.refused g.W2.Outlet.took g.W2.Outlet.refused) l.initial.session l.session l.tally;
+  so_far : SafeSoFar _ (Calls (devices g.D.Device g.R.Read g.W1.Write g.W2.Write g.R.Inlet.gave g.R.Inlet.refused g.W1.Outlet.took g.W1.Outlet.refused g.W2.Outlet.took g.W2.Outlet.refused))
+      (disk_of (devices g.D.Device g.R.Read g.W1.Write g.W2.Write g.R.Inlet.gave g.R.Inlet.refused g.W1.Outlet.took g.W1.Outlet.refused g.W2.Outlet.took g.W2.Outlet.refused))
       numbers_of
       tree_of
       (λ h. g.D.Device.honest h.volume.device)

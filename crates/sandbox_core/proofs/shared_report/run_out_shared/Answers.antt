@@ -8,7 +8,7 @@ use Rattle.sandbox_core.proofs.shared_report.run_out_shared.Goals as goal
 -- nothing has run yet
 pub running-init : goal.running-init
 running-init g c =
-    let on = devices g.D.Device g.R.Read g.W1.Write g.W2.Write in
+    let on = devices g.D.Device g.R.Read g.W1.Write g.W2.Write g.R.Inlet.gave g.R.Inlet.refused g.W1.Outlet.took g.W1.Outlet.refused g.W2.Outlet.took g.W2.Outlet.refused in
     record {
       within = c.requires;
       going = λ running. running;
@@ -23,7 +23,7 @@ running-init g c =
 -- one answered call more
 pub running-preserved : goal.running-preserved
 running-preserved g c =
-    let on = devices g.D.Device g.R.Read g.W1.Write g.W2.Write in
+    let on = devices g.D.Device g.R.Read g.W1.Write g.W2.Write g.R.Inlet.gave g.R.Inlet.refused g.W1.Outlet.took g.W1.Outlet.refused g.W2.Outlet.took g.W2.Outlet.refused in
     let first = c.args.session.now in
     let old = c.running.session in
     let new = c.resume.new.self in
@@ -42,7 +42,7 @@ running-preserved g c =
 -- the fuel was used
 pub returns-in-Spent-clause-run : goal.returns-in-Spent-clause-run
 returns-in-Spent-clause-run g c =
-    let on = devices g.D.Device g.R.Read g.W1.Write g.W2.Write in
+    let on = devices g.D.Device g.R.Read g.W1.Write g.W2.Write g.R.Inlet.gave g.R.Inlet.refused g.W1.Outlet.took g.W1.Outlet.refused g.W2.Outlet.took g.W2.Outlet.refused in
     let first = c.args.session.now in
     let old = c.running.session in
     let new = c.resume.new.self in
@@ -56,7 +56,7 @@ returns-in-Spent-clause-run g c =
 -- the run ended
 pub returns-in-Ended-clause-run : goal.returns-in-Ended-clause-run
 returns-in-Ended-clause-run g c =
-    let on = devices g.D.Device g.R.Read g.W1.Write g.W2.Write in
+    let on = devices g.D.Device g.R.Read g.W1.Write g.W2.Write g.R.Inlet.gave g.R.Inlet.refused g.W1.Outlet.took g.W1.Outlet.refused g.W2.Outlet.took g.W2.Outlet.refused in
     let first = c.args.session.now in
     let old = c.running.session in
     let new = c.resume.new.self in

@@ -7,7 +7,7 @@ use Rattle.sandbox_core.proofs.slice.run_slice.Given as goal
 abbrev pub invariant-running : goal.invariant-running
 invariant-running g l = record {
   within : (g.S.Resumable.state l.session).machine.used ≤ l.until;
-  since : AnsweredSince (devices g.D.Device g.R.Read g.W1.Write g.W2.Write) (g.S.Resumable.state l.initial.session) (g.S.Resumable.state l.session) l.initial.tally l.tally;
+  since : AnsweredSince (devices g.D.Device g.R.Read g.W1.Write g.W2.Write g.R.Inlet.gave g.R.Inlet.refused g.W1.Outlet.took g.W1.Outlet.refused g.W2.Outlet.took g.W2.Outlet.refused) (g.S.Resumable.state l.initial.session) (g.S.Resumable.state l.session) l.initial.tally l.tally;
 }
 
 abbrev pub decreases-running : goal.decreases-running

@@ -2,6 +2,7 @@ use Rattle.std.proofs.Common.{inl, inr, refl, sym, ◌∙◌, ap, subst, Err}
 use Rattle.std.proofs.KnownBytes.{Keeps-refl}
 use Rattle.vol_sector.specs.Disk.{counted}
 use Rattle.vol_log.proofs.Moments.{leaves_quiet}
+use Rattle.stream_answers.specs.Hearing.{stays}
 use Rattle.vol_tree.specs.Stands.{StandsAs}
 use Rattle.volume_tasks.proofs.PastVolumes.{past_opened}
 use Rattle.volume_tasks.specs.Exporting.{PerformsExport, blames_export}
@@ -63,3 +64,9 @@ returns-in-Ok-clause-goes_on g c end past first from =
 
 pub returns-in-Err-clause-goes_on : goal.returns-in-Err-clause-goes_on
 returns-in-Err-clause-goes_on g c = c.in-Err.ensures.goes_on_err
+
+pub returns-in-Ok-clause-heard : goal.returns-in-Ok-clause-heard
+returns-in-Ok-clause-heard g c = c.print_directory-done.ensures.heard
+
+pub returns-in-Err-clause-heard : goal.returns-in-Err-clause-heard
+returns-in-Err-clause-heard g c = stays

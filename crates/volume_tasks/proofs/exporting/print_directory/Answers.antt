@@ -3,11 +3,15 @@ use Rattle.std.proofs.KnownBytes.{Keeps-refl}
 use Rattle.vol_tree.specs.Tree.{Tree}
 use Rattle.path_walk.proofs.Chaining.{asked_then}
 use Rattle.sandbox_words.specs.Request.{Text}
+use Rattle.stream_answers.specs.Hearing.{Moves, Refuses, stays}
+use Rattle.volume_archive.proofs.Blamed.{hears_none, hears_so}
+use Rattle.volume_archive.specs.Import.{is_stream}
 use Rattle.volume_archive.specs.Export.{Exports, ExportsPart, HasMisfit, RefusesExport}
 use Rattle.volume_tasks.specs.declared.exporting.ExportFailure.{ExportFailure}
 use Rattle.volume_tasks.specs.declared.exporting.ExportFailure.TheVariants.{Path, Stopped}
-use Rattle.volume_tasks.specs.Exporting.{PrintsDirectory, blames_export}
+use Rattle.volume_tasks.specs.Exporting.{PrintsDirectory, blames_export, blames_output}
 use Rattle.volume_tasks.proofs.Asking.{asked_on}
+use Rattle.volume_tasks.proofs.Blamed.{blame_export}
 use Rattle.volume_tasks.proofs.exporting.print_directory.Goals as goal
 
 -- what a refusal prints, where it goes on as an error
@@ -55,3 +59,19 @@ returns-in_err-export-clause-prints g c h =
       subst (λ (T : Tree). ExportsPart T directory a b) (named.asked.tree h) (c.in_err-export.ensures.part now),
       subst (λ (T : Tree). RefusesExport (HasMisfit T directory) why) (named.asked.tree h) (c.in_err-export.ensures.refused now),
     )
+
+-- ---- what the output refused
+
+pub returns-clause-heard : goal.returns-clause-heard
+returns-clause-heard g c = c.in_ok-export.ensures.heard
+
+pub returns-in_err-directory-clause-heard : goal.returns-in_err-directory-clause-heard
+returns-in_err-directory-clause-heard g c =
+    let r = c.from_residual.result in
+    hears_none (Moves g.W.Outlet.took) (Refuses g.W.Outlet.took g.W.Outlet.refused) (blames_output r) (blame_export r (Path c.in_err-directory.field-0.0) c.from_residual.ensures.1) _ _ stays
+
+pub returns-in_err-export-clause-heard : goal.returns-in_err-export-clause-heard
+returns-in_err-export-clause-heard g c =
+    let r = c.from_residual-in_err-export.result in
+    let why = c.in_err-export.field-0.0 in
+    hears_so (Moves g.W.Outlet.took) (Refuses g.W.Outlet.took g.W.Outlet.refused) (blames_output r) (is_stream why) (blame_export r (Stopped why) c.from_residual-in_err-export.ensures.1) _ _ _ stays c.in_err-export.ensures.heard

@@ -1,14 +1,17 @@
-use Rattle.std.proofs.Common.{false, List, ℕ, Ok, refl, inr, ap, subst, sym, ◌∙◌}
+use Rattle.std.proofs.Common.{false, true, List, ℕ, Ok, refl, inr, ap, subst, sym, ◌∙◌}
 use Rattle.std.specs.Io.KnownBytes.{Appends}
 use Rattle.std.proofs.KnownBytes.{Keeps-refl}
+use Rattle.stream_answers.specs.Hearing.{Moves, Refuses, stays}
 use Rattle.vol_tree.specs.Tree.{Tree, entry}
 use Rattle.volume_tasks.specs.Streams.{AppendsPart}
 use Rattle.volume_tasks.specs.Tasks.{facts_at, serial_named}
 use Rattle.volume_tasks.proofs.Described.{facts_told}
+use Rattle.volume_archive.proofs.Blamed.{hears_none, hears_so}
 use Rattle.volume_archive.proofs.Handed.{part_none}
+use Rattle.volume_tasks.proofs.Blamed.{blame}
 use Rattle.volume_tasks.proofs.Printed.{named_prints, stream_refused, tree_refused, walk_refused}
 use Rattle.path_walk.proofs.Chaining.{asked_then}
-use Rattle.volume_tasks.specs.Blame.{blames_device}
+use Rattle.volume_tasks.specs.Blame.{blames_device, blames_stream}
 use Rattle.volume_tasks.specs.declared.failure.Failure.TheVariants as failure
 use Rattle.volume_tasks.proofs.Asking.{asked_on}
 use Rattle.volume_tasks.proofs.printing.describe.Goals as goal
@@ -65,3 +68,23 @@ returns-in_err-stat-clause-asked g c =
     let told = c.in_err-stat.ensures in
     asked_on g.D.Device.honest g.D.Device.disk g.D.Device.size g.D.Device.failures g.D.Device.goes_on blames_device c.from_residual-in_err-stat.result (failure.Tree c.in_err-stat.field-0.0) c.from_residual-in_err-stat.ensures.1 c.args.volume.now c.stat.new.self
     (asked_then g.D.Device.honest g.D.Device.disk g.D.Device.size g.D.Device.failures g.D.Device.goes_on c.args.volume.now c.serial_named.new.volume c.stat.new.self _ c.in_ok-serial.ensures.asked (record { tree = λ h. (told.answer h).1; crash = told.crash; kept = told.kept; goes = told.goes_on }))
+
+-- ---- what the output refused
+
+pub returns-clause-heard : goal.returns-clause-heard
+returns-clause-heard g c = c.in_ok-print_facts.ensures.heard
+
+pub returns-in_err-serial-clause-heard : goal.returns-in_err-serial-clause-heard
+returns-in_err-serial-clause-heard g c =
+    hears_none (Moves g.W.Outlet.took) (Refuses g.W.Outlet.took g.W.Outlet.refused) (blames_stream c.from_residual.result)
+    (blame c.from_residual.result (failure.Tree c.in_err-serial.field-0.0) c.from_residual.ensures.1) _ _ stays
+
+pub returns-in_err-stat-clause-heard : goal.returns-in_err-stat-clause-heard
+returns-in_err-stat-clause-heard g c =
+    hears_none (Moves g.W.Outlet.took) (Refuses g.W.Outlet.took g.W.Outlet.refused) (blames_stream c.from_residual-in_err-stat.result)
+    (blame c.from_residual-in_err-stat.result (failure.Tree c.in_err-stat.field-0.0) c.from_residual-in_err-stat.ensures.1) _ _ stays
+
+pub returns-in_err-print_facts-clause-heard : goal.returns-in_err-print_facts-clause-heard
+returns-in_err-print_facts-clause-heard g c =
+    hears_so (Moves g.W.Outlet.took) (Refuses g.W.Outlet.took g.W.Outlet.refused) (blames_stream c.from_residual-in_err-print_facts.result) true
+    (blame c.from_residual-in_err-print_facts.result failure.Stream c.from_residual-in_err-print_facts.ensures.1) _ _ _ stays c.in_err-print_facts.ensures.heard

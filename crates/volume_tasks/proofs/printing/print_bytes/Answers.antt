@@ -1,14 +1,18 @@
-use Rattle.std.proofs.Common.{◌≡◌, ◌*◌, ◌++◌, ℕ, List, Ok, inr, length, take, drop, false, ap, subst, rules, arith}
+use Rattle.std.proofs.Common.{◌≡◌, ◌*◌, ◌++◌, ℕ, List, Ok, inr, length, take, drop, false, true, ap, subst, rules, arith}
 use Rattle.std.proofs.lemmas.Grind.{common_steps}
 use Rattle.vol_tree.specs.Tree.{Tree}
 use Rattle.vol_tree.specs.Calls.{bytes_at}
 use Rattle.path_walk.specs.Walk.{Asked}
 use Rattle.path_walk.proofs.Chaining.{asked_then}
+use Rattle.stream_answers.specs.Hearing.{Moves, Refuses, stays}
+use Rattle.stream_answers.proofs.Hearing.{then}
 use Rattle.volume_tasks.proofs.Asking.{asked_on, works_on}
+use Rattle.volume_tasks.proofs.Blamed.{blame}
+use Rattle.volume_archive.proofs.Blamed.{hears_none, hears_so}
 use Rattle.volume_archive.proofs.ReadPieces.{piece_broken, piece_printed, pieces_so_far}
 use Rattle.volume_tasks.proofs.Printed.{stream_refused, tree_refused}
 use Rattle.std.proofs.KnownBytes.{Keeps-refl}
-use Rattle.volume_tasks.specs.Blame.{blames_device}
+use Rattle.volume_tasks.specs.Blame.{blames_device, blames_stream}
 use Rattle.volume_tasks.specs.declared.failure.Failure.TheVariants as failure
 use Rattle.volume_archive.proofs.Handed.{part_none}
 use Rattle.volume_tasks.proofs.printing.print_bytes.Goals as goal
@@ -22,6 +26,7 @@ loop-n-preserved g c =
     record {
       working = works_on g.D.Device.honest g.D.Device.disk g.D.Device.size g.D.Device.failures g.D.Device.goes_on c.loop-n.volume c.read.new.self before.working step;
       asked = asked_then g.D.Device.honest g.D.Device.disk g.D.Device.size g.D.Device.failures g.D.Device.goes_on c.args.volume.now c.loop-n.volume c.read.new.self false before.asked step;
+      heard = then before.heard c.in_ok-print_all.ensures.heard;
       printed = λ h.
           let told = now.answer (before.asked.kept.honest.0 h) in
           let same : bytes_at c.loop-n.volume.tree c.args.file ≡ bytes_at c.args.volume.now.tree c.args.file = ap (λ (T : Tree). bytes_at T c.args.file) (before.asked.tree h) in
@@ -34,7 +39,12 @@ loop-n-preserved g c =
     }
 
 pub loop-n-init : goal.loop-n-init
-loop-n-init c = grind (arith, common_steps)
+loop-n-init g c = record {
+  working = grind (arith, common_steps);
+  asked = grind (arith, common_steps);
+  heard = stays;
+  printed = grind (arith, common_steps);
+}
 
 pub read-requires-clause-last : goal.read-requires-clause-last
 read-requires-clause-last c = grind (arith, common_steps)
@@ -89,3 +99,22 @@ returns-in_err-size-clause-prints g c h =
     let bytes = bytes_at c.args.volume.now.tree c.args.file in
     let out = g.W.Write.contents c.args.out.now in
     tree_refused (Ok bytes) out out c.in_err-size.field-0.0 c.from_residual.result (inr ((c.in_err-size.ensures.answer h).0, part_none out out bytes (Keeps-refl out))) c.from_residual.ensures.1
+
+-- ---- what the output refused
+
+pub returns-clause-heard : goal.returns-clause-heard
+returns-clause-heard g c = c.loop-n.invariant.heard
+
+pub returns-in_err-size-clause-heard : goal.returns-in_err-size-clause-heard
+returns-in_err-size-clause-heard g c =
+    hears_none (Moves g.W.Outlet.took) (Refuses g.W.Outlet.took g.W.Outlet.refused) (blames_stream c.from_residual.result) (blame c.from_residual.result (failure.Tree c.in_err-size.field-0.0) c.from_residual.ensures.1) _ _ stays
+
+pub returns-in_err-read-clause-heard : goal.returns-in_err-read-clause-heard
+returns-in_err-read-clause-heard g c =
+    hears_none (Moves g.W.Outlet.took) (Refuses g.W.Outlet.took g.W.Outlet.refused) (blames_stream c.from_residual-in_err-read.result)
+    (blame c.from_residual-in_err-read.result (failure.Tree c.in_err-read.field-0.0) c.from_residual-in_err-read.ensures.1) _ _ c.loop-n.invariant.heard
+
+pub returns-in_err-print_all-clause-heard : goal.returns-in_err-print_all-clause-heard
+returns-in_err-print_all-clause-heard g c =
+    hears_so (Moves g.W.Outlet.took) (Refuses g.W.Outlet.took g.W.Outlet.refused) (blames_stream c.from_residual-in_err-print_all.result) true
+    (blame c.from_residual-in_err-print_all.result failure.Stream c.from_residual-in_err-print_all.ensures.1) _ _ _ c.loop-n.invariant.heard c.in_err-print_all.ensures.heard

@@ -1,4 +1,4 @@
-use Rattle.std.proofs.Common.{◌≡◌, ◌++◌, ℕ, List, drop, false, ap, sym, subst, ◌∙◌, append_assoc, append-nil, refl, arith}
+use Rattle.std.proofs.Common.{◌≡◌, ◌++◌, ℕ, List, drop, false, true, ap, sym, subst, ◌∙◌, append_assoc, append-nil, refl, arith}
 use Rattle.std.specs.List.{flat_map}
 use Rattle.std.specs.Io.KnownBytes.{Appends}
 use Rattle.std.proofs.KnownBytes.{Appends-trans}
@@ -9,11 +9,17 @@ use Rattle.vol_tree.specs.Stat.{IsStat}
 use Rattle.vol_tree.specs.Calls.{next_child}
 use Rattle.path_walk.specs.Walk.{Asked}
 use Rattle.path_walk.proofs.Chaining.{asked_then}
+use Rattle.stream_answers.specs.Hearing.{Moves, Refuses, stays}
+use Rattle.stream_answers.proofs.Hearing.{then}
 use Rattle.volume_tasks.specs.Streams.{AppendsPart}
 use Rattle.volume_tasks.specs.Listing.{line_in, line_of, listing}
 use Rattle.volume_tasks.proofs.Asking.{works_on}
 use Rattle.volume_tasks.proofs.Listing.{next_child_is, no_child_left}
+use Rattle.volume_archive.proofs.Blamed.{hears_none, hears_so}
 use Rattle.volume_archive.proofs.Handed.{part_then}
+use Rattle.volume_tasks.specs.Blame.{blames_stream}
+use Rattle.volume_tasks.specs.declared.failure.Failure.TheVariants as failure
+use Rattle.volume_tasks.proofs.Blamed.{blame}
 use Rattle.volume_tasks.proofs.Printed.{stream_refused}
 use Rattle.volume_tasks.proofs.Texts.{line_told}
 use Rattle.volume_tasks.proofs.printing.print_entries.Goals as goal
@@ -29,6 +35,7 @@ loop-serial-preserved g c =
     record {
       working = works_on g.D.Device.honest g.D.Device.disk g.D.Device.size g.D.Device.failures g.D.Device.goes_on c.loop-serial.volume c.stat.new.self before.working two;
       asked = asked_then g.D.Device.honest g.D.Device.disk g.D.Device.size g.D.Device.failures g.D.Device.goes_on c.args.volume.now c.loop-serial.volume c.stat.new.self false before.asked two;
+      heard = then before.heard c.in_ok-print_entry.ensures.heard;
       printed = λ h.
           let T = c.args.volume.now.tree in
           let now : g.D.Device.honest c.loop-serial.volume.device = before.asked.kept.honest.0 h in
@@ -88,10 +95,35 @@ returns-clause-prints g c h =
     )
 
 pub loop-serial-init : goal.loop-serial-init
-loop-serial-init c = grind (arith, common_steps)
+loop-serial-init g c = record {
+  working = grind (arith, common_steps);
+  asked = grind (arith, common_steps);
+  heard = stays;
+  printed = grind (arith, common_steps);
+}
 
 pub loop-serial-smaller : goal.loop-serial-smaller
 loop-serial-smaller c = grind (arith, common_steps)
 
 pub returns-clause-asked : goal.returns-clause-asked
 returns-clause-asked c = grind (arith, common_steps)
+
+-- ---- what the output refused
+
+pub returns-clause-heard : goal.returns-clause-heard
+returns-clause-heard g c = c.loop-serial.invariant.heard
+
+pub returns-in_err-serial-clause-heard : goal.returns-in_err-serial-clause-heard
+returns-in_err-serial-clause-heard g c =
+    hears_none (Moves g.W.Outlet.took) (Refuses g.W.Outlet.took g.W.Outlet.refused) (blames_stream c.from_residual.result)
+    (blame c.from_residual.result (failure.Tree c.in_err-serial.field-0.0) c.from_residual.ensures.1) _ _ c.loop-serial.invariant.heard
+
+pub returns-in_err-stat-clause-heard : goal.returns-in_err-stat-clause-heard
+returns-in_err-stat-clause-heard g c =
+    hears_none (Moves g.W.Outlet.took) (Refuses g.W.Outlet.took g.W.Outlet.refused) (blames_stream c.from_residual-in_err-stat.result)
+    (blame c.from_residual-in_err-stat.result (failure.Tree c.in_err-stat.field-0.0) c.from_residual-in_err-stat.ensures.1) _ _ c.loop-serial.invariant.heard
+
+pub returns-in_err-print_entry-clause-heard : goal.returns-in_err-print_entry-clause-heard
+returns-in_err-print_entry-clause-heard g c =
+    hears_so (Moves g.W.Outlet.took) (Refuses g.W.Outlet.took g.W.Outlet.refused) (blames_stream c.from_residual-in_err-print_entry.result) true
+    (blame c.from_residual-in_err-print_entry.result failure.Stream c.from_residual-in_err-print_entry.ensures.1) _ _ _ c.loop-serial.invariant.heard c.in_err-print_entry.ensures.heard

@@ -8,7 +8,7 @@ use Rattle.sandbox_words.specs.declared.request.Task.{Task}
 use Rattle.volume_tasks.specs.Tasks.{ReflectsAny, IsPartOfPut}
 use Rattle.volume_tasks.specs.Changes.{IsPartOfChange}
 use Rattle.volume_tasks.specs.Replacing.{IsPartOfWhole, path_beside}
-use Rattle.volume_tasks.specs.Doing.{IsPartOf, IsRaised, version_after, reads_input}
+use Rattle.volume_tasks.specs.Doing.{IsPartOf, IsRaised, version_after, prints, reads_input}
 use Rattle.volume_archive.proofs.Moments.{leaves_more}
 use Rattle.volume_tasks.proofs.Beginning.{upgrade_any}
 use Rattle.stream_answers.specs.Hearing.{Moves}
@@ -106,3 +106,35 @@ returns-in-Put-clause-heard g c is = exactly (Moves g.R.Inlet.gave) g.R.Inlet.re
 
 pub returns-in-PutWhole-clause-heard : goal.returns-in-PutWhole-clause-heard
 returns-in-PutWhole-clause-heard g c is = c.put_whole.ensures.heard
+
+-- ---- what the output refused
+
+pub returns-in-Get-clause-printed : goal.returns-in-Get-clause-printed
+returns-in-Get-clause-printed g c is = c.get.ensures.heard
+
+pub returns-in-List-clause-printed : goal.returns-in-List-clause-printed
+returns-in-List-clause-printed g c is = c.list.ensures.heard
+
+pub returns-in-ListAs-clause-printed : goal.returns-in-ListAs-clause-printed
+returns-in-ListAs-clause-printed g c is = c.list-in-ListAs.ensures.heard
+
+pub returns-in-Put-clause-printed : goal.returns-in-Put-clause-printed
+returns-in-Put-clause-printed g c is = absurd (false≢true (sym (ap prints c.in-Put.is) ∙ is))
+
+pub returns-in-PutWhole-clause-printed : goal.returns-in-PutWhole-clause-printed
+returns-in-PutWhole-clause-printed g c is = absurd (false≢true (sym (ap prints c.in-PutWhole.is) ∙ is))
+
+pub returns-in-Check-clause-printed : goal.returns-in-Check-clause-printed
+returns-in-Check-clause-printed g c is = c.check.ensures.heard
+
+pub returns-in-Stat-clause-printed : goal.returns-in-Stat-clause-printed
+returns-in-Stat-clause-printed g c is = c.describe.ensures.heard
+
+pub returns-in-Change-clause-printed : goal.returns-in-Change-clause-printed
+returns-in-Change-clause-printed g c is = absurd (false≢true (sym (ap prints c.in-Change.is) ∙ is))
+
+pub returns-in_err-upgrade-in-Upgrade-clause-printed : goal.returns-in_err-upgrade-in-Upgrade-clause-printed
+returns-in_err-upgrade-in-Upgrade-clause-printed g c is = absurd (false≢true (sym (ap prints c.in-Upgrade.is) ∙ is))
+
+pub returns-in_ok-upgrade-in-Upgrade-clause-printed : goal.returns-in_ok-upgrade-in-Upgrade-clause-printed
+returns-in_ok-upgrade-in-Upgrade-clause-printed g c is = absurd (false≢true (sym (ap prints c.in-Upgrade.is) ∙ is))

@@ -85,3 +85,9 @@ returns-in-Ok-clause-heard g c = c.done_with-done.ensures.heard
 
 pub returns-in-Err-clause-heard : goal.returns-in-Err-clause-heard
 returns-in-Err-clause-heard g c reads = unblamed (Moves g.R.Inlet.gave) g.R.Inlet.refused _ refl _ _ stays
+
+pub returns-in-Ok-clause-printed : goal.returns-in-Ok-clause-printed
+returns-in-Ok-clause-printed g c = c.done_with-done.ensures.printed
+
+pub returns-in-Err-clause-printed : goal.returns-in-Err-clause-printed
+returns-in-Err-clause-printed g c prints = stays

@@ -1,5 +1,6 @@
 use Rattle.wasi_calls.proofs.runs.HostLaws.{are_rows}
+use Rattle.wasi_calls.specs.host.Worlds.{hearing}
 use Rattle.wasi_calls.proofs.laws.host_calls_are_rows.Goals as goal
 
 pub returns : goal.returns
-returns g c = are_rows g.D.Device.honest g.D.Device.disk g.D.Device.size g.D.Device.failures g.D.Device.goes_on g.R.Read.remaining g.W1.Write.contents g.W2.Write.contents
+returns g c = are_rows g.D.Device.honest g.D.Device.disk g.D.Device.size g.D.Device.failures g.D.Device.goes_on g.R.Read.remaining g.W1.Write.contents g.W2.Write.contents (hearing g.R.Inlet.gave g.R.Inlet.refused g.W1.Outlet.took g.W1.Outlet.refused g.W2.Outlet.took g.W2.Outlet.refused)

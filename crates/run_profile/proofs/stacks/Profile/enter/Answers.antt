@@ -1,5 +1,5 @@
 use Rattle.std.proofs.Common.{refl, ◌∙◌, ◌-◌, length}
-use Rattle.run_profile.proofs.Trees.{grows_none, grows_on, at_bottom, further, keeps_stack, cut_grows, cut_node}
+use Rattle.run_profile.proofs.Trees.{grows_none, grows_on, at_bottom, further, keeps_stack, cut_grows, cut_node, still_there}
 use Rattle.run_profile.proofs.stacks.Profile.enter.Goals as goal
 
 -- no function yet
@@ -20,3 +20,6 @@ pub returns-in-None-clause-node : goal.returns-in-None-clause-node
 returns-in-None-clause-node c =
     cut_node c.called.new.self c.cut.new.self c.args.functions.now c.loop-depth.node (length c.args.functions.now - c.loop-depth.depth) c.cut.ensures
     (keeps_stack _ _ c.in-None.ensures.grows _ _ c.loop-depth.invariant.2)
+
+pub returns-in-None-clause-there : goal.returns-in-None-clause-there
+returns-in-None-clause-there c = still_there c.loop-depth.self c.called.new.self c.cut.new.self c.loop-depth.node c.in-None.ensures.grows c.cut.ensures c.loop-depth.invariant.1

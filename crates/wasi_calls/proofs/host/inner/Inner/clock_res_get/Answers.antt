@@ -1,7 +1,7 @@
 use Rattle.std.proofs.Common.{refl, sym}
 use Rattle.wasi_fd.specs.Table.{table_of}
 use Rattle.wasm_store.specs.declared.call.HostCall.TheVariants as call
-use Rattle.wasi_calls.specs.host.Worlds.{world_of}
+use Rattle.wasi_calls.specs.host.Worlds.{world_of, hearing}
 use Rattle.wasi_calls.specs.internal.Bodies.{state_of}
 use Rattle.wasi_calls.specs.supplies.Rows.{clock_res_get}
 use Rattle.wasi_calls.proofs.bodies.PlainCalls.{no_more, serves_plain}
@@ -11,7 +11,7 @@ pub returns : goal.returns
 returns g c = λ used.
     let s = c.args.self.now in
     let m = c.args.memory.now in
-    serves_plain g.D.Device.honest g.D.Device.disk g.D.Device.size g.D.Device.failures g.D.Device.goes_on g.R.Read.remaining g.W1.Write.contents g.W2.Write.contents
+    serves_plain g.D.Device.honest g.D.Device.disk g.D.Device.size g.D.Device.failures g.D.Device.goes_on g.R.Read.remaining g.W1.Write.contents g.W2.Write.contents (hearing g.R.Inlet.gave g.R.Inlet.refused g.W1.Outlet.took g.W1.Outlet.refused g.W2.Outlet.took g.W2.Outlet.refused)
     call.ClockResGet used c.args.arguments.now _ s s.descriptors s.settings m _ _ (λ o. refl) c.requires c.requires.settings refl (no_more (table_of s.descriptors))
     (λ b i. clock_res_get (world_of (state_of s) b) m (sym c.word-id.ensures i) (sym c.word-result_at.ensures i))
     (λ b. c.clock_res_get.ensures (world_of (state_of s) b))

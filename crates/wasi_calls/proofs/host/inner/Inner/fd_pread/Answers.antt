@@ -7,7 +7,7 @@ use Rattle.wasi_calls.proofs.checks.NoneAnswers29.{entry_never}
 use Rattle.wasi_calls.specs.Checks.{entry_at, only_files}
 use Rattle.wasi_calls.specs.files.Rows.{fd_pread}
 use Rattle.wasi_calls.specs.Calls.{row}
-use Rattle.wasi_calls.specs.host.Worlds.{world_of}
+use Rattle.wasi_calls.specs.host.Worlds.{world_of, hearing}
 use Rattle.wasi_calls.specs.internal.Bodies.{state_of, errno_of}
 use Rattle.wasi_calls.specs.internal.checks.Buffers.{list_of}
 use Rattle.wasi_calls.specs.internal.files.Reading.{read_into}
@@ -23,7 +23,7 @@ returns-in-Err g c = λ used.
     let m = c.args.memory.now in
     let q = c.new-request.result in
     let asked = c.new-request.ensures in
-    refused_check g.D.Device.honest g.D.Device.disk g.D.Device.size g.D.Device.failures g.D.Device.goes_on g.R.Read.remaining g.W1.Write.contents g.W2.Write.contents
+    refused_check g.D.Device.honest g.D.Device.disk g.D.Device.size g.D.Device.failures g.D.Device.goes_on g.R.Read.remaining g.W1.Write.contents g.W2.Write.contents (hearing g.R.Inlet.gave g.R.Inlet.refused g.W1.Outlet.took g.W1.Outlet.refused g.W2.Outlet.took g.W2.Outlet.refused)
     call.FdPread used c.args.arguments.now c.args.self.now c.requires.set_up m q (λ w. entry_at w q.fd only_files (2 ^ 1 + 2 ^ 2)) (λ w o bs. read_into w o c.long-offset.result bs q.result_at)
     (λ w i. fd_pread w m (sym asked.fd i) (sym asked.iovs i) (sym asked.count i) (sym c.long-offset.ensures i) (sym asked.result_at i))
     _ (entry_never q.fd takes.Files (2 ^ 1 + 2 ^ 2)) c.in-Err.ensures
@@ -33,7 +33,7 @@ returns-in-Err-find_buffers g c = λ used.
     let m = c.args.memory.now in
     let q = c.new-request.result in
     let asked = c.new-request.ensures in
-    refused_buffers g.D.Device.honest g.D.Device.disk g.D.Device.size g.D.Device.failures g.D.Device.goes_on g.R.Read.remaining g.W1.Write.contents g.W2.Write.contents
+    refused_buffers g.D.Device.honest g.D.Device.disk g.D.Device.size g.D.Device.failures g.D.Device.goes_on g.R.Read.remaining g.W1.Write.contents g.W2.Write.contents (hearing g.R.Inlet.gave g.R.Inlet.refused g.W1.Outlet.took g.W1.Outlet.refused g.W2.Outlet.took g.W2.Outlet.refused)
     call.FdPread used c.args.arguments.now c.args.self.now c.requires.set_up m q (λ w. entry_at w q.fd only_files (2 ^ 1 + 2 ^ 2)) (λ w o bs. read_into w o c.long-offset.result bs q.result_at)
     (λ w i. fd_pread w m (sym asked.fd i) (sym asked.iovs i) (sym asked.count i) (sym c.long-offset.ensures i) (sym asked.result_at i))
     c.in-Ok.opened c.in-Ok.ensures c.find_buffers.new.room _ c.find_buffers.ensures.place c.in-Err-find_buffers.ensures.found
@@ -57,12 +57,12 @@ returns g c = λ used.
     let o = c.in-Ok.opened in
     let offset = c.long-offset.result in
     let bs = list_of c.as_mut_slice-room.result.now in
-    let same = after_buffers g.D.Device.honest g.D.Device.disk g.D.Device.size g.D.Device.failures g.D.Device.goes_on g.R.Read.remaining g.W1.Write.contents g.W2.Write.contents
+    let same = after_buffers g.D.Device.honest g.D.Device.disk g.D.Device.size g.D.Device.failures g.D.Device.goes_on g.R.Read.remaining g.W1.Write.contents g.W2.Write.contents (hearing g.R.Inlet.gave g.R.Inlet.refused g.W1.Outlet.took g.W1.Outlet.refused g.W2.Outlet.took g.W2.Outlet.refused)
     call.FdPread used a s c.requires.set_up m q (λ w. entry_at w q.fd only_files (2 ^ 1 + 2 ^ 2)) (λ w o bs. read_into w o offset bs q.result_at)
     (λ w i. fd_pread w m (sym asked.fd i) (sym asked.iovs i) (sym asked.count i) (sym c.long-offset.ensures i) (sym asked.result_at i))
     o c.in-Ok.ensures c.find_buffers.new.room.items _ c.as_mut_slice-room.ensures.value c.in_default.ensures.found in
     let new = record s { volume = c.read_placed.new.volume; buffers = with_items c.find_buffers.new.room c.read_placed.new.buffers } in
-    serves_roomy g.D.Device.honest g.D.Device.disk g.D.Device.size g.D.Device.failures g.D.Device.goes_on g.R.Read.remaining g.W1.Write.contents g.W2.Write.contents
+    serves_roomy g.D.Device.honest g.D.Device.disk g.D.Device.size g.D.Device.failures g.D.Device.goes_on g.R.Read.remaining g.W1.Write.contents g.W2.Write.contents (hearing g.R.Inlet.gave g.R.Inlet.refused g.W1.Outlet.took g.W1.Outlet.refused g.W2.Outlet.took g.W2.Outlet.refused)
     call.FdPread used a s new m c.read_placed.new.memory (errno_of c.read_placed.result) c.read_placed.ensures.io c.requires.set_up c.find_buffers.ensures.place c.requires.set_up.piece refl
     c.read_placed.ensures.step (no_more (table_of s.descriptors))
     (λ h b.

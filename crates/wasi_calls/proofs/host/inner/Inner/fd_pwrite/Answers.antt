@@ -6,7 +6,7 @@ use Rattle.wasi_calls.proofs.checks.NoneAnswers29.{entry_never}
 use Rattle.wasi_calls.specs.Checks.{entry_at, only_files, gathered}
 use Rattle.wasi_calls.specs.files.Rows.{fd_pwrite}
 use Rattle.wasi_calls.specs.Calls.{row}
-use Rattle.wasi_calls.specs.host.Worlds.{world_of}
+use Rattle.wasi_calls.specs.host.Worlds.{world_of, hearing}
 use Rattle.wasi_calls.specs.internal.Bodies.{state_of, errno_of}
 use Rattle.wasi_calls.specs.internal.checks.Buffers.{list_of}
 use Rattle.wasi_calls.specs.internal.files.Writing.{written_at_offset}
@@ -22,7 +22,7 @@ returns-in-Err g c = λ used.
     let m = c.args.memory.now in
     let q = c.new-request.result in
     let asked = c.new-request.ensures in
-    refused_check g.D.Device.honest g.D.Device.disk g.D.Device.size g.D.Device.failures g.D.Device.goes_on g.R.Read.remaining g.W1.Write.contents g.W2.Write.contents
+    refused_check g.D.Device.honest g.D.Device.disk g.D.Device.size g.D.Device.failures g.D.Device.goes_on g.R.Read.remaining g.W1.Write.contents g.W2.Write.contents (hearing g.R.Inlet.gave g.R.Inlet.refused g.W1.Outlet.took g.W1.Outlet.refused g.W2.Outlet.took g.W2.Outlet.refused)
     call.FdPwrite used c.args.arguments.now c.args.self.now c.requires.set_up m q (λ w. entry_at w q.fd only_files (2 ^ 6 + 2 ^ 2)) (λ w o bs. written_at_offset w o c.long-offset.result (gathered m bs) q.result_at)
     (λ w i. fd_pwrite w m (sym asked.fd i) (sym asked.iovs i) (sym asked.count i) (sym c.long-offset.ensures i) (sym asked.result_at i))
     _ (entry_never q.fd takes.Files (2 ^ 6 + 2 ^ 2)) c.in-Err.ensures
@@ -32,7 +32,7 @@ returns-in-Err-find_buffers g c = λ used.
     let m = c.args.memory.now in
     let q = c.new-request.result in
     let asked = c.new-request.ensures in
-    refused_buffers g.D.Device.honest g.D.Device.disk g.D.Device.size g.D.Device.failures g.D.Device.goes_on g.R.Read.remaining g.W1.Write.contents g.W2.Write.contents
+    refused_buffers g.D.Device.honest g.D.Device.disk g.D.Device.size g.D.Device.failures g.D.Device.goes_on g.R.Read.remaining g.W1.Write.contents g.W2.Write.contents (hearing g.R.Inlet.gave g.R.Inlet.refused g.W1.Outlet.took g.W1.Outlet.refused g.W2.Outlet.took g.W2.Outlet.refused)
     call.FdPwrite used c.args.arguments.now c.args.self.now c.requires.set_up m q (λ w. entry_at w q.fd only_files (2 ^ 6 + 2 ^ 2)) (λ w o bs. written_at_offset w o c.long-offset.result (gathered m bs) q.result_at)
     (λ w i. fd_pwrite w m (sym asked.fd i) (sym asked.iovs i) (sym asked.count i) (sym c.long-offset.ensures i) (sym asked.result_at i))
     c.in-Ok.opened c.in-Ok.ensures c.find_buffers.new.room _ c.find_buffers.ensures.place c.in-Err-find_buffers.ensures.found
@@ -56,12 +56,12 @@ returns g c = λ used.
     let o = c.in-Ok.opened in
     let offset = c.long-offset.result in
     let bs = list_of c.as_slice-buffers.result.now in
-    let same = after_buffers g.D.Device.honest g.D.Device.disk g.D.Device.size g.D.Device.failures g.D.Device.goes_on g.R.Read.remaining g.W1.Write.contents g.W2.Write.contents
+    let same = after_buffers g.D.Device.honest g.D.Device.disk g.D.Device.size g.D.Device.failures g.D.Device.goes_on g.R.Read.remaining g.W1.Write.contents g.W2.Write.contents (hearing g.R.Inlet.gave g.R.Inlet.refused g.W1.Outlet.took g.W1.Outlet.refused g.W2.Outlet.took g.W2.Outlet.refused)
     call.FdPwrite used a s c.requires.set_up m q (λ w. entry_at w q.fd only_files (2 ^ 6 + 2 ^ 2)) (λ w o bs. written_at_offset w o offset (gathered m bs) q.result_at)
     (λ w i. fd_pwrite w m (sym asked.fd i) (sym asked.iovs i) (sym asked.count i) (sym c.long-offset.ensures i) (sym asked.result_at i))
     o c.in-Ok.ensures c.find_buffers.new.room.items _ c.as_slice-buffers.ensures.value c.in_default.ensures.found in
     let new = record s { volume = c.write_at.new.volume; buffers = c.find_buffers.new.room } in
-    serves_roomy g.D.Device.honest g.D.Device.disk g.D.Device.size g.D.Device.failures g.D.Device.goes_on g.R.Read.remaining g.W1.Write.contents g.W2.Write.contents
+    serves_roomy g.D.Device.honest g.D.Device.disk g.D.Device.size g.D.Device.failures g.D.Device.goes_on g.R.Read.remaining g.W1.Write.contents g.W2.Write.contents (hearing g.R.Inlet.gave g.R.Inlet.refused g.W1.Outlet.took g.W1.Outlet.refused g.W2.Outlet.took g.W2.Outlet.refused)
     call.FdPwrite used a s new m c.write_at.new.memory (errno_of c.write_at.result) c.write_at.ensures.io c.requires.set_up c.find_buffers.ensures.place c.requires.set_up.piece refl
     c.write_at.ensures.step (no_more (table_of s.descriptors))
     (λ h b.

@@ -10,7 +10,7 @@ use Rattle.wasi_calls.proofs.checks.NoneAnswers29.{descriptor_never}
 use Rattle.wasi_calls.specs.Checks.{descriptor, no_directories}
 use Rattle.wasi_calls.specs.files.Rows.{fd_read}
 use Rattle.wasi_calls.specs.Calls.{word, is_entry, row}
-use Rattle.wasi_calls.specs.host.Worlds.{world_of}
+use Rattle.wasi_calls.specs.host.Worlds.{world_of, hearing}
 use Rattle.wasi_calls.specs.internal.Bodies.{state_of, errno_of}
 use Rattle.wasi_calls.specs.internal.checks.Buffers.{list_of}
 use Rattle.wasi_calls.specs.internal.streams.Inputs.{read_to}
@@ -27,7 +27,7 @@ returns-in-Err g c = λ used.
     let m = c.args.memory.now in
     let q = c.new-request.result in
     let asked = c.new-request.ensures in
-    refused_check g.D.Device.honest g.D.Device.disk g.D.Device.size g.D.Device.failures g.D.Device.goes_on g.R.Read.remaining g.W1.Write.contents g.W2.Write.contents
+    refused_check g.D.Device.honest g.D.Device.disk g.D.Device.size g.D.Device.failures g.D.Device.goes_on g.R.Read.remaining g.W1.Write.contents g.W2.Write.contents (hearing g.R.Inlet.gave g.R.Inlet.refused g.W1.Outlet.took g.W1.Outlet.refused g.W2.Outlet.took g.W2.Outlet.refused)
     call.FdRead used c.args.arguments.now c.args.self.now c.requires.set_up m q (λ w. descriptor w q.fd no_directories (2 ^ 1)) (λ w d bs. read_to w q.fd d bs q.result_at)
     (λ w i. fd_read w m (sym asked.fd i) (sym asked.iovs i) (sym asked.count i) (sym asked.result_at i))
     _ (descriptor_never q.fd takes.NoDirectories (2 ^ 1)) c.in-Err.ensures
@@ -37,7 +37,7 @@ returns-in-Err-find_buffers g c = λ used.
     let m = c.args.memory.now in
     let q = c.new-request.result in
     let asked = c.new-request.ensures in
-    refused_buffers g.D.Device.honest g.D.Device.disk g.D.Device.size g.D.Device.failures g.D.Device.goes_on g.R.Read.remaining g.W1.Write.contents g.W2.Write.contents
+    refused_buffers g.D.Device.honest g.D.Device.disk g.D.Device.size g.D.Device.failures g.D.Device.goes_on g.R.Read.remaining g.W1.Write.contents g.W2.Write.contents (hearing g.R.Inlet.gave g.R.Inlet.refused g.W1.Outlet.took g.W1.Outlet.refused g.W2.Outlet.took g.W2.Outlet.refused)
     call.FdRead used c.args.arguments.now c.args.self.now c.requires.set_up m q (λ w. descriptor w q.fd no_directories (2 ^ 1)) (λ w d bs. read_to w q.fd d bs q.result_at)
     (λ w i. fd_read w m (sym asked.fd i) (sym asked.iovs i) (sym asked.count i) (sym asked.result_at i))
     c.in-Ok.target c.in-Ok.ensures c.find_buffers.new.room _ c.find_buffers.ensures.place c.in-Err-find_buffers.ensures.found
@@ -70,7 +70,7 @@ returns-in-Stream-Input g c = λ used.
     let one : c.in-Stream-Input.field-0 ≡ Input = rw c.in-Stream-Input.is at c.in-Stream-Input.field-0-is in
     let is : c.in-Ok.target ≡ Stream Input = c.in-Stream-Input.is ∙ ap Stream one in
     let bs = list_of c.as_slice-buffers.result.now in
-    let same = after_buffers g.D.Device.honest g.D.Device.disk g.D.Device.size g.D.Device.failures g.D.Device.goes_on g.R.Read.remaining g.W1.Write.contents g.W2.Write.contents
+    let same = after_buffers g.D.Device.honest g.D.Device.disk g.D.Device.size g.D.Device.failures g.D.Device.goes_on g.R.Read.remaining g.W1.Write.contents g.W2.Write.contents (hearing g.R.Inlet.gave g.R.Inlet.refused g.W1.Outlet.took g.W1.Outlet.refused g.W2.Outlet.took g.W2.Outlet.refused)
     call.FdRead used c.args.arguments.now s c.requires.set_up m q (λ w. descriptor w q.fd no_directories (2 ^ 1)) (λ w d bs. read_to w q.fd d bs q.result_at)
     (λ w i. fd_read w m (sym asked.fd i) (sym asked.iovs i) (sym asked.count i) (sym asked.result_at i))
     (Stream Input) (λ w table. c.in-Ok.ensures w table ∙ ap Ok is) c.find_buffers.new.room.items _ c.as_slice-buffers.ensures.value c.in_default.ensures.found in
@@ -81,8 +81,9 @@ returns-in-Stream-Input g c = λ used.
     } in
     let told = c.read_stream.ensures in
     let short = c.is_some-short.ensures in
-    served_in g.D.Device.honest g.D.Device.disk g.D.Device.size g.D.Device.failures g.D.Device.goes_on g.R.Read.remaining g.W1.Write.contents g.W2.Write.contents
+    served_in g.D.Device.honest g.D.Device.disk g.D.Device.size g.D.Device.failures g.D.Device.goes_on g.R.Read.remaining g.W1.Write.contents g.W2.Write.contents (hearing g.R.Inlet.gave g.R.Inlet.refused g.W1.Outlet.took g.W1.Outlet.refused g.W2.Outlet.took g.W2.Outlet.refused)
     call.FdRead used c.args.arguments.now s new m c.read_stream.new.memory q.fd bs q.result_at c.requires.set_up c.find_buffers.ensures.place c.fill_up.ensures.place told.end refl same (λ is. inr is)
+    (λ failed. (told.idle failed).0, told.heard)
     c.read_stream.result (λ failed. let rests = told.idle failed in (rests.0, rests.1)) (rw short at told.took) (rw short at told.broke) told.answer
 
 pub returns-in-Stream-Output : goal.returns-in-Stream-Output
@@ -108,7 +109,7 @@ returns-in-Entry g c = λ used.
     ap (table_of s.descriptors) (sym asked.fd) ∙ (at_descriptor (table_of s.descriptors) q.fd no_directories (2 ^ 1) c.in-Ok.target c.in-Ok.ensures ∙ ap Some is) in
     let reaches : IsTrue (is_entry (table_of s.descriptors (word a 0))) = subst (λ (d : Option Descriptor). IsTrue (is_entry d)) (sym open_there) refl in
     let bs = list_of c.as_mut_slice-room.result.now in
-    let same = after_buffers g.D.Device.honest g.D.Device.disk g.D.Device.size g.D.Device.failures g.D.Device.goes_on g.R.Read.remaining g.W1.Write.contents g.W2.Write.contents
+    let same = after_buffers g.D.Device.honest g.D.Device.disk g.D.Device.size g.D.Device.failures g.D.Device.goes_on g.R.Read.remaining g.W1.Write.contents g.W2.Write.contents (hearing g.R.Inlet.gave g.R.Inlet.refused g.W1.Outlet.took g.W1.Outlet.refused g.W2.Outlet.took g.W2.Outlet.refused)
     call.FdRead used a s c.requires.set_up m q (λ w. descriptor w q.fd no_directories (2 ^ 1)) (λ w d bs. read_to w q.fd d bs q.result_at)
     (λ w i. fd_read w m (sym asked.fd i) (sym asked.iovs i) (sym asked.count i) (sym asked.result_at i))
     (Entry o) (λ w table. c.in-Ok.ensures w table ∙ ap Ok is) c.find_buffers.new.room.items _ c.as_mut_slice-room.ensures.value c.in_default.ensures.found in
@@ -117,7 +118,7 @@ returns-in-Entry g c = λ used.
       descriptors = c.read_file.new.descriptors;
       buffers = with_items c.find_buffers.new.room c.read_file.new.buffers;
     } in
-    serves_roomy g.D.Device.honest g.D.Device.disk g.D.Device.size g.D.Device.failures g.D.Device.goes_on g.R.Read.remaining g.W1.Write.contents g.W2.Write.contents
+    serves_roomy g.D.Device.honest g.D.Device.disk g.D.Device.size g.D.Device.failures g.D.Device.goes_on g.R.Read.remaining g.W1.Write.contents g.W2.Write.contents (hearing g.R.Inlet.gave g.R.Inlet.refused g.W1.Outlet.took g.W1.Outlet.refused g.W2.Outlet.took g.W2.Outlet.refused)
     call.FdRead used a s new m c.read_file.new.memory (errno_of c.read_file.result) (λ is. inl (c.read_file.ensures.io is)) c.requires.set_up c.find_buffers.ensures.place c.requires.set_up.piece refl
     c.read_file.ensures.step c.read_file.ensures.entries
     (λ h b.

@@ -9,7 +9,7 @@ use Rattle.wasi_calls.proofs.checks.NoneAnswers29.{descriptor_never}
 use Rattle.wasi_calls.specs.Checks.{descriptor, no_directories, gathered}
 use Rattle.wasi_calls.specs.files.Rows.{fd_write}
 use Rattle.wasi_calls.specs.Calls.{word, is_entry, row}
-use Rattle.wasi_calls.specs.host.Worlds.{world_of}
+use Rattle.wasi_calls.specs.host.Worlds.{world_of, hearing}
 use Rattle.wasi_calls.specs.internal.Bodies.{state_of, errno_of}
 use Rattle.wasi_calls.specs.internal.checks.Buffers.{list_of}
 use Rattle.wasi_calls.specs.internal.files.Writing.{written_to}
@@ -19,6 +19,7 @@ use Rattle.wasi_calls.proofs.bodies.BufferCalls.{after_buffers, lacks_right, ref
 use Rattle.wasi_calls.proofs.descriptors.MovingCalls.{serves_roomy}
 use Rattle.wasi_calls.proofs.streams.OutputCalls.{err_takes, out_takes, served}
 use Rattle.wasi_calls.proofs.checks.AfterBuffers.{answered_so}
+use Rattle.wasi_calls.proofs.bodies.StreamsHeard.{input_unheard, output_unheard}
 use Rattle.wasi_calls.proofs.host.inner.Inner.fd_write.Goals as goal
 
 pub returns-in-Err : goal.returns-in-Err
@@ -26,7 +27,7 @@ returns-in-Err g c = λ used.
     let m = c.args.memory.now in
     let q = c.new-request.result in
     let asked = c.new-request.ensures in
-    refused_check g.D.Device.honest g.D.Device.disk g.D.Device.size g.D.Device.failures g.D.Device.goes_on g.R.Read.remaining g.W1.Write.contents g.W2.Write.contents
+    refused_check g.D.Device.honest g.D.Device.disk g.D.Device.size g.D.Device.failures g.D.Device.goes_on g.R.Read.remaining g.W1.Write.contents g.W2.Write.contents (hearing g.R.Inlet.gave g.R.Inlet.refused g.W1.Outlet.took g.W1.Outlet.refused g.W2.Outlet.took g.W2.Outlet.refused)
     call.FdWrite used c.args.arguments.now c.args.self.now c.requires.set_up m q (λ w. descriptor w q.fd no_directories (2 ^ 6)) (λ w d bs. written_to w q.fd d (gathered m bs) q.result_at)
     (λ w i. fd_write w m (sym asked.fd i) (sym asked.iovs i) (sym asked.count i) (sym asked.result_at i))
     _ (descriptor_never q.fd takes.NoDirectories (2 ^ 6)) c.in-Err.ensures
@@ -36,7 +37,7 @@ returns-in-Err-find_buffers g c = λ used.
     let m = c.args.memory.now in
     let q = c.new-request.result in
     let asked = c.new-request.ensures in
-    refused_buffers g.D.Device.honest g.D.Device.disk g.D.Device.size g.D.Device.failures g.D.Device.goes_on g.R.Read.remaining g.W1.Write.contents g.W2.Write.contents
+    refused_buffers g.D.Device.honest g.D.Device.disk g.D.Device.size g.D.Device.failures g.D.Device.goes_on g.R.Read.remaining g.W1.Write.contents g.W2.Write.contents (hearing g.R.Inlet.gave g.R.Inlet.refused g.W1.Outlet.took g.W1.Outlet.refused g.W2.Outlet.took g.W2.Outlet.refused)
     call.FdWrite used c.args.arguments.now c.args.self.now c.requires.set_up m q (λ w. descriptor w q.fd no_directories (2 ^ 6)) (λ w d bs. written_to w q.fd d (gathered m bs) q.result_at)
     (λ w i. fd_write w m (sym asked.fd i) (sym asked.iovs i) (sym asked.count i) (sym asked.result_at i))
     c.in-Ok.target c.in-Ok.ensures c.find_buffers.new.room _ c.find_buffers.ensures.place c.in-Err-find_buffers.ensures.found
@@ -79,14 +80,16 @@ returns-in-Stream-Output g c = λ used.
     let one : c.in-Stream-Output.field-0 ≡ Output = rw c.in-Stream-Output.is at c.in-Stream-Output.field-0-is in
     let is : c.in-Ok.target ≡ Stream Output = c.in-Stream-Output.is ∙ ap Stream one in
     let bs = list_of c.as_slice-buffers.result.now in
-    let same = after_buffers g.D.Device.honest g.D.Device.disk g.D.Device.size g.D.Device.failures g.D.Device.goes_on g.R.Read.remaining g.W1.Write.contents g.W2.Write.contents
+    let ear = hearing g.R.Inlet.gave g.R.Inlet.refused g.W1.Outlet.took g.W1.Outlet.refused g.W2.Outlet.took g.W2.Outlet.refused in
+    let same = after_buffers g.D.Device.honest g.D.Device.disk g.D.Device.size g.D.Device.failures g.D.Device.goes_on g.R.Read.remaining g.W1.Write.contents g.W2.Write.contents ear
     call.FdWrite used c.args.arguments.now s c.requires.set_up m q (λ w. descriptor w q.fd no_directories (2 ^ 6)) (λ w d bs. written_to w q.fd d (gathered m bs) q.result_at)
     (λ w i. fd_write w m (sym asked.fd i) (sym asked.iovs i) (sym asked.count i) (sym asked.result_at i))
     (Stream Output) (λ w table. c.in-Ok.ensures w table ∙ ap Ok is) c.find_buffers.new.room.items _ c.as_slice-buffers.ensures.value c.in_default.ensures.found in
     let new = record s { out = c.write_stream.new.output; buffers = c.find_buffers.new.room } in
-    served g.D.Device.honest g.D.Device.disk g.D.Device.size g.D.Device.failures g.D.Device.goes_on g.R.Read.remaining g.W1.Write.contents g.W2.Write.contents g.W1.Write.contents
+    served g.D.Device.honest g.D.Device.disk g.D.Device.size g.D.Device.failures g.D.Device.goes_on g.R.Read.remaining g.W1.Write.contents g.W2.Write.contents ear g.W1.Write.contents
     call.FdWrite used c.args.arguments.now s new m c.write_stream.new.memory q.fd (gathered m bs) q.result_at c.requires.set_up c.find_buffers.ensures.place c.requires.set_up.piece refl
     Output s.out c.write_stream.new.output (out_takes g.R.Read.remaining g.W1.Write.contents g.W2.Write.contents (state_of s) c.write_stream.new.output) same (λ is. inr (inl is))
+    (record { input = input_unheard ear.input s.input; out = (λ failed. (told.idle failed).0, told.heard); err = output_unheard ear.err s.err })
     c.write_stream.result (λ failed. (told.idle failed).0) told.took told.broke told.answer
 
 pub returns-in-Stream-Error : goal.returns-in-Stream-Error
@@ -99,14 +102,16 @@ returns-in-Stream-Error g c = λ used.
     let one : c.in-Stream-Error.field-0 ≡ Error = rw c.in-Stream-Error.is at c.in-Stream-Error.field-0-is in
     let is : c.in-Ok.target ≡ Stream Error = c.in-Stream-Error.is ∙ ap Stream one in
     let bs = list_of c.as_slice-buffers.result.now in
-    let same = after_buffers g.D.Device.honest g.D.Device.disk g.D.Device.size g.D.Device.failures g.D.Device.goes_on g.R.Read.remaining g.W1.Write.contents g.W2.Write.contents
+    let ear = hearing g.R.Inlet.gave g.R.Inlet.refused g.W1.Outlet.took g.W1.Outlet.refused g.W2.Outlet.took g.W2.Outlet.refused in
+    let same = after_buffers g.D.Device.honest g.D.Device.disk g.D.Device.size g.D.Device.failures g.D.Device.goes_on g.R.Read.remaining g.W1.Write.contents g.W2.Write.contents ear
     call.FdWrite used c.args.arguments.now s c.requires.set_up m q (λ w. descriptor w q.fd no_directories (2 ^ 6)) (λ w d bs. written_to w q.fd d (gathered m bs) q.result_at)
     (λ w i. fd_write w m (sym asked.fd i) (sym asked.iovs i) (sym asked.count i) (sym asked.result_at i))
     (Stream Error) (λ w table. c.in-Ok.ensures w table ∙ ap Ok is) c.find_buffers.new.room.items _ c.as_slice-buffers.ensures.value c.in_default.ensures.found in
     let new = record s { err = c.write_stream-in-Stream-Error.new.output; buffers = c.find_buffers.new.room } in
-    served g.D.Device.honest g.D.Device.disk g.D.Device.size g.D.Device.failures g.D.Device.goes_on g.R.Read.remaining g.W1.Write.contents g.W2.Write.contents g.W2.Write.contents
+    served g.D.Device.honest g.D.Device.disk g.D.Device.size g.D.Device.failures g.D.Device.goes_on g.R.Read.remaining g.W1.Write.contents g.W2.Write.contents ear g.W2.Write.contents
     call.FdWrite used c.args.arguments.now s new m c.write_stream-in-Stream-Error.new.memory q.fd (gathered m bs) q.result_at c.requires.set_up c.find_buffers.ensures.place c.requires.set_up.piece refl
     Error s.err c.write_stream-in-Stream-Error.new.output (err_takes g.R.Read.remaining g.W1.Write.contents g.W2.Write.contents (state_of s) c.write_stream-in-Stream-Error.new.output) same (λ is. inr (inr is))
+    (record { input = input_unheard ear.input s.input; out = output_unheard ear.out s.out; err = (λ failed. (told.idle failed).0, told.heard) })
     c.write_stream-in-Stream-Error.result (λ failed. (told.idle failed).0) told.took told.broke told.answer
 
 pub returns-in-Entry : goal.returns-in-Entry
@@ -122,7 +127,7 @@ returns-in-Entry g c = λ used.
     ap (table_of s.descriptors) (sym asked.fd) ∙ (at_descriptor (table_of s.descriptors) q.fd no_directories (2 ^ 6) c.in-Ok.target c.in-Ok.ensures ∙ ap Some is) in
     let reaches : IsTrue (is_entry (table_of s.descriptors (word a 0))) = subst (λ (d : Option Descriptor). IsTrue (is_entry d)) (sym open_there) refl in
     let bs = list_of c.as_slice-buffers.result.now in
-    let same = after_buffers g.D.Device.honest g.D.Device.disk g.D.Device.size g.D.Device.failures g.D.Device.goes_on g.R.Read.remaining g.W1.Write.contents g.W2.Write.contents
+    let same = after_buffers g.D.Device.honest g.D.Device.disk g.D.Device.size g.D.Device.failures g.D.Device.goes_on g.R.Read.remaining g.W1.Write.contents g.W2.Write.contents (hearing g.R.Inlet.gave g.R.Inlet.refused g.W1.Outlet.took g.W1.Outlet.refused g.W2.Outlet.took g.W2.Outlet.refused)
     call.FdWrite used a s c.requires.set_up m q (λ w. descriptor w q.fd no_directories (2 ^ 6)) (λ w d bs. written_to w q.fd d (gathered m bs) q.result_at)
     (λ w i. fd_write w m (sym asked.fd i) (sym asked.iovs i) (sym asked.count i) (sym asked.result_at i))
     (Entry o) (λ w table. c.in-Ok.ensures w table ∙ ap Ok is) c.find_buffers.new.room.items _ c.as_slice-buffers.ensures.value c.in_default.ensures.found in
@@ -131,7 +136,7 @@ returns-in-Entry g c = λ used.
       descriptors = c.write_file.new.descriptors;
       buffers = c.find_buffers.new.room;
     } in
-    serves_roomy g.D.Device.honest g.D.Device.disk g.D.Device.size g.D.Device.failures g.D.Device.goes_on g.R.Read.remaining g.W1.Write.contents g.W2.Write.contents
+    serves_roomy g.D.Device.honest g.D.Device.disk g.D.Device.size g.D.Device.failures g.D.Device.goes_on g.R.Read.remaining g.W1.Write.contents g.W2.Write.contents (hearing g.R.Inlet.gave g.R.Inlet.refused g.W1.Outlet.took g.W1.Outlet.refused g.W2.Outlet.took g.W2.Outlet.refused)
     call.FdWrite used a s new m c.write_file.new.memory (errno_of c.write_file.result) (λ is. inl (c.write_file.ensures.io is)) c.requires.set_up c.find_buffers.ensures.place c.requires.set_up.piece refl
     c.write_file.ensures.step c.write_file.ensures.entries
     (λ h b.

@@ -1,7 +1,7 @@
 use Rattle.std.proofs.Common.{refl, sym}
 use Rattle.wasm_store.specs.declared.call.HostCall.TheVariants as call
 use Rattle.wasi_calls.specs.paths.Rows.{path_filestat_get}
-use Rattle.wasi_calls.specs.host.Worlds.{world_of}
+use Rattle.wasi_calls.specs.host.Worlds.{world_of, hearing}
 use Rattle.wasi_calls.specs.internal.Bodies.{state_of}
 use Rattle.wasi_calls.proofs.bodies.PlainCalls.{serves_volume}
 use Rattle.wasi_calls.proofs.host.inner.Inner.path_filestat_get.Goals as goal
@@ -10,7 +10,7 @@ pub returns : goal.returns
 returns g c = λ used.
     let s = c.args.self.now in
     let m = c.args.memory.now in
-    serves_volume g.D.Device.honest g.D.Device.disk g.D.Device.size g.D.Device.failures g.D.Device.goes_on g.R.Read.remaining g.W1.Write.contents g.W2.Write.contents
+    serves_volume g.D.Device.honest g.D.Device.disk g.D.Device.size g.D.Device.failures g.D.Device.goes_on g.R.Read.remaining g.W1.Write.contents g.W2.Write.contents (hearing g.R.Inlet.gave g.R.Inlet.refused g.W1.Outlet.took g.W1.Outlet.refused g.W2.Outlet.took g.W2.Outlet.refused)
     call.PathFilestatGet used c.args.arguments.now _ s c.path_filestat_get.new.volume m _ _ refl c.path_filestat_get.ensures.io c.requires.set_up c.path_filestat_get.ensures.step
     (λ w i. path_filestat_get w m (sym c.descriptor-fd.ensures i) (sym c.word-path.ensures i) (sym c.word-len.ensures i) (sym c.word-result_at.ensures i))
     (λ h b. c.path_filestat_get.ensures.answered h (world_of (state_of s) b) refl refl)

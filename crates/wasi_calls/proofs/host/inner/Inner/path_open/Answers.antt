@@ -1,6 +1,6 @@
 use Rattle.std.proofs.Common.{refl, sym}
 use Rattle.wasm_store.specs.declared.call.HostCall.TheVariants as call
-use Rattle.wasi_calls.specs.host.Worlds.{world_of}
+use Rattle.wasi_calls.specs.host.Worlds.{world_of, hearing}
 use Rattle.wasi_calls.specs.internal.Bodies.{state_of}
 use Rattle.wasi_calls.proofs.bodies.PlainCalls.{serves_both}
 use Rattle.wasi_calls.proofs.paths.OpenCalls.{open_by}
@@ -10,7 +10,7 @@ pub returns : goal.returns
 returns g c = λ used.
     let s = c.args.self.now in
     let m = c.args.memory.now in
-    serves_both g.D.Device.honest g.D.Device.disk g.D.Device.size g.D.Device.failures g.D.Device.goes_on g.R.Read.remaining g.W1.Write.contents g.W2.Write.contents
+    serves_both g.D.Device.honest g.D.Device.disk g.D.Device.size g.D.Device.failures g.D.Device.goes_on g.R.Read.remaining g.W1.Write.contents g.W2.Write.contents (hearing g.R.Inlet.gave g.R.Inlet.refused g.W1.Outlet.took g.W1.Outlet.refused g.W2.Outlet.took g.W2.Outlet.refused)
     call.PathOpen used c.args.arguments.now _ s c.path_open.new.volume c.path_open.new.descriptors m c.path_open.new.memory _ refl c.path_open.ensures.io c.requires.set_up c.path_open.ensures.step c.path_open.ensures.serials
     (λ w i. open_by w m (sym c.read-asked.ensures i))
     (λ h b. c.path_open.ensures.answered h (world_of (state_of s) b) refl refl)
