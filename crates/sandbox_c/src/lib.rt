@@ -27,7 +27,7 @@ use std::alloc::Global;
 /// The version of the archive.
 #[unsafe(no_mangle)]
 pub extern "C" fn sandbox_version() -> u32
-    ensures { result ≡ 9012 }
+    ensures { result ≡ 9013 }
 {
     sandbox_host::VERSION
 }

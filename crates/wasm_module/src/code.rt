@@ -439,7 +439,7 @@ impl<'a> Decode<'a> for Instruction {
 
     ghost at = { instruction_at };
 
-    #[tactic(auto, unfolding(crate::specs::internal::CodeReading::instruction_at, crate::specs::internal::CodeReading::instruction_after))]
+    #[tactic(auto, unfolding(crate::specs::internal::CodeReading::instruction_at, crate::specs::internal::CodeReading::instruction_after, crate::specs::internal::CodeReading::control_after, crate::specs::internal::CodeReading::branch_with, crate::specs::internal::CodeReading::variable_after, crate::specs::internal::CodeReading::variable_with))]
     fn decode(
         alloc: Global,
         cursor: &mut Cursor<'a>,
@@ -447,7 +447,14 @@ impl<'a> Decode<'a> for Instruction {
     ) -> Result<Instruction, LoadFault> {
         let offset = cursor.offset();
         let byte = cursor.byte()?;
+        // The frequent ones have a row each, so that one jump finds them.
         match byte {
+            0x0B => Ok(Instruction::End),
+            0x0D => Ok(Instruction::BrIf(cursor.u32()?)),
+            0x10 => Ok(Instruction::Call(cursor.u32()?)),
+            0x20 => Ok(Instruction::LocalGet(cursor.u32()?)),
+            0x21 => Ok(Instruction::LocalSet(cursor.u32()?)),
+            0x22 => Ok(Instruction::LocalTee(cursor.u32()?)),
             0x41 => Ok(Instruction::I32Const(cursor.s32()?)),
             0x42 => Ok(Instruction::I64Const(cursor.s64()?)),
             0xFC => bulk(cursor, profile),

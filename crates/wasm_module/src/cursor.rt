@@ -424,14 +424,19 @@ impl<'a> Cursor<'a> {
         Ok(())
     }
 
-    /// Instructions up to the one that closes the expression (section 5.4.6).
+    /// Instructions up to the one that closes the expression (section 5.4.6). Room for so many is asked for at once.
     #[tactic(auto, unfolding(crate::specs::internal::CodeReading::code_at))]
-    pub fn code(&mut self, alloc: Global, profile: Profile) -> Result<Items<Instruction>, LoadFault>
+    pub fn code(
+        &mut self,
+        alloc: Global,
+        profile: Profile,
+        room: usize,
+    ) -> Result<Items<Instruction>, LoadFault>
         ensures { Gives (λ x. (x, self.new)) result (code_at profile self.old) }
     {
         let begin = self.offset();
         let mut blocks = OpenBlocks::one(alloc)?;
-        let mut code = Vec::new(alloc);
+        let mut code = Vec::with_capacity(alloc, room)?;
         for _ in 0..self.len() {
             self.one_more(alloc, profile, &mut code, &mut blocks)?;
             if blocks.is_empty() {

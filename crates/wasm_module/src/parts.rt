@@ -255,7 +255,7 @@ impl<'a, T: Decode<'a>> Decode<'a> for Items<T> {
     }
 }
 
-/// Instructions with the one that closes them, where a plain list is a vector of the format.
+/// A constant expression: a constant and the end, where a plain list is a vector of the format.
 #[derive(Drop)]
 struct Expression {
     code: Items<Instruction>,
@@ -278,8 +278,37 @@ impl<'a> Decode<'a> for Expression {
         cursor: &mut Cursor<'a>,
         profile: Profile,
     ) -> Result<Expression, LoadFault> {
-        let code = cursor.code(alloc, profile)?;
+        let code = cursor.code(alloc, profile, 2)?;
         Ok(Expression { code })
+    }
+}
+
+/// The instructions of a function.
+#[derive(Drop)]
+struct FunctionCode {
+    code: Items<Instruction>,
+}
+
+impl Model for FunctionCode {
+    ghost use Rattle.std.specs.Prelude.{List};
+    ghost use Rattle.wasm_module.specs.declared.instruction.Instruction.{Instruction};
+
+    ghost Value = { List Instruction };
+
+    ghost view = { λ e. e.code };
+}
+
+impl<'a> Decode<'a> for FunctionCode {
+    ghost at = { code_at };
+
+    // Compilers write two bytes and more for an instruction, as a mean.
+    fn decode(
+        alloc: Global,
+        cursor: &mut Cursor<'a>,
+        profile: Profile,
+    ) -> Result<FunctionCode, LoadFault> {
+        let code = cursor.code(alloc, profile, cursor.len() / 2 + 1)?;
+        Ok(FunctionCode { code })
     }
 }
 
@@ -435,7 +464,7 @@ fn body<'a>(
     ensures { Gives (λ b. b) result (body_of profile cursor.entry) }
 {
     let bytes = cursor.bytes();
-    let (locals, code): (Items<Locals>, Expression) = cursor.whole(alloc, profile, size)?;
+    let (locals, code): (Items<Locals>, FunctionCode) = cursor.whole(alloc, profile, size)?;
     Ok(Body {
         bytes,
         locals,

@@ -8,6 +8,9 @@ use Rattle.wasm_module.proofs.cursor.Cursor.code.Goals as goal
 pub returns-in_err-blocks : goal.returns-in_err-blocks
 returns-in_err-blocks c = without_memory _ _ c.from_residual.result c.from_residual.ensures.1
 
+pub returns-in_err-with_capacity-code : goal.returns-in_err-with_capacity-code
+returns-in_err-with_capacity-code c = without_memory _ _ c.from_residual-in_err-with_capacity-code.result c.from_residual-in_err-with_capacity-code.ensures.1
+
 pub returns-in_err-one_more : goal.returns-in_err-one_more
 unfolding code_at
 returns-in_err-one_more c =
@@ -15,7 +18,7 @@ returns-in_err-one_more c =
     (λ other. code_no_more c.args.profile c.loop.code.items c.len-end.result c.loop.counter c.loop.blocks c.loop.self _ c.loop-test.true (c.in_err-one_more.ensures other) (rw (← c.len-end.ensures) c.loop.invariant))
 
 pub loop-init : goal.loop-init
-loop-init c = rw (c.in_ok-blocks.ensures) (begins_loop c.new-code.result.items (λ n. code_from c.args.profile n (Plain ∷ []) c.args.self.now) c.len-end.result c.new-code.ensures.items)
+loop-init c = rw (c.in_ok-blocks.ensures) (begins_loop c.in_ok-code.code.items (λ n. code_from c.args.profile n (Plain ∷ []) c.args.self.now) c.len-end.result c.in_ok-code.ensures.items)
 
 pub loop-preserved : goal.loop-preserved
 loop-preserved c =
