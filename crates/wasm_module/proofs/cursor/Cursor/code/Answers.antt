@@ -8,8 +8,8 @@ use Rattle.wasm_module.proofs.cursor.Cursor.code.Goals as goal
 pub returns-in_err-blocks : goal.returns-in_err-blocks
 returns-in_err-blocks c = without_memory _ _ c.from_residual.result c.from_residual.ensures.1
 
-pub returns-in_err-with_capacity-code : goal.returns-in_err-with_capacity-code
-returns-in_err-with_capacity-code c = without_memory _ _ c.from_residual-in_err-with_capacity-code.result c.from_residual-in_err-with_capacity-code.ensures.1
+pub returns-in_err-code : goal.returns-in_err-code
+returns-in_err-code c = without_memory _ _ c.from_residual-in_err-code.result c.from_residual-in_err-code.ensures.1
 
 pub returns-in_err-one_more : goal.returns-in_err-one_more
 unfolding code_at
