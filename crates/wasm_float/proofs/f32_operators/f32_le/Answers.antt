@@ -1,0 +1,7 @@
+-- No comparison but `ne` holds of a NaN.
+use Rattle.std.specs.Float.Ieee.{binary32, le}
+use Rattle.wasm_float.proofs.Nans.{le_nan, no_number}
+use Rattle.wasm_float.proofs.f32_operators.f32_le.Goals as goal
+
+pub returns-else-not-either_nan : goal.returns-else-not-either_nan
+returns-else-not-either_nan c = no_number le le_nan binary32 c.args.a c.args.b _ c.either_nan.ensures c.if-not-either_nan.false

@@ -1,0 +1,13 @@
+-- A NaN makes a NaN.
+use Rattle.std.proofs.Common.{sym, ◌∙◌}
+use Rattle.std.specs.Float.Ieee.{binary32, mul}
+use Rattle.wasm_float.proofs.Nans.{constant32, mul_nan, two_value, two_allowed}
+use Rattle.wasm_float.proofs.f32_operators.f32_mul.Goals as goal
+
+pub returns-then-either_nan-clause-value : goal.returns-then-either_nan-clause-value
+returns-then-either_nan-clause-value c =
+    c.bits.ensures.value ∙ two_value (mul binary32) (mul_nan binary32) binary32 c.args.a c.args.b _ constant32 (sym c.either_nan.ensures ∙ c.if-either_nan.true)
+
+pub returns-then-either_nan-clause-allowed : goal.returns-then-either_nan-clause-allowed
+returns-then-either_nan-clause-allowed c =
+    two_allowed (mul binary32) (mul_nan binary32) binary32 c.args.a c.args.b _ constant32 (sym c.either_nan.ensures ∙ c.if-either_nan.true) _ (c.bits.ensures.allowed _)

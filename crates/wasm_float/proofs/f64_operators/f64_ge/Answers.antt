@@ -1,0 +1,7 @@
+-- No comparison but `ne` holds of a NaN.
+use Rattle.std.specs.Float.Ieee.{binary64, le}
+use Rattle.wasm_float.proofs.Nans.{le_nan, no_number}
+use Rattle.wasm_float.proofs.f64_operators.f64_ge.Goals as goal
+
+pub returns-else-not-either_nan : goal.returns-else-not-either_nan
+returns-else-not-either_nan c = no_number le le_nan binary64 c.args.b c.args.a _ c.either_nan.ensures c.if-not-either_nan.false
