@@ -15,12 +15,14 @@ import tempfile
 import guests
 from common import Wrong, by_the_table, succeeded
 
-READS = ["module", "--stdin", "--image", "--random"]
-WRITES = ["--stdout", "--stderr", "--profile", "--report", "--volume", "--volume-out"]
+READS = ["module", "--stdin", "--image", "--random", "--image-from"]
+WRITES = ["--stdout", "--stderr", "--profile", "--report", "--volume", "--volume-out", "--out-to"]
 OF_LISTS = ["--tests", "INPUT", "OUTPUT", "ERRORS", "REPORT"]
 LIST_READS, LIST_WRITES = ["--tests", "INPUT"], ["OUTPUT", "ERRORS", "REPORT"]
 WITH_LISTS = ["module", "--image", "--random", *OF_LISTS]
 VOLUMES = ["--volume", "--image", "--volume-out"]
+# Options that contradict each other, which is refused before any file is asked for.
+CLASHES = [{"--volume", "--image"}, {"--volume", "--volume-out"}, {"--volume", "--image-from"}, {"--image", "--image-from"}, {"--volume", "--out-to"}, {"--volume-out", "--out-to"}]
 NAMES = ["the same", "relative", "absolute", "symbolic link", "hard link", "/dev/fd", "/proc/self/fd"]
 COLUMNS = ["INPUT", "OUTPUT", "ERRORS", "REPORT"]
 SECTORS, SLOTS = "160", "8"
@@ -51,7 +53,8 @@ class Scene:
             volume = f"{self.folder}/volume"
             succeeded(setting, "format", volume, SECTORS, SLOTS)
             succeeded(setting, "put", volume, "/kept", given=b"kept" * 200)
-            Scene.templates.update(volume=content(volume), module=guests.probe())
+            tree = succeeded(setting, "export", volume, "/")
+            Scene.templates.update(volume=content(volume), module=guests.probe(), tree=tree)
             os.remove(volume)
         self.count = 0
 
@@ -66,7 +69,8 @@ class Scene:
         self.count += 1
         name = name or f"file{self.count}"
         like = like or role
-        what = Scene.templates["volume"] if like in VOLUMES else Scene.templates["module"] if like == "module" else b""
+        kind = "volume" if like in VOLUMES else {"module": "module", "--image-from": "tree"}.get(like)
+        what = Scene.templates[kind] if kind else b""
         what = what or (b"in2 o2 e2 r2\n" if like == "--tests" else f"what {name} had before\n".encode() * 3)
         with open(f"{self.folder}/{name}", "wb") as it:
             it.write(what)
@@ -75,7 +79,7 @@ class Scene:
     def words(self, names):
         """The words of a run in which these roles have these names; the other files that it needs are made."""
         names = dict(names)
-        if "--volume-out" in names and "--image" not in names:
+        if "--volume-out" in names and not {"--image", "--image-from"} & {*names}:
             names["--image"] = self.made("--image")
         if any(it in OF_LISTS for it in names):
             for each in ("in2", "o2", "e2", "r2"):
@@ -124,7 +128,7 @@ def told(names, kind, got):
 
 def suited(first, second):
     """The role whose kind of file both get."""
-    return next((it for it in (first, second) if it in VOLUMES or it == "module" or it == "--tests"), first)
+    return next((it for it in (first, second) if it in VOLUMES or it in ("module", "--tests", "--image-from")), first)
 
 
 def pair(setting, item):
@@ -180,7 +184,7 @@ def taken(setting, item, got, after, before, what):
 def pairs():
     for roles in (READS + WRITES, WITH_LISTS):
         for first, second in itertools.combinations(roles, 2):
-            if not {"--volume"} < {first, second} <= {*VOLUMES} and not (roles is WITH_LISTS and not {first, second} & {*OF_LISTS}):
+            if {first, second} not in CLASHES and not (roles is WITH_LISTS and not {first, second} & {*OF_LISTS}):
                 yield from ((first, second, kind) for kind in NAMES)
 
 

@@ -15,6 +15,7 @@ import signal
 import stat
 import subprocess
 import tarfile
+import time
 
 from common import Wrong, succeeded
 from files import COMMANDS, Scene, content, drawn, wanted
@@ -29,7 +30,17 @@ def prepare(setting):
         it.made("--volume", "d")
         succeeded(setting, "run", "--volume", f"{it.folder}/d", f"{it.folder}/{it.made('module')}")
         Scene.templates["after"] = content(f"{it.folder}/d")
+        succeeded(setting, "run", "--image-from", f"{it.folder}/{it.made('--image-from', 't')}", "--out-to", f"{it.folder}/g", f"{it.folder}/{it.made('module')}")
+        Scene.templates["tree after"] = content(f"{it.folder}/g")
+        with tarfile.open(f"{it.folder}/g") as tree:
+            wanted(sorted(each.name for each in tree) == ["kept", "probe"], f"the tree of a run: {tree.getnames()}")
     return setting
+
+
+def given_out(words):
+    """The files that get a volume or a tree when a run has ended, and what they have then."""
+    found = {"--volume-out": "after", "--out-to": "tree after"}
+    return {words[words.index(option) + 1]: Scene.templates[what] for option, what in found.items() if option in words}
 
 
 def tar_of(name, size):
@@ -62,6 +73,8 @@ RUNS = [
     ["--stdin", "in", "--stdout", "o", "--stderr", "e", "--report", "r", "m"],
     ["--stdout", "o", "--volume", "d", "m"],
     ["--stdin", "in", "--random", "x", "m"],
+    ["--image-from", "t", "--out-to", "g", "m"],
+    ["--image-from", "t", "--out-to", "g", "--stdout", "o", "--report", "r", "m"],
 ]
 
 
@@ -69,6 +82,7 @@ def run_scene(setting):
     it = Scene(setting)
     for role, name in (("module", "m"), ("--volume", "d"), ("--image", "i"), ("--stdin", "in"), ("--random", "x"), ("--stdout", "o"), ("--stderr", "e")):
         it.made(role, name)
+    it.made("--image-from", "t")
     return it
 
 
@@ -102,8 +116,7 @@ def closed_run(setting, item):
         expected = dict(before)
         if "--volume" in words:
             expected["d"] = Scene.templates["after"]
-        if "--volume-out" in words:
-            expected[words[words.index("--volume-out") + 1]] = Scene.templates["after"]
+        expected.update(given_out(words))
         if "--stdout" in words:
             expected["o"] = b"OUT\n"
         if "--stderr" in words:
@@ -189,16 +202,17 @@ def closed(setting):
 
 
 # What another process locks, and whether a run is refused then, by an exclusive and by a shared lock.
-LOCKED = {"m": (0, 0), "in": (0, 0), "x": (0, 0), "i": (1, 0), "o": (1, 1), "e": (1, 1), "r": (1, 1), "v": (1, 1), "d": (1, 1)}
+LOCKED = {"m": (0, 0), "in": (0, 0), "x": (0, 0), "t": (0, 0), "i": (1, 0), "o": (1, 1), "e": (1, 1), "r": (1, 1), "v": (1, 1), "g": (1, 1), "d": (1, 1)}
+TREES = ["--image-from", "t", "--out-to", "g"]
 
 
 def locked(setting, item):
     """Another process holds a file locked."""
     name, is_shared = item
     words = ["--stdin", "in", "--stdout", "o", "--stderr", "e", "--report", "r", "--random", "x"]
-    words += ["--volume", "d"] if name == "d" else ["--image", "i", "--volume-out", "v"]
+    words += ["--volume", "d"] if name == "d" else TREES if name in TREES else ["--image", "i", "--volume-out", "v"]
     with run_scene(setting) as it:
-        for role, each in (("--report", "r"), ("--volume", "v")):
+        for role, each in (("--report", "r"), ("--volume", "v"), ("--out-to", "g")):
             it.made(role, each)
         before = it.files()
         with open(f"{it.folder}/{name}", "rb") as held:
@@ -236,7 +250,8 @@ def without_room(setting, item):
         wanted(got[0] in (123, 124) and lines and all(line.startswith("sandbox: ") or line == "ERR" for line in lines), what)
         wanted(after.keys() == before.keys(), f"{what}: {sorted(after.keys() ^ before.keys())}")
         for name in before:
-            wanted(after[name] == before[name] or name in words and name in "oe", f"{what}: {name} has changed")
+            is_stream = "--stdout" in words and name in words and name in "oe"
+            wanted(after[name] == before[name] or is_stream, f"{what}: {name} has changed")
     return "limits"
 
 
@@ -245,9 +260,12 @@ def room_items():
         yield ["run", "--image", "i", "--volume-out", "v", "m"], most
         yield ["run", "--image", "i", "--volume-out", "i", "m"], most
         yield ["run", "--image", "i", "--volume-out", "new", "m"], most
+    for most in (0, 512):
+        yield ["run", "--image-from", "t", "--out-to", "o", "m"], most
+        yield ["run", "--image-from", "t", "--out-to", "new", "m"], most
 
 
-ON_FULL = ["--volume-out v", "--volume-out i", "--volume-out new", "--stdout new", "--report new", "--stdout o --report r"]
+ON_FULL = ["--volume-out v", "--volume-out i", "--volume-out new", "--out-to o", "--out-to new", "--stdout new", "--report new", "--stdout o --report r"]
 
 
 def full_disk(setting, options):
@@ -265,18 +283,19 @@ def full_disk(setting, options):
 
 
 def on_full_disk(it, disk, options):
-    for name in ("m", "i", "v", "o"):
+    for name in ("m", "i", "v", "o", "t"):
         shutil.copyfile(f"{it.folder}/{name}", f"{disk}/{name}")
     with contextlib.suppress(OSError), open(f"{disk}/fill", "wb", buffering=0) as fill:
         while True:
             fill.write(b"x" * 4096)
     before = {name: content(f"{disk}/{name}") for name in os.listdir(disk)}
-    words = ["run", *(["--image", "i"] if "--volume-out" in options else []), *options, "m"]
+    begun = {"--volume-out": ["--image", "i"], "--out-to": ["--image-from", "t"]}
+    words = ["run", *begun.get(options[0], []), *options, "m"]
     done = subprocess.run([it.program, *words], cwd=disk, stdin=subprocess.DEVNULL, capture_output=True)
     after = {name: content(f"{disk}/{name}") for name in os.listdir(disk)}
     what = f"{' '.join(words)} on a full disk: status {done.returncode}, {done.stderr.decode()[:200]!r}"
-    if "--volume-out" in options:
-        is_done = done.returncode == 0 and after == {**before, options[1]: Scene.templates["after"]}
+    if options[0] in begun:
+        is_done = done.returncode == 0 and after == {**before, **given_out(words)}
         wanted(is_done or done.returncode in (123, 124) and after == before, f"{what}: {[name for name in {*after, *before} if after.get(name) != before.get(name)]}")
     else:
         wanted(done.returncode in (2, 124), what)
@@ -318,13 +337,44 @@ def in_place(setting, kind):
     return "in place"
 
 
+# A file that comes under FILE's name while a run goes on that gives FILE its volume or its tree: what was there before, and whether another
+# process has it locked.
+MEANWHILE = [(option, was_there, is_used) for option in ("--volume-out", "--out-to") for was_there in (False, True) for is_used in (False, True)]
+
+
+def meanwhile(setting, item):
+    """What another process has locked by then is kept, and the run is refused; else the run's own bytes get the name."""
+    option, was_there, is_used = item
+    with run_scene(setting) as it:
+        if was_there:
+            it.made("--volume", "file")
+        words = ["run", *(["--image", "i"] if option == "--volume-out" else ["--image-from", "t"]), option, "file", "--report", "r", "m"]
+        running = subprocess.Popen([it.program, *words], cwd=it.folder, stdin=subprocess.PIPE, stdout=subprocess.PIPE, stderr=subprocess.PIPE)
+        while not os.path.exists(f"{it.folder}/r") and running.poll() is None:  # it is made last
+            time.sleep(0.01)
+        it.made("--volume", "another")
+        os.rename(f"{it.folder}/another", f"{it.folder}/file")
+        with open(f"{it.folder}/file", "rb") as held:
+            if is_used:
+                fcntl.flock(held, fcntl.LOCK_EX)
+            out, said = running.communicate(b"")
+        status, after = running.returncode, it.files()
+        what = f"{option} file, {'another' if was_there else 'a'} file comes meanwhile{', and is locked' if is_used else ''}: status {status}, {said[:200]!r}"
+        wanted(out == b"OUT\n" and (status, b"sandbox: fault 41\n" in said) == ((124, True) if is_used else (0, False)), what)
+        wanted(after["file"] == (Scene.templates["volume"] if is_used else given_out(words)["file"]), f"{what}: other bytes")
+        wanted(f"volume:{'failed' if is_used else 'kept'}\n".encode() in after["r"], f"{what}: the report")
+        wanted(not [name for name in after if name.startswith(".")], f"{what}: {sorted(after)}")
+    return "files that come meanwhile"
+
+
 def hosts(setting):
-    """The row: locks of others, files without room, and what can't be replaced."""
+    """The row: locks of others, files without room, what can't be replaced, and what comes under a name meanwhile."""
     prepare(setting)
     os.chmod(setting.room, 0o755)
     found = collections.Counter()
     locks = [(name, is_shared) for name in LOCKED for is_shared in (False, True)]
-    for function, items in ((locked, locks), (without_room, drawn(setting, room_items(), 4)), (in_place, ["file", "hard link", "symbolic link", "folder"]), (full_disk, ON_FULL)):
+    rows = [(locked, locks), (without_room, drawn(setting, room_items(), 4)), (in_place, ["file", "hard link", "symbolic link", "folder"])]
+    for function, items in [*rows, (full_disk, ON_FULL), (meanwhile, MEANWHILE)]:
         found.update(setting.each(lambda item, function=function: function(setting, item), items))
     return sum(found.values()), ", ".join(f"{name} {count}" for name, count in sorted(found.items()))
 
@@ -369,6 +419,8 @@ KILLED = [
     (["run", "--image", "i", "--volume-out", "i", "m"], ["i"], b""),
     (["run", "--image", "i", "--volume-out", "v", "m"], ["v"], b""),
     (["run", "--image", "i", "--volume-out", "new", "m"], ["new"], b""),
+    (["run", "--image-from", "t", "--out-to", "g", "m"], ["g"], b""),
+    (["run", "--image-from", "t", "--out-to", "new", "m"], ["new"], b""),
     (["run", "--volume", "d", "--stdin", "in", "--stdout", "o", "--report", "r", "m"], ["d"], b""),
     *((words, ["d"], GIVEN.get(words[0], b"")) for words, _ in COMMANDS if words[:2] != ["rm", "d"] or words[2] == "/kept"),
 ]
@@ -377,6 +429,7 @@ KILLED = [
 def killed_scene(setting):
     it = run_scene(setting)
     it.made("--volume", "v")
+    it.made("--out-to", "g")
     return it
 
 
@@ -411,8 +464,8 @@ def killed(setting, item):
                 continue
             wanted(after.get(each) == before[each], f"{what}: {each} has changed")
         for each in targets:
-            if "--volume-out" in words:
-                wanted(after.get(each) in (before.get(each), Scene.templates["after"]), f"{what}: {each} has {len(after.get(each, b''))} bytes")
+            if each in given_out(words):
+                wanted(after.get(each) in (before.get(each), given_out(words)[each]), f"{what}: {each} has {len(after.get(each, b''))} bytes")
             else:
                 check = it.call(["check", each])
                 is_fine = check[0] == 0 or words[0] == "format" and check[2].startswith("sandbox: fault 30")

@@ -119,7 +119,7 @@ fn tell_of_archive<W: Write>(err: &mut W, why: Why, about: &About<'_>)
     match why {
         Why::Tree(errno) => about.tell_of_errno(err, errno),
         Why::Stream => about.tell_of_stream(err),
-        Why::Cut => {
+        Why::Cut | Why::Tar(TarFault::NoHeader | TarFault::WrongChecksum) => {
             let name = about.input();
             tell_words(
                 err,

@@ -20,6 +20,8 @@ pub(crate) struct Held {
     sources: Vec<Identity>,
     /// The image, which is given back once it is read.
     image: Option<Identity>,
+    /// What the run gives at the end is a tree, which takes the place of no image.
+    gives_tree: bool,
     /// What this line reads.
     input: Option<Identity>,
     /// What this line writes.
@@ -74,6 +76,7 @@ impl Held {
             streams: Identity::of_streams(rt),
             sources: Vec::new(rt.alloc()),
             image: None,
+            gives_tree: false,
             input: None,
             outputs: Vec::new(rt.alloc()),
             earlier: BTreeSet::new(rt.alloc()),
@@ -84,6 +87,7 @@ impl Held {
     /// The same for a run, which doesn't use a stream that it has a file for.
     pub(crate) fn for_run(rt: &HostRuntime, run: &Run<'_>) -> Held {
         let mut held = Held::new(rt);
+        held.gives_tree = run.out_to.is_some();
         if run.stdin.is_some() {
             held.streams[0] = None;
         }
@@ -175,10 +179,13 @@ impl Held {
         self.take_written(it)
     }
 
-    /// Takes the file of a volume that is written, or one that gets a volume.
+    /// Takes the file of a volume that is written, or one that gets a volume, which may be the image, or a tree.
     pub(crate) fn take_volume(&mut self, it: Option<Identity>) -> io::Result<()> {
         match it {
-            Some(it) => self.take_written(it),
+            Some(it) => {
+                self.refuse_where(self.gives_tree && self.is_image(it), it)?;
+                self.take_written(it)
+            }
             None => Ok(()),
         }
     }

@@ -99,6 +99,16 @@ fn is_locked_by_us(file: &File) -> bool {
     file.try_lock().is_ok()
 }
 
+/// Refuses a regular file in whose place another one has come.
+fn refuse_where_replaced<R: Files>(rt: &R, path: &str, file: &File) -> io::Result<()> {
+    match Identity::of(file)? {
+        Some(identity) if Identity::of_path(rt, path) != Some(identity) => {
+            Err(io::Error::from(ErrorKind::WouldBlock))
+        }
+        _ => Ok(()),
+    }
+}
+
 /// Whether a name leads to this very file.
 fn leads_to<R: Files>(rt: &R, path: &str, file: &File) -> io::Result<bool> {
     let identity = Identity::of(file)?;
@@ -247,6 +257,7 @@ impl Replacement {
         match open_apart(rt, &how, path) {
             Ok(file) => {
                 lock_to_write(&file)?;
+                refuse_where_replaced(rt, path, &file)?;
                 let way = way_of(rt, target.as_str(), &file, &file.metadata()?)?;
                 Ok(Replacement {
                     path: target,
@@ -302,6 +313,20 @@ impl Replacement {
         }
     }
 
+    /// Locks the file that has come under the name since it was opened, if one has: it is replaced too, unless someone else uses it.
+    fn newcomer<R: Files<File = File>>(&self, rt: &R) -> io::Result<Option<File>> {
+        let found = Identity::of_path(rt, self.path.as_str());
+        if found.is_none() || found == self.identity()? {
+            return Ok(None);
+        }
+        let mut how = OpenOptions::new();
+        how.write(true);
+        let file = open_apart(rt, &how, self.path.as_str())?;
+        lock_to_write(&file)?;
+        refuse_where_replaced(rt, self.path.as_str(), &file)?;
+        Ok(Some(file))
+    }
+
     /// A file beside it, of its owner and its mode, and its folder.
     fn spare<R: Files<File = File> + AllocGlobal>(&self, rt: &R) -> io::Result<(Spare, File)> {
         let folder = open_folder(rt, self.path.as_str())?;
@@ -315,7 +340,8 @@ impl Replacement {
         Ok((spare, folder))
     }
 
-    /// Writes the bytes into a file beside it, and gives that its name. Where none can be made there, it is written in place.
+    /// Writes the bytes into a file beside it, and gives that its name. Where none can be made there, it is written in place, unless
+    /// another file has the name by now.
     fn fill_beside<R: Files<File = File> + AllocGlobal>(
         self,
         rt: &R,
@@ -324,7 +350,11 @@ impl Replacement {
         ensures { IfOk result (λ hindrance. IfNone hindrance
             (WasReplaced R (string_bytes self.path) (bytes_of contents.entry))) }
     {
+        let newcomer = self.newcomer(rt)?; // locked until the new bytes have the name
         let Ok((spare, folder)) = self.spare(rt) else {
+            if newcomer.is_some() {
+                return Err(io::Error::from(ErrorKind::PermissionDenied));
+            }
             self.fill_in_place(rt, contents)?;
             return Ok(Some(Hindrance::Folder));
         };
