@@ -3,6 +3,9 @@
 Each gets an input that is made here, on standard input, and has no files. Programs in C are those of `others.py`; those in Rust are
 `bench/rust_guests`, over crates of Debian's packages, built by Debian's `rustc` and `cargo`. An engine's time is that of the processor,
 best of N, in turn with the others. `load` is a process that ends before the guest's first step, `net` is the time without it.
+
+With --floats those of `FLOATING` instead, whose work is with floats, as their compiler made them; wazero's interpreter is timed, too,
+with its load, since it has no run that ends before the first step.
 """
 import json
 import math
@@ -21,6 +24,7 @@ LEAST = 0.1  # seconds of a program, net of its load
 FUEL, PAGES = str(2**63), "8192"
 PACKAGES = "aho-corasick csv miniz-oxide num-bigint pulldown-cmark regex roxmltree serde-json sha2 similar yaml-rust".split()
 KINDS = ("net", "whole", "load")
+OURS = ("sandbox", "beside")
 TITLES = {"net": "net of load", "whole": "with load", "load": "load alone"}
 WORDS = "the quick brown foxes jump over 17 lazy dogs while reading 2024-11 reports and writing `code` about *many* things again".split()
 
@@ -86,11 +90,65 @@ print(fib(19), Object.keys(words).length, text.replace(/w1(.)/g, "<$1>").length,
 """
 
 
-class Timed:
-    """A program that is timed: its name, which program of `others.py` (none for one in Rust), words, and what makes its input."""
+# (square roots apart, no function of a C library: the native program has another one)
+FLOATING_LUA = """
+local function bodies(n)
+  local x, y, v, w = 1.0, 0.0, 0.0, 1.0
+  for i = 1, n do local r = x * x + y * y; local d = 1 / (r * math.sqrt(r)); v = v - x * d * 1e-3; w = w - y * d * 1e-3; x = x + v * 1e-3; y = y + w * 1e-3 end
+  return x, y
+end
+local function inside(n)
+  local c = 0
+  for i = 0, n do for j = 0, n do
+    local a, b, x, y, k = 2.5 * i / n - 2, 2.0 * j / n - 1, 0.0, 0.0, 0
+    while k < 40 and x * x + y * y < 4 do x, y, k = x * x - y * y + a, 2 * x * y + b, k + 1 end
+    c = c + k
+  end end
+  return c
+end
+local function norm(n)
+  local u, v = {}, {}
+  for i = 1, n do u[i] = 1.0 end
+  for k = 1, 4 do
+    for i = 1, n do local s = 0.0; for j = 1, n do s = s + u[j] / ((i + j) * (i + j - 1) / 2 + i) end; v[i] = s end
+    u, v = v, u
+  end
+  return u[1], u[n]
+end
+local x, y = bodies(60000)
+print(string.format('%.17g %.17g %d %.17g %.17g', x, y, inside(60), norm(120)))
+"""
+FLOATING_AWK = """
+{ for (i = 1; i <= NF; i++) { x = length($i) / 7 + i * 0.37; s += sqrt(x); t += x / (1 + x * x * x); if (x > m) m = x; n[int(x * 4)] += x / NF } }
+END { for (k = 0; k < 40; k++) u += n[k] / (k + 1.5); printf "%.17g %.17g %.17g %.17g\\n", s, t, m, u }
+"""
+FLOATING_JAVASCRIPT = """
+function bodies(n) {
+  var x = 1, y = 0, v = 0, w = 1, i, r, d;
+  for (i = 0; i < n; ++i) { r = x * x + y * y; d = 1 / (r * Math.sqrt(r)); v -= x * d * 1e-3; w -= y * d * 1e-3; x += v * 1e-3; y += w * 1e-3; }
+  return x + " " + y;
+}
+function quadrature(n) { var s = 0, i, x; for (i = 0; i < n; ++i) { x = (i + 0.5) / n; s += (1 - x * (3.5 - x * x)) / (1 + x * x * Math.sqrt(x)); } return s / n; }
+var list = [], k = 0.5, i; for (i = 0; i < 3000; ++i) { k = (k * 3.999 * (1 - k)); list.push(k); } list.sort(function (a, b) { return a - b; });
+print(bodies(20000), quadrature(9000), list[0], list[1500], list[2999], JSON.stringify(list.slice(0, 40)).length);
+"""
+FLOATING_SQL = """
+create table t(id integer primary key, x real, y real);
+with recursive n(k) as (select 1 union all select k + 1 from n where k < 12000) insert into t select k, k / 7.0, (k * 7919 % 1009) * 0.37 from n;
+select count(*), sum(x), avg(y), min(x * y), max(x / (y + 0.5)), total(x * x) from t;
+select round(y), count(*), sum(x), avg(x - y) from t group by round(y) order by 3 desc limit 20;
+update t set x = x * 1.0001 + y / 3.0; select printf('%.15g %.15g', sum(x), sum(y * y) / count(*)) from t where x > y;
+with recursive i(a, b, k) as (select 0.3, 0.5, 0 union all select a * a - b * b + 0.28, 2 * a * b + 0.01, k + 1 from i where k < 9000) select printf('%.15g', sum(a)), max(k) from i;
+"""
+FLOATING_JQ = "[.[] | .at.x / 7e3 | {x: ., r: (sqrt | floor), l: (sqrt * 1.5 - 7)}] | [length, (map(.x) | add), (map(.l) | max, min), (group_by(.r % 37) | map(map(.x * .l) | add) | sort | .[:9])]"
 
-    def __init__(self, name, of, words, given, flags=()):
-        self.name, self.of, self.words, self.given, self.flags = name, of, words, given, flags
+
+class Timed:
+    """A program that is timed: its name, which program of `others.py` (none for one in Rust), words, what makes its input, and whether it
+    keeps its floats."""
+
+    def __init__(self, name, of, words, given, floats=False):
+        self.name, self.of, self.words, self.given, self.floats = name, of, words, given, floats
 
     def input(self):
         made = self.given()
@@ -127,6 +185,14 @@ TIMED = [
     Timed("digests", None, [], lambda: prose(25_000)),
     Timed("differences", None, [], lambda: halves(3_000)),
     Timed("table", None, [], lambda: rows(20_000)),
+]
+FLOATING = [
+    Timed("lua", "lua", ["-"], lambda: FLOATING_LUA, True),
+    Timed("awk", "awk", [FLOATING_AWK], lambda: prose(1_500), True),
+    Timed("mujs", "mujs", [], lambda: FLOATING_JAVASCRIPT, True),
+    Timed("sqlite3", "sqlite3", ["-batch", "-vfs", "unix-none", ":memory:"], lambda: FLOATING_SQL, True),
+    Timed("jq", "jq", ["-c", FLOATING_JQ], lambda: json.dumps(objects(2_000)), True),
+    Timed("brotli", "brotli", ["-c", "-q", "11"], lambda: prose(300), True),
 ]
 
 
@@ -168,13 +234,13 @@ def built_rust(folder):
 
 def files(real, folder, it):
     """The module and the native program of a timed one; what the folder has is taken as it is."""
-    module, native = f"{folder}/{it.of}.wasm", f"{folder}/{it.of}.native"
+    module, native = f"{folder}/{it.of}{'.floats' if it.floats else ''}.wasm", f"{folder}/{it.of}.native"
     if it.of and os.path.exists(module) and os.path.exists(native):
         return module, native
     if it.of == "awk":  # its grammar goes through this one
         real.built(folder, "byacc", PROGRAMS["byacc"])
     if it.of:
-        module, native, _ = real.built(folder, it.of, PROGRAMS[it.of])
+        module, native, _ = real.built(folder, it.of, PROGRAMS[it.of], it.floats)
         return module, native
     wasm, native = built_rust(folder)
     module = f"{folder}/rust-{it.name}.wasm"
@@ -200,8 +266,10 @@ class Run:
         for name, program in engines.items():
             if name == "wasmi":
                 self.whole[name], self.load[name] = [program, module, *it.words], [program, "--load", module]
+            elif name == "wazero":
+                self.whole[name] = [program, "run", "-interpreter", module, *it.words]
             else:
-                begin = [program, "run", "--pages", PAGES, "--random", f"{room}/random"]
+                begin = [program, "run", *["--floats"] * it.floats, "--pages", PAGES, "--random", f"{room}/random"]
                 self.whole[name] = [*begin, "--fuel", FUEL, "--", module, *it.words]
                 self.load[name] = [*begin, "--fuel", "0", "--", module, *it.words]
 
@@ -222,7 +290,7 @@ class Run:
 def least(run, native, times):
     """The least seconds of each engine, whole and of the load; all have to answer as the native program."""
     whole = {name: math.inf for name in run.whole}
-    load = dict(whole)
+    load = dict.fromkeys(run.load, math.inf)
     wanted = run.timed(native)[:2]
     for _ in range(times):
         for name in whole:
@@ -230,7 +298,7 @@ def least(run, native, times):
             if (status, out) != wanted:
                 raise RuntimeError(f"{name} ended with {status} and {len(out)} bytes in place of {wanted[0]} and {len(wanted[1])}")
             whole[name] = min(whole[name], seconds)
-        for name in whole:
+        for name in load:
             load[name] = min(load[name], *(run.timed(run.load[name])[2] for _ in range(3)))
     return whole, load
 
@@ -250,7 +318,7 @@ def mean(values):
 def told(name, ratios, seconds, units, costs):
     line = f"{name:14}{units / 1e6:9.1f} M units {seconds:7.3f} s net"
     for other, of in ratios.items():
-        line += f"   {other}: " + ", ".join(f"{TITLES[kind]} {of[kind]:.2f}" for kind in KINDS)
+        line += f"   {other}: " + ", ".join(f"{TITLES[kind]} {ratio:.2f}" for kind, ratio in of.items())
     return line + "".join(f"   x86 a unit, {engine}: {it:.2f}" for engine, it in costs.items()) + ("" if seconds >= LEAST else f"   shorter than {LEAST} s")
 
 
@@ -260,35 +328,37 @@ def measured(given, engines, it, module, native):
         run = Run(engines, it, module, room)
         whole, load = least(run, [native, *it.words], given.times)
         units = run.units(engines["sandbox"])
-        net = {name: max(whole[name] - load[name], 1e-6) for name in whole}
+        net = {name: max(whole[name] - load[name], 1e-6) for name in load}
         times = {"net": net, "whole": whole, "load": load}
-        ratios = {other: {kind: times[kind][other] / times[kind]["sandbox"] for kind in KINDS} for other in engines if other != "sandbox"}
-        ours = [name for name in engines if name != "wasmi"] if given.instructions else []
+        ratios = {other: {kind: times[kind][other] / times[kind]["sandbox"] for kind in KINDS if other in times[kind]} for other in engines if other != "sandbox"}
+        ours = [name for name in engines if name in OURS] if given.instructions else []
         costs = {name: (instructions(run.whole[name], run.given) - instructions(run.load[name], run.given)) / units for name in ours}
     print(told(it.name, ratios, net["sandbox"], units, costs), flush=True)
     return ratios, costs
 
 
-def table(found, others, version):
+def table(found, others, version, title):
     """The table for `docs/USING.md`: a row a program, and the means. `others` has the label of each, `version` is that of what is timed."""
-    heads = [f"{label} ({version}, {TITLES[kind]})" for label in others.values() for kind in KINDS]
-    lines = [["Program", *heads], ["---"] * (1 + len(heads))]
-    cells = {name: [ratios[other][kind] for other in others for kind in KINDS] for name, (ratios, _) in found.items()}
+    kinds = [(other, kind) for other, of in next(iter(found.values()))[0].items() for kind in of]
+    heads = [f"{others[other]} ({version}, {TITLES[kind]})" for other, kind in kinds]
+    lines = [[title, *heads], ["---"] * (1 + len(heads))]
+    cells = {name: [ratios[other][kind] for other, kind in kinds] for name, (ratios, _) in found.items()}
     lines += [[name, *[f"{it:.2f}" for it in row]] for name, row in cells.items()]
     lines.append(["**geometric mean**", *[f"{mean(column):.2f}" for column in zip(*cells.values())]])
     return "".join(f"| {' | '.join(it)} |\n" for it in lines)
 
 
 def engines_of(given):
-    """What is timed, `sandbox` first: wasmi out of `bench/peers`, and the program of --beside."""
+    """What is timed, `sandbox` first: wasmi out of `bench/peers`, with --floats wazero, and the program of --beside."""
     engines = {"sandbox": given.program}
-    done = subprocess.run([f"{TOP}/bench/peers", "--program", "wasmi", given.peers], stdout=subprocess.PIPE, text=True)
-    if done.returncode:
-        print("wasmi isn't there: bench/peers says why")
-    else:
-        program, version = done.stdout.splitlines()
-        engines["wasmi"] = f"{os.path.dirname(program)}/guest"
-        print(f"wasmi {version}")
+    for name in ("wasmi", *["wazero"] * given.floats):
+        done = subprocess.run([f"{TOP}/bench/peers", "--program", name, given.peers], stdout=subprocess.PIPE, text=True)
+        if done.returncode:
+            print(f"{name} isn't there: bench/peers says why")
+        else:
+            program, version = done.stdout.splitlines()
+            engines[name] = f"{os.path.dirname(program)}/guest" if name == "wasmi" else program
+            print(f"{name} {version}")
     if given.beside:
         engines["beside"] = os.path.abspath(given.beside)
     return engines
@@ -307,7 +377,7 @@ def rows_of(given, real):
     engines, found, failed = engines_of(given), {}, 0
     version = version_of(given.program)
     print(f"sandbox {version}; the others' time by ours, processor time, best of {given.times} in turn; {load_of_machine()}", flush=True)
-    for it in TIMED:
+    for it in FLOATING if given.floats else TIMED:
         if given.names and it.name not in given.names:
             continue
         try:
@@ -319,7 +389,9 @@ def rows_of(given, real):
     others = [it for it in engines if it != "sandbox"]
     for other in others if found else []:
         for kind in KINDS:
-            values = [ratios[other][kind] for ratios, _ in found.values()]
+            values = [ratios[other][kind] for ratios, _ in found.values() if kind in ratios[other]]
+            if not values:
+                continue
             print(f"{other}, {TITLES[kind]}: mean {mean(values):.2f}, from {min(values):.2f} to {max(values):.2f} over {len(values)} programs")
     for engine in engines if given.instructions and found else []:
         values = [costs[engine] for _, costs in found.values() if engine in costs]
@@ -328,5 +400,6 @@ def rows_of(given, real):
     print(load_of_machine())
     if given.table and found:
         with open(given.table, "w", encoding="utf-8") as file:
-            file.write(table(found, {it: f"sandbox {version_of(engines[it])}" if it == "beside" else it for it in others}, version))
+            labels = {it: f"sandbox {version_of(engines[it])}" if it == "beside" else it for it in others}
+            file.write(table(found, labels, version, "Program with floats" if given.floats else "Program"))
     return failed

@@ -6,7 +6,11 @@ import os
 import sys
 
 sys.path.append(os.path.join(os.path.dirname(os.path.realpath(__file__)), "../../tools"))
-from page_parts import name, number, page, share, shown  # noqa: E402
+try:
+    from page_parts import name, number, page, share, shown  # noqa: E402
+except ImportError:
+    print(f"{os.path.basename(sys.argv[0])}: tools/ of the checkout isn't there, and it has what pages and compilers need: take the whole checkout", file=sys.stderr)
+    sys.exit(2)
 
 # verdict: its word in a cell, its letters where there are many tests, its color
 KINDS = {"accepted": ("ok", "ok", "green"), "wrong answer": ("wrong", "WA", "red"), "exit": ("exit", "EX", "purple"),

@@ -57,8 +57,8 @@ begins one bytes device v (count, it) opened = of_imported one bytes device v co
 pub gives : OneTree → GivesItsTree
 gives one device after stream numbers tree stands it = elim (it.ends tt) [
   | inl w ↦ (
-    let same : tree ≡ w.tree = (one (image_of device.sectors) _ _ _ _ stands w.stands.stands).1 in
-    (w.prints.0, subst (λ (T : Tree). directory_named T (codes "/") ≡ Ok w.prints.0) (sym same) w.prints.1, subst (λ (T : Tree). Exports T w.prints.0 (Some []) (Some stream)) (sym same) w.prints.2)
-  )
+      let same : tree ≡ w.tree = (one (image_of device.sectors) _ _ _ _ stands w.stands.stands).1 in
+      (w.prints.0, subst (λ (T : Tree). directory_named T (codes "/") ≡ Ok w.prints.0) (sym same) w.prints.1, subst (λ (T : Tree). Exports T w.prints.0 (Some []) (Some stream)) (sym same) w.prints.2)
+      )
   | inr none ↦ absurd (subst (λ (r : Result (Unit {0}) ExportFailure). IfErr r (λ e. ⊥)) none.is tt)
 ]
