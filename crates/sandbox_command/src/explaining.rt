@@ -99,6 +99,12 @@ pub(crate) fn tell_of_kind<W: Write>(err: &mut W, name: &str, kind: ErrorKind)
             "memory was refused",
             "free some, or raise its bound (ulimit -v)",
         ),
+        ErrorKind::InvalidData => ("it is no text", "write it in UTF-8"),
+        ErrorKind::FileTooLarge => (
+            "it has more bytes than are read of such a file",
+            "take a part of it",
+        ),
+        ErrorKind::StorageFull => ("no space is left on its disk", "free some"),
         _ => (
             "it can't be opened, read or written",
             "look at the disk, its free space and its rights",
