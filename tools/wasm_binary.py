@@ -70,6 +70,10 @@ def sized(content):
     return u(len(content)) + content
 
 
+def section(kind, content):
+    return bytes((kind,)) + sized(content)
+
+
 def vector(items):
     items = list(items)
     return u(len(items)) + b"".join(items)
@@ -220,9 +224,9 @@ class Module:
         out, parts = bytearray(MAGIC), self.parts()
         for before in (0, 1, 2, 3, 4, 5, 6, 7, 8, 9, 12, 10, 11):
             if before in parts:
-                out += bytes((before,)) + sized(parts[before])
+                out += section(before, parts[before])
             for _, content in (it for it in self.custom if it[0] == before):
-                out += b"\0" + sized(content)
+                out += section(0, content)
         return bytes(out)
 
     def parts(self):

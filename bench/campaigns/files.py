@@ -45,7 +45,7 @@ def content(path):
 class Scene:
     """A folder with a file for each role, which goes at the end."""
 
-    templates = {}
+    templates: dict[str, bytes] = {}
 
     def __init__(self, setting):
         self.program, self.folder = setting.program, tempfile.mkdtemp(dir=setting.room)

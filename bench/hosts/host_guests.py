@@ -8,7 +8,7 @@ import struct
 import sys
 
 sys.path.insert(0, os.path.join(os.path.dirname(os.path.abspath(__file__)), "..", "..", "tools"))
-from wasm_binary import I32, I64, MAGIC, s, sized, u, vector  # noqa: E402
+from wasm_binary import I32, I64, MAGIC, s, section, sized, u, vector  # noqa: E402
 
 PREVIEW = b"wasi_snapshot_preview1"
 PAGE = 65536
@@ -22,10 +22,6 @@ CALLS = [
     ("path_open", 9, (5, 6)), ("path_remove_directory", 3, ()), ("path_rename", 6, ()), ("path_unlink_file", 3, ()), ("sched_yield", 0, ()),
 ]  # fmt: skip
 TYPES = {name: (tuple(I64 if n in wide else I32 for n in range(count)), () if name == "proc_exit" else (I32,)) for name, count, wide in CALLS}
-
-
-def section(number, content):
-    return bytes([number]) + sized(content)
 
 
 def number(value):
@@ -146,7 +142,7 @@ def large(count):
 def floating():
     """Writes the bits of floats that every other rounding, flushing of subnormal numbers or raised exception changes or ends: of each
     operator that rounds, over the quotients of small numbers, and near the least and the greatest of both types."""
-    f32, f64, i64 = 0x7D, 0x7C, I64
+    f64, i64 = 0x7C, I64
     # of x at local 0 and y at local 1: add sub mul div, and sqrt; then by f32
     binary, own = (0xA0, 0xA1, 0xA2, 0xA3), (0x92, 0x93, 0x94, 0x95)
     kept = lambda code: get(3) + code + b"\x37\x03\0" + get(3) + number(8) + b"\x6a" + put(3)  # noqa: E731
