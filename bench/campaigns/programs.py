@@ -33,6 +33,9 @@ class Writer:
     """Writes one function: `chance` draws, `calls` are the functions it may call with their types."""
 
     # the types of its values and of the globals, and what the run needs
+    kinds: tuple[int, ...]
+    held: list[int]
+    options: tuple[str, ...]
     kinds, held, options = VALUES, GLOBALS, ()
 
     def __init__(self, chance, types, takes, gives, calls, table):
