@@ -191,7 +191,7 @@ FLOATING = [
     Timed("awk", "awk", [FLOATING_AWK], lambda: prose(1_500), True),
     Timed("mujs", "mujs", [], lambda: FLOATING_JAVASCRIPT, True),
     Timed("sqlite3", "sqlite3", ["-batch", "-vfs", "unix-none", ":memory:"], lambda: FLOATING_SQL, True),
-    Timed("jq", "jq", ["-c", FLOATING_JQ], lambda: json.dumps(objects(2_000)), True),
+    Timed("jq", "jq", ["-c", FLOATING_JQ], lambda: json.dumps(objects(1_000)), True),
     Timed("brotli", "brotli", ["-c", "-q", "11"], lambda: prose(300), True),
 ]
 
