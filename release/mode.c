@@ -5,6 +5,7 @@
  * again, with its flags. Each goes on to the proved function, which `examples/hosts/library` calls `proved_` and its name.
  */
 #include <sandbox.h>
+#include <sandbox_plugin.h>
 
 enum { STANDARD = 0x1F80 };
 
@@ -27,6 +28,7 @@ uint32_t proved_sandbox_open(sandbox_session **session, const uint8_t *module, s
 uint32_t proved_sandbox_open_loaded(sandbox_session **session, sandbox_module **module, const sandbox_supplies *supplies,
                                     const sandbox_volume *volume);
 uint32_t proved_sandbox_resume(sandbox_session **session, uint64_t units, sandbox_told *told);
+uint32_t proved_sandbox_go(sandbox_session **instance, uint64_t units, sandbox_told *told);
 #pragma GCC visibility pop
 
 uint32_t sandbox_run(const uint8_t *module, size_t module_length, const sandbox_supplies *supplies, uint64_t fuel, uint8_t *out,
@@ -50,4 +52,9 @@ uint32_t sandbox_open_loaded(sandbox_session **session, sandbox_module **module,
 uint32_t sandbox_resume(sandbox_session **session, uint64_t units, sandbox_told *told) {
     const unsigned mode = leave_mode();
     return answered(mode, proved_sandbox_resume(session, units, told));
+}
+
+uint32_t sandbox_go(sandbox_session **instance, uint64_t units, sandbox_told *told) {
+    const unsigned mode = leave_mode();
+    return answered(mode, proved_sandbox_go(instance, units, told));
 }

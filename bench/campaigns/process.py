@@ -367,6 +367,36 @@ def meanwhile(setting, item):
     return "files that come meanwhile"
 
 
+def gone(setting, option):
+    """A folder that is removed while a run goes on which gives a file of it its volume or its tree: the run says that it didn't."""
+    with run_scene(setting) as it:
+        os.mkdir(f"{it.folder}/below")
+        it.made("--volume", "below/file")
+        words = ["run", *(["--image", "i"] if option == "--volume-out" else []), option, "below/file", "--report", "r", "m"]
+        running = subprocess.Popen([it.program, *words], cwd=it.folder, stdin=subprocess.PIPE, stdout=subprocess.PIPE, stderr=subprocess.PIPE)
+        while not os.path.exists(f"{it.folder}/r") and running.poll() is None:
+            time.sleep(0.01)
+        shutil.rmtree(f"{it.folder}/below")
+        _, said = running.communicate(b"")
+        what = f"{option}, and its folder goes: status {running.returncode}, {said[:200]!r}"
+        wanted(running.returncode == 124 and b"sandbox: fault 41\n" in said and b"volume:failed\n" in it.files()["r"], what)
+    return "folders that go"
+
+
+def no_file(setting, item):
+    """A name that no file can have is refused before the guest runs."""
+    option, name = item
+    with run_scene(setting) as it:
+        before = it.files()
+        got = it.call(["run", *(["--image", "i"] if option == "--volume-out" else []), option, name, "m"])
+        what = f"{option} {name!r}: status {got[0]}, {got[2][:200]!r}"
+        wanted(got[:2] == (124, b"") and got[2].startswith("sandbox: fault 41\n") and it.files() == before, what)
+    return "names of no file"
+
+
+NO_FILES = [(option, name) for option in ("--volume-out", "--out-to", "--stdout", "--report", "--volume") for name in ("new/", "new//", "new/.", "", ".", "./", "none/new")]
+
+
 def hosts(setting):
     """The row: locks of others, files without room, what can't be replaced, and what comes under a name meanwhile."""
     prepare(setting)
@@ -374,7 +404,7 @@ def hosts(setting):
     found = collections.Counter()
     locks = [(name, is_shared) for name in LOCKED for is_shared in (False, True)]
     rows = [(locked, locks), (without_room, drawn(setting, room_items(), 4)), (in_place, ["file", "hard link", "symbolic link", "folder"])]
-    for function, items in [*rows, (full_disk, ON_FULL), (meanwhile, MEANWHILE)]:
+    for function, items in [*rows, (full_disk, ON_FULL), (meanwhile, MEANWHILE), (no_file, NO_FILES), (gone, ["--volume-out", "--out-to"])]:
         found.update(setting.each(lambda item, function=function: function(setting, item), items))
     return sum(found.values()), ", ".join(f"{name} {count}" for name, count in sorted(found.items()))
 

@@ -320,6 +320,7 @@ function row_of(file, words, key,    n, i, cells, m) {
   for (i = place_of(file, words) + 1; i <= n && !level_of(lines[file, i]); i++)
     if (lines[file, i] ~ /^\|/ && cells_of(lines[file, i], cells) && index(cells[1] " ", "`" key)) {
       m = cells_of(lines[file, i], cells)
+      sub(/ \("[^"]*"\)$/, "", cells[2]) # a section of the document, which the page has itself
       line_of("It " cells[2] "." (m > 2 && cells[3] != "nothing" ? " It prints " cells[3] "." : ""))
       line_of("")
       return

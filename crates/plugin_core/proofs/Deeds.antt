@@ -1,5 +1,5 @@
 -- From deeds to a whole life.
-use Rattle.std.proofs.Common.{subst}
+use Rattle.std.proofs.Common.{refl, subst}
 use Rattle.wasm_steps.specs.Configuration.{Instance, Configuration}
 use Rattle.wasm_steps.specs.Steps.{CallsOf}
 use Rattle.plugin_steps.specs.Lives.{Ending, EndsWith}
@@ -27,4 +27,5 @@ deeds_are_a_life H Calls S Stands links pages m i first initializer h h' s s' ds
         lives = lived.lives;
         only_last_exits = only;
       },
+      refl,
     )

@@ -6,8 +6,8 @@ use Rattle.wasm_steps.specs.Configuration.{Instance, Store, Configuration, store
 use Rattle.wasm_steps.specs.Steps.{CallsOf}
 use Rattle.plugin_steps.specs.Lives.{returns}
 use Rattle.plugin_steps.specs.Acting.{Deed, at_work, invocations, Acts}
-use Rattle.plugin_core.specs.Allocating.{AllLinks, Allocates}
-use Rattle.plugin_core.specs.WholeLives.{HasInitializer, OnlyLastExits, Life}
+use Rattle.wasm_store.specs.Allocating.{AllLinks, Allocates, HasInitializer}
+use Rattle.plugin_core.specs.WholeLives.{OnlyLastExits, Life}
 
 -- Of a machine that stood for the first configuration. Another function is entered only where the opening returned, and none after
 -- `proc_exit`.
@@ -15,4 +15,4 @@ abbrev pub DeedsAreALife : (H : Type 0) → CallsOf H → (S : Type 0) → (S �
 DeedsAreALife H Calls S Stands = (links : AllLinks) (pages : ℕ) (m : Module) (i : Instance) (first : Store) (initializer : Option ℕ) (h h' : H) (s s' : S) (ds : List Deed)
     → Allocates links pages m i first → HasInitializer m initializer → Stands s i (first_configuration (option_to_list m.start ++ option_to_list initializer) first)
     → Acts H Calls m i (λ t d. Stands t i d) true h s ds h' s' → (invocations ds ≢ [] → (at_work ds).ending ≡ returns []) → OnlyLastExits (invocations ds)
-    → (last : Configuration) × Stands s' i last × Life H Calls links pages m h (invocations ds) h' (store_of last)
+    → (last : Configuration) × Stands s' i last × (life : Life H Calls links pages m h (invocations ds) h' (store_of last)) × (life.instance ≡ i)

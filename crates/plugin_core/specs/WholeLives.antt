@@ -1,10 +1,8 @@
 -- The whole life of a module's instance: it is allocated, its start function and its `_initialize` are run, and then exports are
 -- called, one invocation after another, each on the store that the one before it left.
-use Rattle.std.specs.Prelude.{◌≡◌, ◌≢◌, ℕ, List, [], ◌∷◌, ◌++◌, Option, Some, None, slice_get, codes, Contains}
+use Rattle.std.specs.Prelude.{◌≢◌, ℕ, List, [], ◌∷◌, ◌++◌, Option}
 use Rattle.std.specs.Option.{option_to_list}
-use Rattle.wasm_module.specs.declared.module.ExportKind.TheVariants as exports
 use Rattle.wasm_module.specs.declared.module.Module.{Module}
-use Rattle.wasm_valid.specs.Validity.{functions_of}
 use Rattle.wasm_store.specs.declared.call.HostCall.{HostCall}
 use Rattle.wasm_store.specs.declared.call.Errno.{Errno}
 use Rattle.wasm_steps.specs.Configuration.{Instance, Store, Configuration, store_of, first_configuration}
@@ -12,19 +10,7 @@ use Rattle.wasm_steps.specs.Steps.{CallsOf}
 use Rattle.plugin_steps.specs.Serving.{Exchange}
 use Rattle.plugin_steps.specs.Talks.{Talk}
 use Rattle.plugin_steps.specs.Lives.{Ending, returns, exits, EndsWith, Invocation, LivesBy}
-use Rattle.plugin_core.specs.Allocating.{AllLinks, Allocates}
-
--- an exported function `_initialize` of type [] -> []
-pub record IsInitializer (m : Module) (x : ℕ) : Type 0 where
-  pub exported : Contains m.exports (record { name = codes "_initialize"; kind = exports.Function x })
-  pub type_index : ℕ
-  pub function : slice_get (functions_of m) x ≡ Some type_index
-  pub type_is : slice_get m.types type_index ≡ Some (record { params = []; results = [] })
-
--- the initializer, or that there is none
-abbrev pub HasInitializer : Module → Option ℕ → Type 0
-HasInitializer m None = (x : ℕ) → IsInitializer m x → ⊥
-HasInitializer m (Some x) = IsInitializer m x
+use Rattle.wasm_store.specs.Allocating.{AllLinks, Allocates, HasInitializer}
 
 -- what an invocation ends with after which others may come
 abbrev pub MayGoOn : Ending → Type 0

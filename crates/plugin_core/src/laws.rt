@@ -3,6 +3,7 @@
 ghost use Rattle.plugin_core.specs.Allocating.{InstancesAllocate};
 ghost use Rattle.plugin_core.specs.Confined.{ConfinesLives};
 ghost use Rattle.plugin_core.specs.Deeds.{DeedsAreALife};
+ghost use Rattle.plugin_core.specs.Handling.{HandlingIsALife};
 ghost use Rattle.plugin_core.specs.Moments.{KeepsLives};
 
 use plugin_steps::InstanceMachine;
@@ -18,6 +19,12 @@ pub fn instances_allocate()
 /// what holds over lives holds of that.
 pub fn deeds_are_a_life<H: Host, S: InstanceMachine>()
     ensures { DeedsAreALife H H.calls S S.stands }
+{}
+
+/// A law: whatever an embedder does with the machine of an instance from its opening on (it goes on, answers, writes, enters exported
+/// functions, lets one go) is a life of the instance by the standard's rules, in which just that happened which was told.
+pub fn handling_is_a_life<H: Host>()
+    ensures { HandlingIsALife H H.calls }
 {}
 
 /// A law: whatever is called of an instance in all its life, and whatever its embedder answers and writes, an entry that was no

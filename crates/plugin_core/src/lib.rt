@@ -2,5 +2,10 @@
 #![tactic(auto)]
 
 mod laws;
+mod stage;
 
-pub use laws::{deeds_are_a_life, instances_allocate, lives_keep_moments, lives_stay_confined};
+pub use laws::{
+    deeds_are_a_life, handling_is_a_life, instances_allocate, lives_keep_moments,
+    lives_stay_confined,
+};
+pub use stage::Stage;

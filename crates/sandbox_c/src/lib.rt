@@ -1,7 +1,7 @@
 //! What C calls (`include/sandbox.h`). Each export is one call of `sandbox_host`, under its contract.
 #![tactic(auto)]
 
-ghost use Rattle.std.specs.Prelude.{◌≡◌, ◌≢◌, ◌⊎◌, None, Some, IfSome, IsSomeAnd, is_none, true, false, length, drop, slice_get, if◌then◌else◌};
+ghost use Rattle.std.specs.Prelude.{◌≡◌, ◌≢◌, ◌⊎◌, None, Some, IfSome, IsSomeAnd, is_none, true, false, length, drop, slice_get, if◌then◌else◌, ◌-◌, ◌^◌};
 ghost use Rattle.wasm_interp.specs.Frames.{frames_of};
 ghost use Rattle.vol_sector.specs.Record.{image_of};
 ghost use Rattle.vol_inode.specs.declared.version.Version.TheVariants.{Four};
@@ -18,6 +18,12 @@ ghost use Rattle.sandbox_host.specs.Refusals.{NotLoaded, NotLoadedWith, NotBegun
 ghost use Rattle.sandbox_host.specs.Whole.{Ran, IsUnformatted};
 ghost use Rattle.sandbox_host.specs.Texts.{text_of};
 ghost use Rattle.sandbox_host.specs.declared.volumes.Origin.TheVariants.{Fresh};
+ghost use Rattle.sandbox_host.specs.Sessions.{has_plugin};
+ghost use Rattle.sandbox_host.specs.Host.{known};
+ghost use Rattle.sandbox_host.specs.Instances.{Answered, Answers, BeginsInstance, FinishesInstance, Invokes, IsHandedOver, IsNamed, IsRead, NotBegunInstance, NotPluggedWith, Went, left, living, memory, plugin_of};
+ghost use Rattle.plugin_core.specs.Handling as acts;
+ghost use Rattle.plugin_session.specs.Instance.{Does};
+ghost use Rattle.wasm_store.specs.Bytes.{written};
 
 use sandbox_host::{
     FunctionFrame, Handle, Limits, Supplies, Told, VolumeOperation, VolumeSource, Why,
@@ -27,7 +33,7 @@ use std::alloc::Global;
 /// The version of the archive.
 #[unsafe(no_mangle)]
 pub extern "C" fn sandbox_version() -> u32
-    ensures { result ≡ 9013 }
+    ensures { result ≡ 9014 }
 {
     sandbox_host::VERSION
 }
@@ -387,4 +393,215 @@ pub extern "C" fn sandbox_format_huge(alloc: Global, sectors: &mut [[u8; 512]], 
     ensures kept { length sectors.new ≡ length sectors.old }
 {
     sandbox_host::format_huge(alloc, sectors, slots)
+}
+
+/// Loads a module for instances.
+#[unsafe(no_mangle)]
+pub extern "C" fn sandbox_plugin_load(
+    alloc: Global,
+    plugin: &mut Handle,
+    bytes: &'static [u8],
+    limits: &Limits,
+    floats: u32,
+    why: &mut Why,
+) -> u32
+    ensures misuse { is_none plugin.old.held ≡ false
+        → (result ≡ 100) × (plugin.new ≡ plugin.old) × (why.new ≡ why.old) }
+    ensures loaded { is_none plugin.old.held ≡ true → result ≡ 0
+        → IsSomeAnd (plugin_of plugin.new.held) (λ ready. IsLoadedWith (profile_of floats) bytes.now ready.valid × (ready.pages ≡ most_pages limits.now))
+        × (why.new ≡ why.old) }
+    ensures refused { is_none plugin.old.held ≡ true → result ≢ 0 → (plugin.new.held ≡ None)
+        × NotPluggedWith (profile_of floats) bytes.now limits.now result why.old why.new }
+    ensures bytes { result ≡ 0 → bytes_of plugin.new.held ≡ bytes.now }
+{
+    sandbox_host::load_plugin(alloc, plugin, bytes, limits, floats, why)
+}
+
+/// Gives a second handle the same module for instances.
+#[unsafe(no_mangle)]
+pub extern "C" fn sandbox_plugin_share(
+    alloc: Global,
+    other: &mut Handle,
+    plugin: &mut Handle,
+) -> u32
+    ensures misuse { (is_none other.old.held ≡ false) ⊎ (is_none (plugin_of plugin.old.held) ≡ true)
+        → (result ≡ 100) × (other.new.held ≡ other.old.held) }
+    ensures shared { is_none other.old.held ≡ true → IfSome (plugin_of plugin.old.held) (λ ready. result ≡ 0
+        → plugin_of other.new.held ≡ Some ready) }
+    ensures refused { is_none other.old.held ≡ true → IfSome (plugin_of plugin.old.held) (λ ready. result ≢ 0
+        → (result ≡ 40) × (other.new.held ≡ None)) }
+    ensures bytes { result ≡ 0 → bytes_of other.new.held ≡ bytes_of plugin.old.held }
+    ensures kept { plugin.new.held ≡ plugin.old.held }
+{
+    sandbox_host::share_plugin(alloc, other, plugin)
+}
+
+/// Copies the name of an import or an export.
+#[unsafe(no_mangle)]
+pub extern "C" fn sandbox_plugin_name(
+    alloc: Global,
+    plugin: &mut Handle,
+    part: u32,
+    index: usize,
+    room: &mut [u8],
+) -> usize
+    ensures named { IfSome (plugin_of plugin.old.held) (λ ready. IsNamed ready.valid part index room.old room.new result) }
+    ensures misuse { is_none (plugin_of plugin.old.held) ≡ true → (result ≡ 2 ^ 64 - 1) × (room.new ≡ room.old) }
+    ensures kept { plugin.new.held ≡ plugin.old.held }
+{
+    sandbox_host::plugin_name(alloc, plugin, part, index, room)
+}
+
+/// Discards a module for instances.
+#[unsafe(no_mangle)]
+pub extern "C" fn sandbox_plugin_unload(alloc: Global, plugin: &mut Handle) -> u32
+    ensures misuse { has_plugin plugin.old.held ≡ false
+        → (result ≡ 100) × (plugin.new.held ≡ plugin.old.held) }
+    ensures closed { has_plugin plugin.old.held ≡ true → (result ≡ 0) × (plugin.new.held ≡ None) }
+{
+    sandbox_host::unload_plugin(alloc, plugin)
+}
+
+/// Makes an instance.
+#[unsafe(no_mangle)]
+pub extern "C" fn sandbox_instance_open(
+    alloc: Global,
+    instance: &mut Handle,
+    plugin: &mut Handle,
+    supplies: &Supplies<'static>,
+    volume: &VolumeSource<'_>,
+) -> u32
+    ensures misuse { ((is_none instance.old.held ≡ false) ⊎ (is_none (origin_of volume.now) ≡ true)) ⊎ (is_none (plugin_of plugin.old.held) ≡ true)
+        → (result ≡ 100) × (instance.new.held ≡ instance.old.held) }
+    ensures opened { is_none instance.old.held ≡ true → IfSome (origin_of volume.now) (λ origin.
+        IfSome (plugin_of plugin.old.held) (λ ready. result ≡ 0
+        → IsSomeAnd (living instance.new.held) (BeginsInstance ready.valid supplies.now origin))) }
+    ensures refused { is_none instance.old.held ≡ true → IfSome (origin_of volume.now) (λ origin.
+        IfSome (plugin_of plugin.old.held) (λ ready. result ≢ 0
+        → (instance.new.held ≡ None) × NotBegunInstance ready supplies.now origin result)) }
+    ensures bytes { result ≡ 0 → bytes_of instance.new.held ≡ bytes_of plugin.old.held }
+    ensures kept { plugin.new.held ≡ plugin.old.held }
+{
+    sandbox_host::open_instance(alloc, instance, plugin, supplies, volume)
+}
+
+/// Is about to enter an exported function.
+#[unsafe(no_mangle)]
+pub extern "C" fn sandbox_invoke(
+    alloc: Global,
+    instance: &mut Handle,
+    name: &[u8],
+    arguments: &[u64],
+) -> u32
+    ensures misuse { is_none (living instance.old.held) ≡ true
+        → (result ≡ 100) × (instance.new.held ≡ instance.old.held) }
+    ensures invoked { IfSome (living instance.old.held) (λ old.
+        IsSomeAnd (living instance.new.held) (λ new. Answered result old new (Invokes old new name.now arguments.now))) }
+    ensures bytes { bytes_of instance.new.held ≡ bytes_of instance.old.held }
+{
+    sandbox_host::invoke(alloc, instance, name, arguments)
+}
+
+/// Lets the guest of an instance go on.
+#[unsafe(no_mangle)]
+pub extern "C" fn sandbox_go(
+    alloc: Global,
+    instance: &mut Handle,
+    units: u64,
+    told: &mut Told,
+) -> u32
+    ensures misuse { is_none (living instance.old.held) ≡ true
+        → (result ≡ 100) × (instance.new.held ≡ instance.old.held) × (told.new ≡ told.old) }
+    ensures went { IfSome (living instance.old.held) (λ old. IsSomeAnd (living instance.new.held) (λ new.
+        Answered result old new (Went units old new told.new) × (result ≢ 0 → told.new ≡ told.old))) }
+    ensures bytes { bytes_of instance.new.held ≡ bytes_of instance.old.held }
+{
+    sandbox_host::go(alloc, instance, units, told)
+}
+
+/// Copies the arguments of the host's function that is called, or the result.
+#[unsafe(no_mangle)]
+pub extern "C" fn sandbox_values(alloc: Global, instance: &mut Handle, room: &mut [u64]) -> usize
+    ensures shown { IfSome (living instance.old.held) (λ s. IsHandedOver s room.old room.new result) }
+    ensures none { is_none (living instance.old.held) ≡ true → (result ≡ 0) × (room.new ≡ room.old) }
+    ensures kept { instance.new.held ≡ instance.old.held }
+{
+    sandbox_host::values(alloc, instance, room)
+}
+
+/// Answers the function of the host that was called.
+#[unsafe(no_mangle)]
+pub extern "C" fn sandbox_answer(alloc: Global, instance: &mut Handle, results: &[u64]) -> u32
+    ensures misuse { is_none (living instance.old.held) ≡ true
+        → (result ≡ 100) × (instance.new.held ≡ instance.old.held) }
+    ensures answered { IfSome (living instance.old.held) (λ old.
+        IsSomeAnd (living instance.new.held) (λ new. Answered result old new (Answers old new results.now))) }
+    ensures bytes { bytes_of instance.new.held ≡ bytes_of instance.old.held }
+{
+    sandbox_host::answer(alloc, instance, results)
+}
+
+/// Lets what is at work go.
+#[unsafe(no_mangle)]
+pub extern "C" fn sandbox_abandon(alloc: Global, instance: &mut Handle) -> u32
+    ensures misuse { is_none (living instance.old.held) ≡ true
+        → (result ≡ 100) × (instance.new.held ≡ instance.old.held) }
+    ensures abandoned { IfSome (living instance.old.held) (λ old.
+        IsSomeAnd (living instance.new.held) (λ new. Answered result old new (Does known old acts.abandoned new))) }
+    ensures bytes { bytes_of instance.new.held ≡ bytes_of instance.old.held }
+{
+    sandbox_host::abandon(alloc, instance)
+}
+
+/// How many bytes memory has.
+#[unsafe(no_mangle)]
+pub extern "C" fn sandbox_memory_size(alloc: Global, instance: &mut Handle) -> usize
+    ensures size { result ≡ length (memory instance.old.held) }
+    ensures kept { instance.new.held ≡ instance.old.held }
+{
+    sandbox_host::memory_size(alloc, instance)
+}
+
+/// Reads bytes of memory.
+#[unsafe(no_mangle)]
+pub extern "C" fn sandbox_memory_read(
+    alloc: Global,
+    instance: &mut Handle,
+    address: u32,
+    room: &mut [u8],
+) -> u32
+    ensures misuse { is_none (living instance.old.held) ≡ true → (result ≡ 100) × (room.new ≡ room.old) }
+    ensures read { IfSome (living instance.old.held) (λ s. IsRead s.machine.memory address room.old room.new result) }
+    ensures kept { instance.new.held ≡ instance.old.held }
+{
+    sandbox_host::memory_read(alloc, instance, address, room)
+}
+
+/// Writes bytes into memory.
+#[unsafe(no_mangle)]
+pub extern "C" fn sandbox_memory_write(
+    alloc: Global,
+    instance: &mut Handle,
+    address: u32,
+    bytes: &[u8],
+) -> u32
+    ensures misuse { is_none (living instance.old.held) ≡ true
+        → (result ≡ 100) × (instance.new.held ≡ instance.old.held) }
+    ensures written { IfSome (living instance.old.held) (λ old. IsSomeAnd (living instance.new.held) (λ new.
+        Answered result old new (Does known old (acts.wrote (written old.machine.memory address bytes.now)) new))) }
+    ensures bytes { bytes_of instance.new.held ≡ bytes_of instance.old.held }
+{
+    sandbox_host::memory_write(alloc, instance, address, bytes)
+}
+
+/// Commits an instance's calls, and ends it.
+#[unsafe(no_mangle)]
+pub extern "C" fn sandbox_instance_finish(alloc: Global, instance: &mut Handle) -> u32
+    ensures misuse { is_none (living instance.old.held) ≡ true
+        → (result ≡ 100) × (instance.new.held ≡ instance.old.held) }
+    ensures finished { IfSome (living instance.old.held) (λ s.
+        IsSomeAnd (left instance.new.held) (λ e. FinishesInstance s e result)) }
+    ensures bytes { bytes_of instance.new.held ≡ bytes_of instance.old.held }
+{
+    sandbox_host::finish_instance(alloc, instance)
 }

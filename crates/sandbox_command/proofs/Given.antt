@@ -3,9 +3,8 @@ use Rattle.std.proofs.Common.{Result, Ok, Err, None, IfErr, IfOk, OnOk}
 use Rattle.std.specs.Io.KnownBytes.{Appends}
 use Rattle.std.specs.IoError.{error_kind}
 use Rattle.std.specs.declared.io.Error.{Error}
-use Rattle.sandbox_device.specs.declared.ram_device.RamDevice.{RamDevice}
 use Rattle.sandbox_words.specs.Request.{Text}
-use Rattle.sandbox_command.specs.Places.{Access, Gave, Took, WasHandedOut, WasHandedOver, WasRefused, gave, took, was_handed_out, was_handed_over, was_refused}
+use Rattle.sandbox_command.specs.Places.{Access, Gave, Took, WasRefused, gave, took, was_refused}
 
 pub given : {X Y : Type 0} (name : Text) (f : X → Y) (r : Result X Error) → IfOk r (λ x. Gave name (f x))
 given name f (Ok x) = gave name (f x)
@@ -14,14 +13,6 @@ given name f (Err e) = tt
 pub taken : {X : Type 0} (name text : Text) (r : Result X Error) → OnOk r (Took name text)
 taken name text (Ok x) = took name text
 taken name text (Err e) = tt
-
-pub handed : {X : Type 0} (name : Text) (device : RamDevice) (r : Result X Error) → OnOk r (WasHandedOut name device)
-handed name device (Ok x) = was_handed_out name device
-handed name device (Err e) = tt
-
-pub handed_over : {X : Type 0} (name bytes : Text) (r : Result X Error) → OnOk r (WasHandedOver name bytes)
-handed_over name bytes (Ok x) = was_handed_over name bytes
-handed_over name bytes (Err e) = tt
 
 -- of a file that doesn't tell its bytes nothing is known
 pub nothing_told : {X : Type 0} (text : Text) (r : Result X Error) → OnOk r (Appends None None text)

@@ -1,6 +1,7 @@
 mod Chains
 mod Both
 mod Given
+mod OfName
 mod Words
 mod Lines
 mod Began

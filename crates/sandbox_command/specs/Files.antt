@@ -14,6 +14,8 @@ use Rattle.vol_sector.specs.Past.{LeavesPast}
 use Rattle.vol_inode.specs.declared.version.Version.{Version}
 use Rattle.sandbox_device.specs.declared.opening.Output.{Output}
 use Rattle.sandbox_device.specs.File.{kept, KeepsItsModel}
+use Rattle.sandbox_device.specs.Named.{WasOpened}
+use Rattle.sandbox_device.specs.Ram.{joined_sectors}
 use Rattle.sandbox_words.specs.declared.request.Run.{Run}
 use Rattle.sandbox_words.specs.declared.request.Invocation.{Invocation}
 use Rattle.sandbox_words.specs.declared.request.Invocation.TheVariants as asked
@@ -33,9 +35,10 @@ use Rattle.sandbox_command.specs.Flushing.{Answered}
 use Rattle.sandbox_command.specs.Formatting.{room_for, version_for}
 use Rattle.sandbox_command.specs.Modules.{profile_for}
 use Rattle.sandbox_command.specs.Inspecting.{Inspects}
-use Rattle.sandbox_command.specs.Places.{Access, Gave, HasRoom, Locks, Reads, Took, WasEnded, WasHandedOut, WasHandedOver, WasRefused, lengthens}
+use Rattle.sandbox_command.specs.Places.{Access, Gave, HasRoom, Locks, Reads, Took, WasEnded, WasRefused, lengthens}
 use Rattle.sandbox_command.specs.Status.{command_line_status, file_status, words_status}
 use Rattle.sandbox_command.specs.Streams.{AppendsSome}
+use Rattle.sandbox_command.specs.System.{IsImageOfName, IsOutput, IsVolume, WasGiven}
 use Rattle.sandbox_command.specs.Testing.{RunsList}
 pub use Rattle.sandbox_command.specs.Beginning.{IsImage, memory_disk}
 
@@ -138,21 +141,22 @@ module _ {P I O V R W1 W2 : Type 0} (on : Around P I O V R W1 W2) where
 abbrev pub file_disk : HostVolume → Disk
 file_disk d = kept d.device.sectors d.device.moments.unsynced d.device.moments.times
 
--- Of the bytes of files nothing is known, and what the system did with a name is known to the code alone that asked for it.
+-- What a file of a name is, by the evidence of who opened it (`System`). Of the bytes of texts nothing is known, and what the system did
+-- with a name is known to the code alone that asked for it.
 abbrev pub system : {R W1 W2 : Type 0} → Reader R → Writer W1 → Writer W2 → Flushes Output W1 W2 → Calling File Output R W1 W2 → Around HostPlaces File Output HostVolume R W1 W2
 system input out err flushes calls = record {
   places = record {
     asked = λ access before after. Unit {0};
     refused = λ access kind before after. WasRefused access kind;
-    is_input = λ name file. Gave name file;
-    is_output = λ name file. Gave name file;
-    is_volume = λ name device. Gave name device;
-    is_image = λ name device. Gave name device;
+    is_input = WasOpened;
+    is_output = IsOutput;
+    is_volume = IsVolume;
+    is_image = IsImageOfName;
     is_text = λ name text. Gave name text;
     is_beginning = λ name most bytes. Gave name bytes;
     printed = λ name text before after. Took name text;
-    handed_out = λ name device before after. WasHandedOut name device;
-    handed_over = λ name bytes before after. WasHandedOver name bytes;
+    handed_out = λ name device before after. WasGiven name (joined_sectors device.sectors);
+    handed_over = λ name bytes before after. WasGiven name bytes;
     ended = λ {X} it before after. WasEnded it;
   };
   read = record { remaining = λ file. None };

@@ -22,5 +22,6 @@ pub mod Archive
 pub mod Alone
 pub mod Testing
 pub mod Formatting
+pub mod System
 pub mod Files
 pub mod internal

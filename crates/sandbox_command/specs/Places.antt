@@ -1,7 +1,8 @@
 -- What is asked of `Places`, through which all is done with files, by name
 -- (`crates/sandbox_command/src/places.rt`): contracts over any `Places` say by `Chain` what was asked for between two
--- of its states, in which order. `Gave`, `Took`, `WasRefused`, `WasHandedOut`, `WasHandedOver` and `WasEnded` stand for what the system did
--- with a named file, and for what a command gave up; only the proofs of `HostPlaces` introduce them.
+-- of its states, in which order. `Gave`, `Took`, `WasRefused` and `WasEnded` stand for what the system did
+-- with a named file, and for what a command gave up; only the proofs of `HostPlaces` introduce them. Of files that are opened, and of a
+-- volume or a tree that is given, `System` has the evidence.
 use Rattle.std.specs.Prelude.{◌≡◌, ◌⊎◌, ◌≤◌, ◌++◌, ℕ, Bool, true, false, List, [], ◌∷◌, Option, Some, None}
 use Rattle.std.specs.Borrow.{Bor}
 use Rattle.std.specs.declared.io.ErrorKind.{ErrorKind}
@@ -107,8 +108,8 @@ abbrev pub IsOfRandom : (Text → Text → Type 0) → Option (Bor Text) → Tex
 IsOfRandom is_beginning None bytes = bytes ≡ []
 IsOfRandom is_beginning (Some file) bytes = is_beginning file.now bytes
 
--- The system gave this for the name; or took this text into the file that it gave; or refused this, and why; or the file of
--- the name got this volume, or these bytes; or this was given up as it is. No contract says
+-- The system gave this text for the name; or took this text into the file that it gave; or refused this, and why; or
+-- this was given up as it is. No contract says
 -- which bytes a named file has, nor what the system refuses, so `gave`, `took` and the like show it of anything; but only
 -- the proofs of `HostPlaces` cite these, and all others see relations of which they know nothing.
 pub Gave : {X : Type 0} → Text → X → Type 0
@@ -131,20 +132,6 @@ WasRefused access kind = Unit {0}
 pub was_refused : (access : Access) (kind : ErrorKind) → WasRefused access kind
 unfolding WasRefused
 was_refused access kind = tt
-
-pub WasHandedOut : Text → RamDevice → Type 0
-WasHandedOut name device = Unit {0}
-
-pub was_handed_out : (name : Text) (device : RamDevice) → WasHandedOut name device
-unfolding WasHandedOut
-was_handed_out name device = tt
-
-pub WasHandedOver : (name bytes : Text) → Type 0
-WasHandedOver name bytes = Unit {0}
-
-pub was_handed_over : (name bytes : Text) → WasHandedOver name bytes
-unfolding WasHandedOver
-was_handed_over name bytes = tt
 
 pub WasEnded : {X : Type 0} → X → Type 0
 WasEnded x = Unit {0}

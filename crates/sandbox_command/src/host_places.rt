@@ -1,20 +1,25 @@
 //! The files of the system, as a command holds them.
 
 ghost use Rattle.std.specs.Prelude.{◌≡◌, ◌≤◌, IfOk, Ok, OnOk, false, length, min};
+ghost use Rattle.sandbox_device.specs.Contents.{bytes_of};
+ghost use Rattle.sandbox_device.specs.FileEvidence.{WasLocked};
+ghost use Rattle.sandbox_device.specs.Named.{WasOpened};
+ghost use Rattle.sandbox_device.specs.Ram.{joined_sectors};
 ghost use Rattle.sandbox_words.specs.Request.{Text};
 ghost use Rattle.sandbox_command.specs.Files.{file_disk};
 ghost use Rattle.sandbox_command.specs.Profiling.{IsProfile};
-ghost use Rattle.sandbox_command.specs.Places.{Gave, HasRoom, Took, WasEnded, WasHandedOut, WasHandedOver, WasRefused};
+ghost use Rattle.sandbox_command.specs.Places.{Gave, HasRoom, Took, WasEnded, WasRefused};
+ghost use Rattle.sandbox_command.specs.System.{IsImageOfName, IsOutput, IsVolume, WasGiven};
 
 use crate::clashing::clashes;
 use crate::host_volume::HostVolume;
 use crate::places::Places;
 use crate::possession::{Held, refuse_errors, refuse_errors_of};
+use crate::receiver::Receiver;
 use run_profile::{Names, Profile};
 use run_report::{Printed, Summary};
 use sandbox_device::{
-    Contents, FileDevice, Hindrance, Identity, Output, RamDevice, Replacement, open_image,
-    open_to_read,
+    Contents, FileDevice, Hindrance, Identity, Output, RamDevice, open_image, open_to_read,
 };
 use sandbox_words::{Invocation, Run};
 use std::alloc::Global;
@@ -34,7 +39,7 @@ pub(crate) struct HostPlaces<'a> {
     /// Files that are read later, held open until then.
     ahead: Vec<File>,
     /// What gets a volume, or the tree of one, at the end.
-    receiver: Option<Replacement>,
+    receiver: Option<Receiver>,
     /// Why the first file that is asked for is refused, whatever it is.
     refused: Option<ErrorKind>,
     /// The name of the first file that was refused, for who is told of it.
@@ -42,13 +47,21 @@ pub(crate) struct HostPlaces<'a> {
 }
 
 /// The volume of a file that is lengthened to these sectors, but where it is to be new and begins as a volume.
-fn volume_in(alloc: Global, file: File, sectors: u32, only_new: bool) -> io::Result<HostVolume>
+fn volume_in(
+    alloc: Global,
+    name: &str,
+    file: File,
+    sectors: u32,
+    only_new: bool,
+) -> io::Result<HostVolume>
+    requires { WasOpened name.now file × WasLocked file }
+    ensures volume { IfOk result (IsVolume name.now) }
     ensures unused { IfOk result (λ d. d.device.failures ≡ 0) }
     ensures enough { IfOk result (λ d. HasRoom (λ it. length it.device.sectors) file_disk only_new (min sectors 16777216) d) }
 {
     if only_new {
-        let device = FileDevice::lengthened_unless(alloc, file, sectors, &MAGIC)?;
-        return Ok(HostVolume { device });
+        let kept = FileDevice::lengthened_unless(alloc, file, sectors, &MAGIC)?;
+        return Ok(HostVolume { device: kept });
     }
     let device = FileDevice::lengthened(alloc, file, sectors)?;
     Ok(HostVolume { device })
@@ -146,7 +159,8 @@ impl<'a> HostPlaces<'a> {
     }
 
     fn locked(&mut self, name: &str) -> io::Result<HostVolume>
-        ensures { IfOk result (λ d. d.device.failures ≡ 0) }
+        ensures volume { IfOk result (IsVolume name.now) }
+        ensures unused { IfOk result (λ d. d.device.failures ≡ 0) }
     {
         self.go_on()?;
         let file = FileDevice::lock(self.rt, name)?;
@@ -156,32 +170,40 @@ impl<'a> HostPlaces<'a> {
     }
 
     fn lengthened(&mut self, name: &str, sectors: u32, only_new: bool) -> io::Result<HostVolume>
+        ensures volume { IfOk result (IsVolume name.now) }
         ensures unused { IfOk result (λ d. d.device.failures ≡ 0) }
         ensures enough { IfOk result (λ d. HasRoom (λ it. length it.device.sectors) file_disk only_new (min sectors 16777216) d) }
     {
         self.go_on()?;
         let file = FileDevice::lock_or_make(self.rt, name)?;
         self.held.take_volume(Identity::of(&file)?)?;
-        volume_in(self.rt.alloc(), file, sectors, only_new)
+        volume_in(self.rt.alloc(), name, file, sectors, only_new)
     }
 
     /// Opens what gets a volume at the end, which may be the image, or the tree of one.
     fn received(&mut self, name: &str) -> io::Result<()> {
-        let it = self.or_twice(name, Replacement::open(self.rt, name))?;
-        self.held.take_volume(it.identity()?)?;
-        self.receiver = Some(it);
+        let receiver = self.or_twice(name, Receiver::open(self.rt, name))?;
+        self.held.take_volume(receiver.file.identity()?)?;
+        self.receiver = Some(receiver);
         Ok(())
     }
 
-    /// Replaces what was opened so.
-    fn replaced(&mut self, contents: Contents<'_>) -> io::Result<Option<Hindrance>> {
-        match self.receiver.take() {
-            Some(it) => it.fill(self.rt, contents),
-            None => Err(io::Error::from(ErrorKind::NotFound)),
+    /// Replaces what was opened so, under this name.
+    fn replaced(&mut self, name: &str, contents: Contents<'_>) -> io::Result<Option<Hindrance>>
+        ensures { OnOk result (WasGiven name.now (bytes_of contents.entry)) }
+    {
+        let Some(receiver) = self.receiver.take() else {
+            return Err(io::Error::from(ErrorKind::NotFound));
+        };
+        if receiver.name.as_str() != name {
+            return Err(io::Error::from(ErrorKind::NotFound));
         }
+        receiver.file.fill(self.rt, contents)
     }
 
-    fn opened(&mut self, name: &str) -> io::Result<File> {
+    fn opened(&mut self, name: &str) -> io::Result<File>
+        ensures { IfOk result (WasOpened name.now) }
+    {
         let file = self.or_twice(name, open_to_read(self.rt, name))?;
         if file.metadata()?.is_dir() {
             return Err(io::Error::from(ErrorKind::IsADirectory));
@@ -191,7 +213,8 @@ impl<'a> HostPlaces<'a> {
     }
 
     fn made(&mut self, name: &str) -> io::Result<Output>
-        ensures { IfOk result (λ it. it.on.is_cut ≡ false) }
+        ensures uncut { IfOk result (λ it. it.on.is_cut ≡ false) }
+        ensures named { IfOk result (IsOutput name.now) }
     {
         self.held.contest(Identity::of_path(self.rt, name))?;
         let file = self.or_twice(name, Output::open(self.rt, name))?;
@@ -203,7 +226,7 @@ impl<'a> HostPlaces<'a> {
     fn is_receiver(&self, file: &Output) -> bool {
         match &self.receiver {
             Some(receiver) => {
-                let it = receiver.identity_now(self.rt);
+                let it = receiver.file.identity_now(self.rt);
                 match file.identity() {
                     Ok(found) => it.is_some() && it == found,
                     Err(_) => true,
@@ -214,7 +237,10 @@ impl<'a> HostPlaces<'a> {
     }
 
     /// Cuts a file that was made last. One that gets the volume is refused, and goes if it is new.
-    fn cut_apart(&mut self, name: &str, file: Output) -> io::Result<Output> {
+    fn cut_apart(&mut self, name: &str, file: Output) -> io::Result<Output>
+        requires { IsOutput name.now file }
+        ensures { IfOk result (IsOutput name.now) }
+    {
         let mut file = file;
         if self.is_receiver(&file) {
             if file.is_new() {
@@ -227,7 +253,8 @@ impl<'a> HostPlaces<'a> {
     }
 
     fn sectors_of(&mut self, name: &str) -> io::Result<RamDevice>
-        ensures { IfOk result (λ device. length device.sectors ≤ 16777216) }
+        ensures few { IfOk result (λ device. length device.sectors ≤ 16777216) }
+        ensures image { IfOk result (IsImageOfName name.now) }
     {
         let file = open_image(self.rt, name)?;
         self.held.take_image(&file)?;
@@ -306,13 +333,13 @@ impl<'a> Places for HostPlaces<'a> {
 
     ghost refused = { λ access kind before after. WasRefused access kind };
 
-    ghost is_input = { λ name file. Gave name file };
+    ghost is_input = { WasOpened };
 
-    ghost is_output = { λ name file. Gave name file };
+    ghost is_output = { IsOutput };
 
-    ghost is_volume = { λ name device. Gave name device };
+    ghost is_volume = { IsVolume };
 
-    ghost is_image = { λ name device. Gave name device };
+    ghost is_image = { IsImageOfName };
 
     ghost is_text = { λ name text. Gave name text };
 
@@ -320,9 +347,9 @@ impl<'a> Places for HostPlaces<'a> {
 
     ghost printed = { λ name text before after. Took name text };
 
-    ghost handed_out = { λ name device before after. WasHandedOut name device };
+    ghost handed_out = { λ name device before after. WasGiven name (joined_sectors device.sectors) };
 
-    ghost handed_over = { λ name bytes before after. WasHandedOver name bytes };
+    ghost handed_over = { λ name bytes before after. WasGiven name bytes };
 
     ghost ended = { λ {X} it before after. WasEnded it };
 
@@ -380,12 +407,12 @@ impl<'a> Places for HostPlaces<'a> {
         done
     }
 
-    fn hand_out(&mut self, _name: &str, device: &RamDevice) -> io::Result<Option<Hindrance>> {
-        self.replaced(Contents::Sectors(device))
+    fn hand_out(&mut self, name: &str, device: &RamDevice) -> io::Result<Option<Hindrance>> {
+        self.replaced(name, Contents::Sectors(device))
     }
 
-    fn hand_over(&mut self, _name: &str, bytes: &[u8]) -> io::Result<Option<Hindrance>> {
-        self.replaced(Contents::Bytes(bytes))
+    fn hand_over(&mut self, name: &str, bytes: &[u8]) -> io::Result<Option<Hindrance>> {
+        self.replaced(name, Contents::Bytes(bytes))
     }
 
     fn print(

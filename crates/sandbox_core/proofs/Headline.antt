@@ -288,13 +288,13 @@ module _ {D R W1 W2 : Type 0} (on : Devices D R W1 W2) where
     turns (r ∷ rs) s s' ((units, resumes), rest) is = (refl, resumes.numbers, resumes.crash is, synced_by r.0 r.1.host (resumes.synced is), counts r.1.host.volume.device (resumes.honest_after is), turns rs r.1 s' rest (resumes.honest_after is))
 
     module _ (parts : HostParts D R W1 W2) (s : S) (shares : Shares on.device parts s) (is : on.device.honest parts.volume.device) where
-      still : honest_of s.host
+      pub still : honest_of s.host
       still = shares.reads.kept.honest.0 is
 
       same_tree : s.host.volume.tree ≡ parts.volume.tree
       same_tree = shares.reads.tree is
 
-      safe : (trees : List Tree) (from : ℕ) → IsSafeVolume on.device parts.volume trees from → IsSafe disk_of numbers_of tree_of s.host trees from
+      pub safe : (trees : List Tree) (from : ℕ) → IsSafeVolume on.device parts.volume trees from → IsSafe disk_of numbers_of tree_of s.host trees from
       safe trees from before = record {
         some = before.some;
         now = before.now ∙ sym same_tree;
@@ -305,7 +305,7 @@ module _ {D R W1 W2 : Type 0} (on : Devices D R W1 W2) where
         ];
       }
 
-      world_begins : (settings_fit parts.settings ≡ true) → (b : StreamBytes) → HasOnlyDirectoriesOpen (world_of s.host b)
+      pub world_begins : (settings_fit parts.settings ≡ true) → (b : StreamBytes) → HasOnlyDirectoriesOpen (world_of s.host b)
       unfolding AreDirectories
       world_begins fits b =
           let there = shares.preopens is in

@@ -28,7 +28,7 @@ pub enum SessionFault {
 }
 
 /// The reason of a host's refusal.
-pub(crate) fn of_host(fault: HostFault) -> SessionFault
+pub fn of_host(fault: HostFault) -> SessionFault
     ensures { result ≡ of_host fault }
 {
     match fault {
@@ -40,7 +40,7 @@ pub(crate) fn of_host(fault: HostFault) -> SessionFault
 }
 
 /// The reason of a machine's refusal.
-pub(crate) fn of_instance(fault: InstanceFault) -> SessionFault
+pub fn of_instance(fault: InstanceFault) -> SessionFault
     ensures { result ≡ of_instance fault }
 {
     match fault {

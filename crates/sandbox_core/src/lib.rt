@@ -12,12 +12,12 @@ mod shared_report;
 mod slice;
 mod tally;
 
-pub use fault::SessionFault;
+pub use fault::{SessionFault, of_host, of_instance};
 pub use loading::{load, load_with};
 pub use report::{Report, run, run_counted, run_counted_with_module};
 pub use resumable::Resumable;
-pub use session::{Finished, RefusedSession, Session};
-pub use shared::{RefusedParts, SharedModule, SharedSession};
+pub use session::{Finished, RefusedSession, Session, give_back};
+pub use shared::{Linker, RefusedParts, SharedModule, SharedSession};
 pub use shared_report::run_counted_shared;
 pub use slice::{finish_run, run_slice};
 pub use tally::{Answers, Tally};

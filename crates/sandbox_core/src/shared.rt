@@ -23,7 +23,7 @@ use wasm_store::Memory;
 use wasm_valid::Valid;
 
 /// Links as the host of each session does. A module is prepared over it, and it is asked nothing else.
-struct Linker;
+pub struct Linker;
 
 impl Host for Linker {
     ghost use Rattle.wasi_calls.specs.host.Links.{link};

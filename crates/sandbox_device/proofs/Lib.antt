@@ -1,4 +1,5 @@
 mod Ram
+mod Reading
 mod File
 pub mod Recorded
 pub mod Packing

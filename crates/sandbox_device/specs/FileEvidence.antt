@@ -1,8 +1,9 @@
 -- What became of a file of the system. No contract says what the system does, so `was_written` and its like show it of any file;
 -- but only the proofs of `SectorFile` for `File` cite them, and all others see relations of which they know nothing: so who says that
 -- a file was written has asked for that, and was answered with success.
-use Rattle.std.specs.Prelude.{◌⊎◌, ◌≤◌, ◌<◌, ℕ, List}
+use Rattle.std.specs.Prelude.{◌⊎◌, ◌≤◌, ◌<◌, ℕ, List, length}
 use Rattle.std.specs.declared.fs.File.{File}
+use Rattle.vol_sector.specs.Record.{image_of}
 
 -- these bytes were written to the sector with this number
 pub WasWritten : File → ℕ → List ℕ → File → Type 0
@@ -36,6 +37,14 @@ pub was_measured : (file : File) (sectors : ℕ) → WasMeasured file sectors
 unfolding WasMeasured
 was_measured file sectors = tt
 
+-- the sector with this number was read, and had these bytes
+pub WasRead : File → ℕ → List ℕ → Type 0
+WasRead file n bytes = Unit {0}
+
+pub was_read : (file : File) (n : ℕ) (bytes : List ℕ) → WasRead file n bytes
+unfolding WasRead
+was_read file n bytes = tt
+
 -- its lock was taken
 pub WasLocked : File → Type 0
 WasLocked file = Unit {0}
@@ -43,6 +52,14 @@ WasLocked file = Unit {0}
 pub was_locked : (file : File) → WasLocked file
 unfolding WasLocked
 was_locked file = tt
+
+-- The first of these sectors were read of the file.
+abbrev pub AreReadTo : {F : Type 0} → (gave : F → ℕ → List ℕ → Type 0) → F → ℕ → List (List ℕ) → Type 0
+AreReadTo gave file count sectors = (n : ℕ) → n < count → gave file n (image_of sectors n)
+
+-- All of them were.
+abbrev pub AreRead : {F : Type 0} → (gave : F → ℕ → List ℕ → Type 0) → F → List (List ℕ) → Type 0
+AreRead gave file sectors = AreReadTo gave file (length sectors) sectors
 
 -- What was written before lasts, and the file had all its sectors still.
 abbrev pub IsSettled : {F : Type 0} → (synced : F → F → Type 0) → (measured : F → ℕ → Type 0) → ℕ → F → F → Type 0

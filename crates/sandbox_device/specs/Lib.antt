@@ -9,5 +9,6 @@ pub mod FileEvidence
 pub mod Contents
 pub mod Beside
 pub mod Replaced
+pub mod Named
 pub mod Written
 pub mod internal

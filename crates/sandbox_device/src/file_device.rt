@@ -1,12 +1,13 @@
 //! A device in a file of the system.
 
-ghost use Rattle.std.specs.Prelude.{◌≡◌, ◌<◌, ◌≤◌, ◌↔◌, ◌⊎◌, ℕ, IfOk, IsTrue, OnOk, MatchResult, is_err, length, max, min, true};
+ghost use Rattle.std.specs.Prelude.{◌≡◌, ◌+◌, ◌^◌, ◌<◌, ◌≤◌, ◌↔◌, ◌⊎◌, ℕ, IfOk, IsTrue, OnOk, MatchResult, is_err, length, max, min, true};
 ghost use Rattle.vol_sector.specs.Disk.{counted, put, After, Keeps, Leaves, OneMore, Only, Wrote};
 ghost use Rattle.vol_sector.specs.Past.{LeavesPast, StillGoesOn};
 ghost use Rattle.vol_sector.specs.Record.{image_of};
 ghost use Rattle.vol_sector.specs.internal.PastLaws.{past_same, past_then};
 ghost use Rattle.sandbox_device.specs.File.{BeginsWith, IsOfSize, kept, version_4};
-ghost use Rattle.sandbox_device.specs.FileEvidence.{IsSettled, IsUnsettled, WasLocked};
+ghost use Rattle.sandbox_device.specs.FileEvidence.{AreRead, AreReadTo, IsSettled, IsUnsettled, WasLocked};
+ghost use Rattle.sandbox_device.specs.Named.{WasOpened};
 ghost use Rattle.sandbox_device.specs.Opening.{StandsApart};
 ghost use Rattle.sandbox_device.specs.internal.FileLaws.{mixed_since, mixed_now, now_may_stay};
 
@@ -73,6 +74,25 @@ fn count_of(there: u32, wanted: u32, beginning: &[[u8; 512]]) -> u32
     most
 }
 
+/// Reads further sectors of a file, from one on.
+fn read_piece<F: SectorFile>(
+    file: &F,
+    first: u32,
+    images: &mut [[u8; 512]],
+    sectors: &mut Sectors,
+) -> io::Result<()>
+    requires fit { first + length images.old ≤ length sectors.old }
+    requires small { first + length images.old < 2 ^ 32 }
+    requires read { AreReadTo F.gave file.now first sectors.old }
+    ensures read { OnOk result (AreReadTo F.gave file.now (first + length images.old) sectors.new) }
+    ensures count { length sectors.new ≡ length sectors.old }
+    ensures begins { 0 < first → image_of sectors.new 0 ≡ image_of sectors.old 0 }
+{
+    file.read_into(first, images)?;
+    sectors.put_all(first, images);
+    Ok(())
+}
+
 /// The first sectors of a file, of which those that it begins with are read already. What is zeros there takes no memory.
 fn read_sectors<F: SectorFile>(
     alloc: Global,
@@ -80,8 +100,10 @@ fn read_sectors<F: SectorFile>(
     beginning: &[[u8; 512]],
     count: u32,
 ) -> io::Result<Sectors>
-    requires { length beginning.now ≤ count }
+    requires within { length beginning.now ≤ count }
+    requires read { AreRead F.gave file.now beginning.now }
     ensures count { IfOk result (λ s. length s ≡ count) }
+    ensures read { IfOk result (AreRead F.gave file.now) }
     ensures begins { IfOk result (λ s. 0 < length beginning.now → image_of s 0 ≡ image_of beginning.now 0) }
 {
     let mut sectors = Sectors::zeros(alloc, count)?;
@@ -90,9 +112,7 @@ fn read_sectors<F: SectorFile>(
     let mut first = beginning.len() as u32;
     while first < count {
         let more = (count - first).min(PIECE);
-        let images = &mut piece[..more as usize];
-        file.read_into(first, images)?;
-        sectors.put_all(first, images);
+        read_piece(file, first, &mut piece[..more as usize], &mut sectors)?;
         first += more;
     }
     Ok(sectors)
@@ -106,6 +126,7 @@ pub(crate) fn whole_sectors<F: SectorFile>(
 ) -> io::Result<Sectors>
     ensures few { IfOk result (λ s. length s ≤ 16777216) }
     ensures sized { IfOk result (λ s. IsOfSize (max wanted 65536) s) }
+    ensures read { IfOk result (AreRead F.gave file.now) }
 {
     let there = file.sectors()?.min(u64::from(MOST_SECTORS)) as u32;
     let mut piece = [[0; 512]; PIECE as usize];
@@ -148,6 +169,7 @@ impl FileDevice {
     /// where it is a directory, where it is locked, by this process too, and where another file has come in its place.
     pub fn lock<R: Files<File = File>>(files: &R, path: &str) -> io::Result<File>
         ensures apart { IfOk result StandsApart }
+        ensures opened { IfOk result (WasOpened path.now) }
         ensures locked { IfOk result WasLocked }
     {
         let mut how = OpenOptions::new();
@@ -159,6 +181,7 @@ impl FileDevice {
     /// Opens and locks a file as `lock` does, but makes it where it isn't there.
     pub fn lock_or_make<R: Files<File = File>>(files: &R, path: &str) -> io::Result<File>
         ensures apart { IfOk result StandsApart }
+        ensures opened { IfOk result (WasOpened path.now) }
         ensures locked { IfOk result WasLocked }
     {
         let mut how = OpenOptions::new();
@@ -177,6 +200,7 @@ impl<F: SectorFile + Drop> FileDevice<F> {
         ensures enough { IfOk result (λ d. min sectors 16777216 ≤ length d.sectors) }
         ensures unused { IfOk result (λ d. d.failures ≡ 0) }
         ensures same { IfOk result (λ d. d.file ≡ file) }
+        ensures read { IfOk result (λ d. AreRead F.gave file d.sectors) }
     {
         let wanted = sectors.min(MOST_SECTORS);
         if file.sectors()? < u64::from(wanted) {
@@ -212,6 +236,7 @@ impl<F: SectorFile + Drop> FileDevice<F> {
         ensures enough { IfOk result (λ d. min sectors 16777216 ≤ length d.sectors ⊎ BeginsWith beginning.now d.sectors) }
         ensures unused { IfOk result (λ d. d.failures ≡ 0) }
         ensures same { IfOk result (λ d. d.file ≡ file) }
+        ensures read { IfOk result (λ d. AreRead F.gave file d.sectors) }
     {
         let device = FileDevice::of(alloc, file)?;
         if device.begins_with(beginning) {
@@ -228,6 +253,7 @@ impl<F: SectorFile + Drop> FileDevice<F> {
         ensures sized { IfOk result (λ d. IsOfSize 65536 d.sectors) }
         ensures unused { IfOk result (λ d. d.failures ≡ 0) }
         ensures same { IfOk result (λ d. d.file ≡ file) }
+        ensures read { IfOk result (λ d. AreRead F.gave file d.sectors) }
     {
         FileDevice::with(alloc, file, 0)
     }
@@ -238,6 +264,7 @@ impl<F: SectorFile + Drop> FileDevice<F> {
         ensures sized { IfOk result (λ d. IsOfSize (max wanted 65536) d.sectors) }
         ensures unused { IfOk result (λ d. d.failures ≡ 0) }
         ensures same { IfOk result (λ d. d.file ≡ file) }
+        ensures read { IfOk result (λ d. AreRead F.gave file d.sectors) }
     {
         let sectors = whole_sectors(alloc, &file, wanted)?;
         Ok(FileDevice {

@@ -4,6 +4,7 @@ ghost use Rattle.std.specs.Prelude.{◌≡◌, IfOk, None, OnOk, false, take};
 ghost use Rattle.std.specs.Fs.{asks_truncate};
 ghost use Rattle.std.specs.Io.{WritesAtMost};
 ghost use Rattle.std.specs.Io.KnownBytes.{Keeps, WriteAppends};
+ghost use Rattle.sandbox_device.specs.Named.{WasOpened};
 ghost use Rattle.sandbox_device.specs.Opening.{StandsApart};
 ghost use Rattle.sandbox_device.specs.Written.{CutsOnce, Flushes, Puts, WasCut, WasFlushed, WasPut};
 
@@ -19,6 +20,21 @@ use stream_answers::Outlet;
 /// The last of the numbers of the standard streams.
 const LAST_STANDARD: i32 = 2;
 
+/// Asks the system for the file of a name.
+fn open_named<R: Files<File = File>>(files: &R, how: &OpenOptions, path: &str) -> io::Result<File>
+    ensures { IfOk result (WasOpened path.now) }
+{
+    how.open(files, path)
+}
+
+/// Another number of a file that was opened under this name.
+fn renumbered(file: &File, _path: &str) -> io::Result<File>
+    requires { WasOpened _path.now file.now }
+    ensures { IfOk result (WasOpened _path.now) }
+{
+    file.try_clone()
+}
+
 /// Opens a file with a number of its own. Where a standard stream is closed, the system gives its number to the next file that
 /// is opened: that one gets another number, and the stream stays closed. No file is cut as it is opened.
 pub(crate) fn open_apart<R: Files<File = File>>(
@@ -27,13 +43,14 @@ pub(crate) fn open_apart<R: Files<File = File>>(
     path: &str,
 ) -> io::Result<File>
     requires { asks_truncate how.now ≡ false }
-    ensures { IfOk result StandsApart }
+    ensures apart { IfOk result StandsApart }
+    ensures opened { IfOk result (WasOpened path.now) }
 {
-    let file = how.open(files, path)?;
+    let file = open_named(files, how, path)?;
     if file.as_raw_fd() > LAST_STANDARD {
         return Ok(file);
     }
-    let file = file.try_clone()?;
+    let file = renumbered(&file, path)?;
     if file.as_raw_fd() > LAST_STANDARD {
         return Ok(file);
     }
@@ -43,7 +60,8 @@ pub(crate) fn open_apart<R: Files<File = File>>(
 /// Opens a file to read. Where it can be, it is locked, so that no run that would write it begins meanwhile; a lock that
 /// another process holds refuses nothing.
 pub fn open_to_read<R: Files<File = File>>(files: &R, path: &str) -> io::Result<File>
-    ensures { IfOk result StandsApart }
+    ensures apart { IfOk result StandsApart }
+    ensures opened { IfOk result (WasOpened path.now) }
 {
     let file = open_apart(files, OpenOptions::new().read(true), path)?;
     if file.metadata()?.is_file() {
@@ -54,7 +72,8 @@ pub fn open_to_read<R: Files<File = File>>(files: &R, path: &str) -> io::Result<
 
 /// Opens the file of a volume that is only read. It is refused where another process has locked it to write.
 pub fn open_image<R: Files<File = File>>(files: &R, path: &str) -> io::Result<File>
-    ensures { IfOk result StandsApart }
+    ensures apart { IfOk result StandsApart }
+    ensures opened { IfOk result (WasOpened path.now) }
 {
     let image = open_apart(files, OpenOptions::new().read(true), path)?;
     image.try_lock_shared()?;
@@ -77,7 +96,7 @@ pub struct Output {
 
 /// A file that wasn't there, or the one that is: and whether it was made.
 fn made_or_opened<R: Files<File = File>>(files: &R, path: &str) -> io::Result<(File, bool)>
-    ensures { IfOk result (λ it. StandsApart it.0) }
+    ensures { IfOk result (λ it. StandsApart it.0 × WasOpened path.now it.0) }
 {
     let made = open_apart(files, OpenOptions::new().write(true).create_new(true), path);
     match made {
@@ -138,7 +157,7 @@ impl<F: WrittenFile + Drop> Write for OutputOn<F> {
 impl Output {
     /// Opens a file to write, or makes it, and locks it where it can be. It is refused where another use of it has locked it.
     pub fn open<R: Files<File = File>>(files: &R, path: &str) -> io::Result<Output>
-        ensures { IfOk result (λ it. StandsApart it.on.file × (it.on.is_cut ≡ false)) }
+        ensures { IfOk result (λ it. StandsApart it.on.file × WasOpened path.now it.on.file × (it.on.is_cut ≡ false)) }
     {
         let (file, is_new) = made_or_opened(files, path)?;
         let on = OutputOn::new(file, is_new)?;

@@ -2,10 +2,11 @@
 //!
 //! Whoever is ended meanwhile leaves the file as it was, and maybe what was written beside it, which the next one takes away.
 
-ghost use Rattle.std.specs.Prelude.{◌≡◌, IfNone, IfOk, IfSome, string_bytes};
+ghost use Rattle.std.specs.Prelude.{◌≡◌, IfNone, IfOk, IfSome, OnOk, string_bytes};
 ghost use Rattle.sandbox_device.specs.declared.replacing.Way.TheVariants.{Beside};
 ghost use Rattle.sandbox_device.specs.Opening.{StandsApart};
 ghost use Rattle.sandbox_device.specs.Contents.{bytes_of};
+ghost use Rattle.sandbox_device.specs.Named.{IsForName, IsGiven, IsThere, LeadsTo, WasOverwritten};
 ghost use Rattle.sandbox_device.specs.Replaced.{WasReplaced};
 
 use crate::beside::{Beside, replace};
@@ -61,16 +62,18 @@ pub struct Replacement {
 }
 
 /// The name that a name leads to, behind all links; the file needn't be there.
-fn behind_links<R: Files + AllocGlobal>(rt: &R, path: &str) -> io::Result<String> {
-    let mut path = String::from_str(rt.alloc(), path)?;
+fn behind_links<R: Files + AllocGlobal>(rt: &R, path: &str) -> io::Result<String>
+    ensures { IfOk result (λ target. LeadsTo path.now (string_bytes target)) }
+{
+    let mut target = String::from_str(rt.alloc(), path)?;
     for _ in 0..MOST_LINKS {
-        match rt.symlink_metadata(path.as_str()) {
+        match rt.symlink_metadata(target.as_str()) {
             Ok(found) if found.is_symlink() => {}
-            _ => return Ok(path),
+            _ => return Ok(target),
         }
-        let link = fs::read_link(rt, path.as_str())?;
-        let folder = folder_of(path.as_str());
-        path = Path::new(folder).join(rt.alloc(), link)?.into_string();
+        let link = fs::read_link(rt, target.as_str())?;
+        let folder = folder_of(target.as_str());
+        target = Path::new(folder).join(rt.alloc(), link)?.into_string();
     }
     Err(io::Error::from(ErrorKind::FilesystemLoop))
 }
@@ -80,6 +83,14 @@ fn folder_of(path: &str) -> &str {
     match Path::new(path).parent() {
         Some(folder) if !folder.as_str().is_empty() => folder.as_str(),
         _ => ".",
+    }
+}
+
+/// Whether a file can have a name: it has a last part, and ends with it, and not with a slash.
+fn names_a_file(path: &str) -> bool {
+    match Path::new(path).file_name() {
+        Some(name) => path.ends_with(name),
+        None => false,
     }
 }
 
@@ -174,7 +185,9 @@ fn take_after(file: &File, old: &File) -> io::Result<()> {
 }
 
 /// Writes what a file is to have into it, from its beginning, in large pieces.
-fn write_contents<R: AllocGlobal>(rt: &R, file: &File, contents: Contents<'_>) -> io::Result<()> {
+fn write_contents<R: AllocGlobal>(rt: &R, file: &File, contents: Contents<'_>) -> io::Result<()>
+    ensures { OnOk result (WasOverwritten file.now (bytes_of contents.entry)) }
+{
     let mut out = BufWriter::with_capacity(rt.alloc(), PIECE, file)?;
     contents.write_to(&mut out)?;
     out.flush()
@@ -239,6 +252,35 @@ fn way_of<R: Files>(rt: &R, path: &str, file: &File, found: &Metadata) -> io::Re
     Ok(Way::InPlace(Hindrance::Folder))
 }
 
+/// What is there under a name, or a file that is made there.
+fn there<R: Files<File = File>>(rt: &R, path: &str, old: Option<File>) -> io::Result<File>
+    ensures { IfOk result (IsThere path.now old) }
+{
+    match old {
+        Some(file) => Ok(file),
+        None => {
+            let mut how = OpenOptions::new();
+            how.write(true).create_new(true);
+            open_apart(rt, &how, path)
+        }
+    }
+}
+
+/// Gives a file these bytes in the place of those that it has, and makes that last. A pipe, a terminal or a device takes them.
+fn overwrite<R: AllocGlobal>(rt: &R, file: &File, contents: Contents<'_>) -> io::Result<()>
+    ensures { OnOk result (WasOverwritten file.now (bytes_of contents.entry)) }
+{
+    let is_file = file.metadata()?.is_file();
+    if is_file {
+        file.set_len(0)?;
+    }
+    write_contents(rt, file, contents)?;
+    match file.sync_all() {
+        Err(error) if is_file => Err(error),
+        _ => Ok(()),
+    }
+}
+
 /// Opens a file's folder.
 fn open_folder<R: Files<File = File>>(rt: &R, path: &str) -> io::Result<File> {
     let mut how = OpenOptions::new();
@@ -249,7 +291,8 @@ fn open_folder<R: Files<File = File>>(rt: &R, path: &str) -> io::Result<File> {
 impl Replacement {
     /// Opens what is there, to write, and locks it where it can be. Where nothing is there, a file has to be possible beside it.
     pub fn open<R: Files<File = File> + AllocGlobal>(rt: &R, path: &str) -> io::Result<Replacement>
-        ensures { IfOk result (λ it. IfSome it.old StandsApart) }
+        ensures apart { IfOk result (λ it. IfSome it.old StandsApart) }
+        ensures named { IfOk result (IsForName path.now) }
     {
         let target = behind_links(rt, path)?;
         let mut how = OpenOptions::new();
@@ -265,7 +308,7 @@ impl Replacement {
                     way,
                 })
             }
-            Err(error) if error.kind() == ErrorKind::NotFound => {
+            Err(error) if error.kind() == ErrorKind::NotFound && names_a_file(target.as_str()) => {
                 let spare = spare_beside(rt, target.as_str())?;
                 rt.remove_file(spare.path.as_str())?;
                 Ok(Replacement {
@@ -297,8 +340,9 @@ impl Replacement {
         rt: &R,
         contents: Contents<'_>,
     ) -> io::Result<Option<Hindrance>>
-        ensures { self.way ≡ Beside → IfOk result (λ hindrance. IfNone hindrance
+        ensures replaced { self.way ≡ Beside → IfOk result (λ hindrance. IfNone hindrance
             (WasReplaced R (string_bytes self.path) (bytes_of contents.entry))) }
+        ensures given { OnOk result (IsGiven R (string_bytes self.path) self.old (bytes_of contents.entry)) }
     {
         match self.way {
             Way::Beside => self.fill_beside(rt, contents),
@@ -310,6 +354,14 @@ impl Replacement {
                 self.fill_in_place(rt, contents)?;
                 Ok(None)
             }
+        }
+    }
+
+    /// Whether what was there has been removed since.
+    fn has_no_name(&self) -> io::Result<bool> {
+        match &self.old {
+            Some(file) => Ok(file.metadata()?.nlink() == 0),
+            None => Ok(false),
         }
     }
 
@@ -341,19 +393,20 @@ impl Replacement {
     }
 
     /// Writes the bytes into a file beside it, and gives that its name. Where none can be made there, it is written in place, unless
-    /// another file has the name by now.
+    /// another file has the name by now, or it has none.
     fn fill_beside<R: Files<File = File> + AllocGlobal>(
         self,
         rt: &R,
         contents: Contents<'_>,
     ) -> io::Result<Option<Hindrance>>
-        ensures { IfOk result (λ hindrance. IfNone hindrance
+        ensures replaced { IfOk result (λ hindrance. IfNone hindrance
             (WasReplaced R (string_bytes self.path) (bytes_of contents.entry))) }
+        ensures given { OnOk result (IsGiven R (string_bytes self.path) self.old (bytes_of contents.entry)) }
     {
         let newcomer = self.newcomer(rt)?; // locked until the new bytes have the name
         let Ok((spare, folder)) = self.spare(rt) else {
-            if newcomer.is_some() {
-                return Err(io::Error::from(ErrorKind::PermissionDenied));
+            if newcomer.is_some() || self.has_no_name()? {
+                return Err(io::Error::from(ErrorKind::NotFound));
             }
             self.fill_in_place(rt, contents)?;
             return Ok(Some(Hindrance::Folder));
@@ -378,22 +431,11 @@ impl Replacement {
         self,
         rt: &R,
         contents: Contents<'_>,
-    ) -> io::Result<()> {
-        let file = match self.old {
-            Some(file) => file,
-            None => {
-                let mut how = OpenOptions::new();
-                how.write(true).create_new(true);
-                open_apart(rt, &how, self.path.as_str())?
-            }
-        };
-        if !file.metadata()?.is_file() {
-            write_contents(rt, &file, contents)?;
-            let _ = file.sync_all();
-            return Ok(());
-        }
-        file.set_len(0)?;
-        write_contents(rt, &file, contents)?;
-        file.sync_all()
+    ) -> io::Result<()>
+        ensures { OnOk result (IsGiven R (string_bytes self.path) self.old (bytes_of contents.entry)) }
+    {
+        let Replacement { path, old, .. } = self;
+        let file = there(rt, path.as_str(), old)?;
+        overwrite(rt, &file, contents)
     }
 }

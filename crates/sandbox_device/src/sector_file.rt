@@ -1,6 +1,7 @@
 //! A file of sectors, by the calls that a device makes of it.
 
-ghost use Rattle.std.specs.Prelude.{◌↔◌, ℕ, List, IfOk, MatchResult};
+ghost use Rattle.std.specs.Prelude.{◌↔◌, ◌+◌, ◌<◌, ℕ, List, IfOk, MatchResult, OnOk, length};
+ghost use Rattle.vol_sector.specs.Record.{image_of};
 
 use std::fs::File;
 use std::io;
@@ -29,6 +30,9 @@ pub trait SectorFile {
     /// The file was found to have this many whole sectors.
     ghost measured: { Self → ℕ → Type 0 };
 
+    /// The file had these bytes in the sector with this number, when it was read.
+    ghost gave: { Self → ℕ → List ℕ → Type 0 };
+
     /// The file was locked, against all that ask for its lock.
     ghost locked: { Self → Type 0 };
 
@@ -44,7 +48,8 @@ pub trait SectorFile {
     fn lengthen(&self, sectors: u32) -> io::Result<()>;
 
     /// Reads sectors from one on.
-    fn read_into(&self, first: u32, images: &mut [[u8; 512]]) -> io::Result<()>;
+    fn read_into(&self, first: u32, images: &mut [[u8; 512]]) -> io::Result<()>
+        ensures { OnOk result ((n : ℕ) → n < length images.new → gave self.now (first + n) (image_of images.new n)) };
 
     /// Writes a sector.
     fn write(&mut self, n: u32, image: &[u8; 512]) -> io::Result<()>
@@ -60,7 +65,7 @@ pub trait SectorFile {
 
 impl SectorFile for File {
     ghost use Rattle.sandbox_device.specs.File.{KeepsItsModel};
-    ghost use Rattle.sandbox_device.specs.FileEvidence.{WasLocked, WasMeasured, WasRefused, WasSynced, WasWritten};
+    ghost use Rattle.sandbox_device.specs.FileEvidence.{WasLocked, WasMeasured, WasRead, WasRefused, WasSynced, WasWritten};
 
     ghost honest = { KeepsItsModel };
 
@@ -71,6 +76,8 @@ impl SectorFile for File {
     ghost refused = { WasRefused };
 
     ghost measured = { WasMeasured };
+
+    ghost gave = { WasRead };
 
     ghost locked = { WasLocked };
 

@@ -1,3 +1,4 @@
+pub mod Answering
 pub mod AsBox
 pub mod Carrying
 pub mod Closed

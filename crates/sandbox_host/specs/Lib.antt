@@ -1,5 +1,5 @@
 -- What public contracts cite, in reading order: the numbers that a host in C is told, supplies, types and volumes, then
--- what a handle has and what calls make of it. `Headline`, `Carried` and `Settled` state the laws over several calls,
+-- what a handle has and what calls make of it (`Instances`: of those whose exports are called). `Headline`, `Carried` and `Settled` state the laws over several calls,
 -- and `Handles` says what memory a handle owns.
 pub mod Numbers
 pub mod Supplies
@@ -9,6 +9,7 @@ pub mod Sessions
 pub mod Recording
 pub mod Frames
 pub mod Refusals
+pub mod Instances
 pub mod Whole
 pub mod Texts
 pub mod Headline

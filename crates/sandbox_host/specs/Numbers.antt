@@ -1,6 +1,6 @@
 -- Refusals, outcomes and pauses as the numbers that a host is told (`include/sandbox.h`). Contracts speak of a fault or
 -- a pause, and these functions say which number a host in C gets for it.
-use Rattle.std.specs.Prelude.{ℕ, unwrap_or}
+use Rattle.std.specs.Prelude.{ℕ, ◌-◌, ◌^◌, min, unwrap_or}
 use Rattle.wasm_module.specs.declared.fault.LoadFault.{LoadFault}
 use Rattle.sandbox_core.specs.declared.fault.SessionFault.{SessionFault}
 use Rattle.sandbox_core.specs.declared.fault.SessionFault.TheVariants as opening
@@ -13,6 +13,10 @@ use Rattle.wasm_steps.specs.declared.pause.Outcome.{Outcome}
 use Rattle.wasm_steps.specs.declared.pause.Outcome.TheVariants.{Exited, Trapped, OutOfFuel, OutOfMemory}
 use Rattle.wasm_steps.specs.declared.pause.Pause.{Pause}
 use Rattle.wasm_steps.specs.declared.pause.Pause.TheVariants.{Called, Spent, Ended}
+use Rattle.wasm_interp.specs.declared.invoking.Event.{Event}
+use Rattle.wasm_interp.specs.declared.invoking.Event.TheVariants as event
+use Rattle.plugin_session.specs.declared.handling.Misuse.{Misuse}
+use Rattle.plugin_session.specs.declared.handling.Misuse.TheVariants as misuse
 use Rattle.run_report.specs.declared.fault.Fault.{Fault}
 use Rattle.run_report.specs.declared.fault.Fault.TheVariants.{Module, Volume, Instance, Setting, Preopen, Memory}
 use Rattle.run_report.specs.Faults.{fault_answer, load_offset}
@@ -87,3 +91,21 @@ abbrev pub told_pause : Pause → ℕ → Told
 told_pause (Called c errno) used = record { kind = 4; code = errno.0; call = call_number c; used = used }
 told_pause Spent used = record { kind = 5; code = 0; call = 0; used = used }
 told_pause (Ended outcome) used = told_end outcome used
+
+abbrev pub told_event : Event → ℕ → Told
+told_event event.Returned used = record { kind = 6; code = 0; call = 0; used = used }
+told_event (event.Asked x) used = record { kind = 7; code = 0; call = min x (2 ^ 32 - 1); used = used }
+told_event (event.Paused p) used = told_pause p used
+
+-- ---- mistakes with an instance
+
+abbrev pub misuse_number : Misuse → ℕ
+misuse_number misuse.Idle = 102
+misuse_number misuse.AtWork = 103
+misuse_number misuse.Asked = 104
+misuse_number misuse.NotAsked = 105
+misuse_number misuse.Stopped = 106
+misuse_number misuse.Over = 107
+misuse_number misuse.NoFunction = 108
+misuse_number misuse.Mistyped = 109
+misuse_number misuse.PastEnd = 110

@@ -1,5 +1,6 @@
 -- What a handle has, and what opening, resuming and finishing make of it. The first part reads a `Held` (a loaded
--- module, a session that runs, one that is finished, or nothing) by its cases; in the second `Begins`, `Paused` and
+-- module, a session that runs, one that is finished, a module for instances, an instance that isn't finished, one that is, or
+-- nothing) by its cases; in the second `Begins`, `Paused` and
 -- `Finishes` tie these calls to the session of `sandbox_core`.
 use Rattle.std.specs.Prelude.{◌≡◌, ◌-◌, ◌^◌, ◌==◌, ℕ, Bool, true, false, List, [], length, take, drop, ◌++◌, min, max, Option, Some, None, Result, Ok, Err, if◌then◌else◌}
 use Rattle.vol_sector.specs.declared.fault.Refused.{Refused}
@@ -15,7 +16,7 @@ use Rattle.sandbox_host.specs.declared.numbers.Told.{Told}
 use Rattle.sandbox_host.specs.declared.supplies.Supplies.{Supplies}
 use Rattle.sandbox_host.specs.declared.volumes.Origin.{Origin}
 use Rattle.sandbox_host.specs.declared.held.Held.{Held}
-use Rattle.sandbox_host.specs.declared.held.Held.TheVariants.{Loaded, Running, Finished, Nothing}
+use Rattle.sandbox_host.specs.declared.held.Held.TheVariants.{Loaded, Running, Finished, Plugin, Instance, Left, Nothing}
 use Rattle.sandbox_host.specs.declared.held.Ended.{Ended}
 use Rattle.sandbox_host.specs.declared.modules.LoadedModule.{LoadedModule}
 use Rattle.sandbox_host.specs.declared.modules.LoadedModule.TheVariants.{Plain, Prepared}
@@ -53,13 +54,28 @@ abbrev pub is_session : Held → Bool
 is_session (Loaded m bytes) = false
 is_session (Running r) = true
 is_session (Finished e) = true
+is_session (Plugin p bytes) = false
+is_session (Instance l) = true
+is_session (Left e) = true
 is_session Nothing = false
 
 abbrev pub is_loaded : Held → Bool
 is_loaded (Loaded m bytes) = true
 is_loaded (Running r) = false
 is_loaded (Finished e) = false
+is_loaded (Plugin p bytes) = false
+is_loaded (Instance l) = false
+is_loaded (Left e) = false
 is_loaded Nothing = false
+
+abbrev pub is_plugin : Held → Bool
+is_plugin (Loaded m bytes) = false
+is_plugin (Running r) = false
+is_plugin (Finished e) = false
+is_plugin (Plugin p bytes) = true
+is_plugin (Instance l) = false
+is_plugin (Left e) = false
+is_plugin Nothing = false
 
 abbrev pub has_session : Option Held → Bool
 has_session None = false
@@ -69,23 +85,36 @@ abbrev pub has_module : Option Held → Bool
 has_module None = false
 has_module (Some held) = is_loaded held
 
+abbrev pub has_plugin : Option Held → Bool
+has_plugin None = false
+has_plugin (Some held) = is_plugin held
+
 -- the session that isn't finished, what a finished one left, and the module that no session has
 abbrev pub running_in : Held → Option State
 running_in (Loaded m bytes) = None
 running_in (Running r) = Some (state_of r.session)
 running_in (Finished e) = None
+running_in (Plugin p bytes) = None
+running_in (Instance l) = None
+running_in (Left e) = None
 running_in Nothing = None
 
 abbrev pub finished_in : Held → Option Ended
 finished_in (Loaded m bytes) = None
 finished_in (Running r) = None
 finished_in (Finished e) = Some e
+finished_in (Plugin p bytes) = None
+finished_in (Instance l) = None
+finished_in (Left e) = None
 finished_in Nothing = None
 
 abbrev pub loaded_in : Held → Option Module
 loaded_in (Loaded m bytes) = Some (module_of m)
 loaded_in (Running r) = None
 loaded_in (Finished e) = None
+loaded_in (Plugin p bytes) = None
+loaded_in (Instance l) = None
+loaded_in (Left e) = None
 loaded_in Nothing = None
 
 -- what its module was prepared as, loaded or in a session, if it was
@@ -93,6 +122,9 @@ abbrev pub prepared_in : Held → Option Ready
 prepared_in (Loaded m bytes) = ready_of m
 prepared_in (Running r) = ready_with r.session
 prepared_in (Finished e) = ready_of e.loaded
+prepared_in (Plugin p bytes) = None
+prepared_in (Instance l) = None
+prepared_in (Left e) = None
 prepared_in Nothing = None
 
 -- the bytes of its module
@@ -100,6 +132,9 @@ abbrev pub bytes_in : Held → List ℕ
 bytes_in (Loaded m bytes) = bytes
 bytes_in (Running r) = r.bytes
 bytes_in (Finished e) = e.bytes
+bytes_in (Plugin p bytes) = bytes
+bytes_in (Instance l) = l.bytes
+bytes_in (Left e) = e.bytes
 bytes_in Nothing = []
 
 abbrev pub bytes_of : Option Held → List ℕ
@@ -130,6 +165,9 @@ abbrev pub output_of : Held → ℕ → List ℕ
 output_of (Loaded m bytes) descriptor = []
 output_of (Running r) descriptor = stream (state_of r.session).host.out.writer (state_of r.session).host.err.writer descriptor
 output_of (Finished e) descriptor = stream e.out e.err descriptor
+output_of (Plugin p bytes) descriptor = []
+output_of (Instance l) descriptor = stream l.instance.host.out.writer l.instance.host.err.writer descriptor
+output_of (Left e) descriptor = stream e.out e.err descriptor
 output_of Nothing descriptor = []
 
 abbrev pub output : Option Held → ℕ → List ℕ
@@ -147,12 +185,18 @@ abbrev pub bound_of : Held → ℕ → ℕ
 bound_of (Loaded m bytes) descriptor = 0
 bound_of (Running r) descriptor = bound (state_of r.session).host.out.writer (state_of r.session).host.err.writer descriptor
 bound_of (Finished e) descriptor = bound e.out e.err descriptor
+bound_of (Plugin p bytes) descriptor = 0
+bound_of (Instance l) descriptor = bound l.instance.host.out.writer l.instance.host.err.writer descriptor
+bound_of (Left e) descriptor = bound e.out e.err descriptor
 bound_of Nothing descriptor = 0
 
 abbrev pub is_filled_of : Held → ℕ → Bool
 is_filled_of (Loaded m bytes) descriptor = false
 is_filled_of (Running r) descriptor = is_filled (state_of r.session).host.out.writer (state_of r.session).host.err.writer descriptor
 is_filled_of (Finished e) descriptor = is_filled e.out e.err descriptor
+is_filled_of (Plugin p bytes) descriptor = false
+is_filled_of (Instance l) descriptor = is_filled l.instance.host.out.writer l.instance.host.err.writer descriptor
+is_filled_of (Left e) descriptor = is_filled e.out e.err descriptor
 is_filled_of Nothing descriptor = false
 
 abbrev pub most_of : Option Held → ℕ → ℕ
@@ -168,6 +212,9 @@ abbrev pub sectors_of : Held → List (List ℕ)
 sectors_of (Loaded m bytes) = []
 sectors_of (Running r) = []
 sectors_of (Finished e) = e.device.sectors
+sectors_of (Plugin p bytes) = []
+sectors_of (Instance l) = []
+sectors_of (Left e) = e.device.sectors
 sectors_of Nothing = []
 
 abbrev pub sectors : Option Held → List (List ℕ)

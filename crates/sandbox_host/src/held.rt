@@ -4,10 +4,12 @@ ghost use Rattle.std.specs.Prelude.{◌≡◌, length};
 ghost use Rattle.sandbox_host.specs.Sessions.{stream, is_filled};
 
 use crate::kept::Kept;
+use crate::instance::{Left, Living};
 use crate::modules::LoadedModule;
 use crate::session::HostSession;
 use crate::showing::show_sectors;
 use module_survey::ModuleBytes;
+use plugin_session::Plugin;
 use sandbox_device::RecordedDevice;
 use vol_sector::Device;
 
@@ -59,18 +61,27 @@ pub enum Held {
     Running(Begun),
     /// A session that is finished.
     Finished(Ended),
+    /// A module whose instances have their exported functions called.
+    Plugin(Plugin<'static>, ModuleBytes<'static>),
+    /// An instance that isn't finished.
+    Instance(Living),
+    /// An instance that is finished.
+    Left(Left),
     /// Nothing, while a call changes what it has.
     Nothing,
 }
 
 impl Held {
-    ghost use Rattle.sandbox_host.specs.Sessions.{is_session, is_loaded, output_of, is_filled_of, sectors_of, IsShown};
+    ghost use Rattle.sandbox_host.specs.Sessions.{is_session, is_loaded, is_plugin, output_of, is_filled_of, sectors_of, IsShown};
 
-    /// Whether it is a session, finished or not.
+    /// Whether it is a session or an instance, finished or not.
     pub(crate) fn is_session(&self) -> bool
         ensures { result ≡ is_session self.now }
     {
-        matches!(self, Held::Running(..) | Held::Finished(_))
+        matches!(
+            self,
+            Held::Running(..) | Held::Finished(_) | Held::Instance(_) | Held::Left(_)
+        )
     }
 
     /// Whether it is a loaded module.
@@ -78,6 +89,13 @@ impl Held {
         ensures { result ≡ is_loaded self.now }
     {
         matches!(self, Held::Loaded(..))
+    }
+
+    /// Whether it is a module for instances.
+    pub(crate) fn is_plugin(&self) -> bool
+        ensures { result ≡ is_plugin self.now }
+    {
+        matches!(self, Held::Plugin(..))
     }
 
     /// What the guest has written to descriptor 1 or 2.
@@ -89,6 +107,10 @@ impl Held {
                 stream(session.out(), session.err(), descriptor)
             }
             Held::Finished(ended) => stream(&ended.out, &ended.err, descriptor),
+            Held::Instance(Living { instance, .. }) => {
+                stream(instance.out(), instance.err(), descriptor)
+            }
+            Held::Left(left) => stream(&left.out, &left.err, descriptor),
             _ => &[],
         }
     }
@@ -102,6 +124,10 @@ impl Held {
                 is_filled(session.out(), session.err(), descriptor)
             }
             Held::Finished(ended) => is_filled(&ended.out, &ended.err, descriptor),
+            Held::Instance(Living { instance, .. }) => {
+                is_filled(instance.out(), instance.err(), descriptor)
+            }
+            Held::Left(left) => is_filled(&left.out, &left.err, descriptor),
             _ => false,
         }
     }
@@ -111,10 +137,12 @@ impl Held {
         ensures length { result ≡ length (sectors_of self.now) }
         ensures shown { IsShown (sectors_of self.now) room.old room.new }
     {
-        let Held::Finished(ended) = self else {
-            return 0;
+        let device = match self {
+            Held::Finished(ended) => &ended.device,
+            Held::Left(left) => &left.device,
+            _ => return 0,
         };
-        show_sectors(&ended.device, room);
-        ended.device.sectors() as usize
+        show_sectors(device, room);
+        device.sectors() as usize
     }
 }

@@ -1,16 +1,21 @@
-//! Sessions behind a handle, for hosts in C and what calls C: what stands here is exported by `sandbox_c`.
+//! Sessions and instances behind a handle, for hosts in C and what calls C: what stands here is exported by `sandbox_c`.
 #![tactic(auto)]
 
+mod calling;
 mod closing;
 mod frames;
 mod handle;
+mod guest_memory;
 mod held;
+mod instance;
+mod instantiating;
 mod kept;
 pub mod laws;
 mod modules;
 mod numbers;
 mod opening;
 mod parts;
+mod plugins;
 mod preparing;
 mod recording;
 mod running;
@@ -22,14 +27,19 @@ mod texts;
 mod volumes;
 mod whole;
 
+pub use calling::{abandon, answer, go, invoke, values};
 pub use closing::{close, close_loaded, unload};
 pub use frames::{FunctionFrame, NO_FRAME, frame_at, function_name};
 pub use handle::Handle;
+pub use guest_memory::{memory_read, memory_size, memory_write};
 pub use held::{Begun, Ended, Held};
+pub use instance::{HostInstance, Left, Living};
+pub use instantiating::{finish_instance, open_instance};
 pub use kept::Kept;
 pub use modules::LoadedModule;
 pub use numbers::{DEVICE_FAILED, GEOMETRY, MISUSE, OK, OUT_OF_MEMORY, Told, VERSION, Why};
 pub use opening::{load_module, load_module_with, open, open_loaded};
+pub use plugins::{load_plugin, plugin_name, share_plugin, unload_plugin};
 pub use preparing::{prepare, prepare_with, share};
 pub use recording::{VolumeOperation, operation_at};
 pub use running::{finish, full, output, resume, volume_out};

@@ -2,11 +2,13 @@
 
 ghost use Rattle.std.specs.Prelude.{◌≡◌, ◌≢◌};
 ghost use Rattle.sandbox_host.specs.Numbers.{why_of, session_fault, session_number, volume_number};
-ghost use Rattle.sandbox_host.specs.Numbers.{call_number, told_end, told_pause};
+ghost use Rattle.sandbox_host.specs.Numbers.{call_number, misuse_number, told_end, told_event, told_pause};
 
+use plugin_session::Misuse;
 use run_report::{Fault, outcome_number, trap_number};
 use sandbox_core::{HostCall, LoadFault, Outcome, Pause, SessionFault};
 use vol_sector::VolumeFault;
+use wasm_interp::Event;
 
 /// The call did what it was asked.
 pub const OK: u32 = 0;
@@ -37,16 +39,16 @@ pub struct Why {
     pub offset: u32,
 }
 
-/// Why a session came back.
+/// Why a session or an instance came back.
 #[repr(C)]
 #[derive(Clone, Copy, PartialEq, Eq)]
 pub struct Told {
     /// 0 its guest exited, 1 it trapped, 2 the fuel is used up, 3 memory was refused; 4 a call was answered, 5 the units are
-    /// used up.
+    /// used up; of an instance also 6 what ran has returned, 7 a function of the host is called.
     pub kind: u32,
     /// The guest's status, the trap, or the call's errno; else 0.
     pub code: u32,
-    /// The call that was answered; else 0.
+    /// The call that was answered; of a function of the host the import; else 0.
     pub call: u32,
     /// The units of fuel used so far.
     pub used: u64,
@@ -166,5 +168,44 @@ pub(crate) fn told_pause(pause: Pause, used: u64) -> Told
             used,
         },
         Pause::Ended(outcome) => told_end(outcome, used),
+    }
+}
+
+/// What is told of why an instance came back.
+pub(crate) fn told_event(event: Event, used: u64) -> Told
+    ensures { result ≡ told_event event used }
+{
+    match event {
+        Event::Returned => Told {
+            kind: 6,
+            code: 0,
+            call: 0,
+            used,
+        },
+        Event::Asked(import) => Told {
+            kind: 7,
+            code: 0,
+            call: import.min(u32::MAX as usize) as u32,
+            used,
+        },
+        Event::Paused(pause) => told_pause(pause, used),
+    }
+}
+
+/// The number of a mistake with an instance. Hosts have it compiled in: one to come has the next number.
+pub(crate) fn misuse_number(misuse: Misuse) -> u32
+    ensures number { result ≡ misuse_number misuse }
+    ensures some { result ≢ 0 }
+{
+    match misuse {
+        Misuse::Idle => 102,
+        Misuse::AtWork => 103,
+        Misuse::Asked => 104,
+        Misuse::NotAsked => 105,
+        Misuse::Stopped => 106,
+        Misuse::Over => 107,
+        Misuse::NoFunction => 108,
+        Misuse::Mistyped => 109,
+        Misuse::PastEnd => 110,
     }
 }

@@ -16,7 +16,7 @@ use sandbox_core::{SessionFault, SharedModule, Valid};
 use std::alloc::Global;
 
 /// The pages that a memory has at most.
-const MOST_PAGES: u32 = 65_536;
+pub(crate) const MOST_PAGES: u32 = 65_536;
 
 /// Makes all once that the sessions of a module with these limits look up.
 fn make_ready<'a>(alloc: Global, valid: Valid<'a>, limits: &Limits) -> Result<SharedModule<'a>, u32>

@@ -54,7 +54,7 @@ fn tell_of(device: &RecordedDevice, number: usize, told: &mut VolumeOperation) -
     OK
 }
 
-/// Tells the write or sync with this number, from 0 on, of those that were done to a session's volume since it was opened; none
+/// Tells the write or sync with this number, from 0 on, of those that were done to the volume of a session or an instance since it was opened; none
 /// past the last so far. Of a session that runs, those are told that its resumes have done; of a finished one all.
 pub fn operation_at(
     alloc: Global,
@@ -74,6 +74,8 @@ pub fn operation_at(
     let answer = match &*held {
         Held::Running(running) => tell_of(running.session.device(), number, told),
         Held::Finished(ended) => tell_of(&ended.device, number, told),
+        Held::Instance(living) => tell_of(living.instance.device(), number, told),
+        Held::Left(left) => tell_of(&left.device, number, told),
         _ => MISUSE,
     };
     session.put(held);

@@ -102,7 +102,7 @@ pub fn volume_out(alloc: Global, session: &mut Handle, room: &mut [[u8; 512]]) -
 }
 
 /// The device of a volume that is handed back, or of one that is refused, and whether it failed.
-fn handed_back(
+pub(crate) fn handed_back(
     volume: Result<Volume<RecordedDevice>, Refused<RecordedDevice>>,
 ) -> (RecordedDevice, u32)
     ensures device { result.0 ≡ returned_device volume }

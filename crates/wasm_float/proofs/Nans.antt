@@ -1,5 +1,5 @@
 -- An operator gives a NaN where an operand is one, and which bits a machine keeps of it.
-use Rattle.std.proofs.Common.{◌≡◌, ℕ, Bool, true, false, not, ◌||◌, T, List, [], ◌∷◌, refl, sym, ap, ◌∙◌, subst, true≢false}
+use Rattle.std.proofs.Common.{◌≡◌, ℕ, Bool, true, false, not, ◌||◌, [], ◌∷◌, refl, sym, ap, ◌∙◌, subst, true≢false}
 use Rattle.std.specs.Prelude.{from_bits, to_bits}
 use Rattle.std.specs.Float as Float
 use lib.Ieee.{Float, Format, binary32, binary64, nan, inf, fin, is_nan, nan_bits, add, sub, mul, div, sqrt, neg, eq, ne, lt, le}
@@ -73,42 +73,6 @@ no_number op law f a b r e h = ap not h ∙ tested op false law f a b (sym e ∙
 
 pub some_nan : (op : Float → Float → Bool) → Answers op true → (f : Format) (a b : ℕ) (r : Bool) → r ≡ (nan_bits f a || nan_bits f b) → r ≡ true → r ≡ test f op a b
 some_nan op law f a b r e h = h ∙ tested op true law f a b (sym e ∙ h)
-
-pub add_nan : (f : Format) → Absorbs (add f)
-unfolding add
-add_nan f = (λ y. refl, second)
-  where
-    second : (x : Float) → add f x nan ≡ nan
-    second nan = refl
-    second (inf s) = refl
-    second (fin s m e) = refl
-
-pub sub_nan : (f : Format) → Absorbs (sub f)
-unfolding sub add neg
-sub_nan f = (λ y. refl, second)
-  where
-    second : (x : Float) → sub f x nan ≡ nan
-    second nan = refl
-    second (inf s) = refl
-    second (fin s m e) = refl
-
-pub mul_nan : (f : Format) → Absorbs (mul f)
-unfolding mul
-mul_nan f = (λ y. refl, second)
-  where
-    second : (x : Float) → mul f x nan ≡ nan
-    second nan = refl
-    second (inf s) = refl
-    second (fin s m e) = refl
-
-pub div_nan : (f : Format) → Absorbs (div f)
-unfolding div
-div_nan f = (λ y. refl, second)
-  where
-    second : (x : Float) → div f x nan ≡ nan
-    second nan = refl
-    second (inf s) = refl
-    second (fin s m e) = refl
 
 pub least_nan : Absorbs least
 unfolding is_nan

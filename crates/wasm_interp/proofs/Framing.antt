@@ -9,7 +9,7 @@ use Rattle.wasm_module.specs.declared.instruction.Instruction.TheVariants as op
 use Rattle.wasm_module.specs.declared.module.Module.{Module}
 use Rattle.wasm_module.specs.Instructions.{Instructions, done, plain, block, loop, if_then, if_else, invoke, flatten}
 use Rattle.wasm_valid.specs.Validity.{IsValid}
-use Rattle.wasm_store.specs.declared.call.HostCall.{HostCall}
+use Rattle.wasm_store.specs.declared.linked.Linked.{Linked}
 use Rattle.wasm_valid.specs.Typing.{arity}
 use Rattle.wasm_branch.specs.declared.target.Target.{Target}
 use Rattle.wasm_branch.specs.Effects.{effect_of, after}
@@ -106,7 +106,7 @@ told_inside : (m : Module) (i : Instance) (rs : List Ring) (c : Code) (inner : L
 told_inside m i [] c inner h = h
 told_inside m i (r ∷ rs) c inner h = told_inside m i rs (label r.below r.arity r.cont c r.rest) inner h
 
-module _ (m : Module) (calls : List HostCall) (i : Instance) (v : IsValid m) (k : IsInstanceOf m calls i) where
+module _ (m : Module) (calls : List Linked) (i : Instance) (v : IsValid m) (k : IsInstanceOf m calls i) where
   abbrev prog : Program
   prog = program_of m calls i v k
 

@@ -1,10 +1,12 @@
 -- A limit on values changes no configuration that a machine stands for.
 use Rattle.std.proofs.Common.{ℕ, arith}
 use Rattle.wasm_module.specs.declared.module.Module.{Module}
+use Rattle.wasm_store.specs.Allocating.{AllLinks}
 use Rattle.wasm_store.specs.Instantiation.{LinksOf}
 use Rattle.wasm_steps.specs.Configuration.{Configuration, Instance}
 use Rattle.wasm_interp.specs.Machine.{Represents, Snapshot, limited}
 use Rattle.wasm_interp.specs.Promise.{Starts}
+use Rattle.wasm_interp.specs.Invoking.{Opens}
 
 pub limited_represents : (most : ℕ) (s : Snapshot) (i : Instance) (c : Configuration) → Represents s i c → Represents (limited most s) i c
 unfolding Represents
@@ -21,6 +23,21 @@ limited_starts most links pages m s k = record {
   store = k.store;
   entered = k.entered;
   instantiates = k.instantiates;
+  stands = limited_represents most s k.instance _ k.stands;
+  module_is = k.module_is;
+  used = k.used;
+  runs = k.runs;
+  room = k.room;
+}
+
+-- nor that of an instance
+pub limited_opens : (most : ℕ) (links : AllLinks) (pages : ℕ) (m : Module) (s : Snapshot) → Opens links pages m s → Opens links pages m (limited most s)
+limited_opens most links pages m s k = record {
+  instance = k.instance;
+  store = k.store;
+  initializer = k.initializer;
+  allocates = k.allocates;
+  has_initializer = k.has_initializer;
   stands = limited_represents most s k.instance _ k.stands;
   module_is = k.module_is;
   used = k.used;

@@ -13,7 +13,7 @@ use Rattle.wasm_steps.specs.Configuration.{Val, types, Function, own, Instance, 
 use Rattle.wasm_steps.specs.Steps.{Reach}
 use Rattle.wasm_interp.specs.declared.activation.Activation.{Activation}
 use Rattle.wasm_interp.specs.declared.phase.Phase.{Phase}
-use Rattle.wasm_interp.specs.declared.phase.Phase.TheVariants.{Within, Between, Refused, Over}
+use Rattle.wasm_interp.specs.declared.phase.Phase.TheVariants.{Within, Between, Refused, Over, Asking}
 pub use Rattle.wasm_interp.specs.declared.frames.Frame.{Frame}
 use Rattle.wasm_interp.specs.internal.Driving.{NoCalls}
 use Rattle.wasm_interp.specs.Machine.{Snapshot}
@@ -103,6 +103,7 @@ is_inside_at (Over (Trapped t)) = true
 is_inside_at (Over (Exited n)) = false
 is_inside_at (Over OutOfFuel) = false
 is_inside_at (Over OutOfMemory) = true
+is_inside_at (Asking a) = true
 
 abbrev pub frames_at : Phase → Snapshot → List Frame
 frames_at f s = if is_inside_at f then frames_within s else []

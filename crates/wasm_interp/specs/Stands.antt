@@ -1,15 +1,15 @@
--- Module instances (section 4.2.5): which instance a module has when its imports are these calls of the host. A machine
+-- Module instances (section 4.2.5): which instance a module has when these answer its imports. A machine
 -- keeps the calls but no instance, so `Represents` asks by `IsInstanceOf` which instances fit it.
 use Rattle.std.specs.Prelude.{◌≡◌, List, ◌++◌}
 use Rattle.wasm_module.specs.declared.module.Module.{Module}
-use Rattle.wasm_store.specs.declared.call.HostCall.{HostCall}
+use Rattle.wasm_store.specs.declared.linked.Linked.{Linked}
 use Rattle.wasm_steps.specs.Configuration.{Callee, Instance}
 use Rattle.wasm_store.specs.Instantiation.{AreOwn}
 pub use Rattle.wasm_store.specs.Instantiating.{IsCallee, AreCallees}
 
--- the types of the instance are those of the module, and its functions are the imports over these calls and the module's
+-- the types of the instance are those of the module, and its functions are the imports and the module's
 -- own
-pub record IsInstanceOf (m : Module) (calls : List HostCall) (i : Instance) : Type 0 where
+pub record IsInstanceOf (m : Module) (calls : List Linked) (i : Instance) : Type 0 where
   pub func_types : i.func_types ≡ m.types
   pub linked : List Callee
   pub owned : List Callee

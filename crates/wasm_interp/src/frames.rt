@@ -35,7 +35,9 @@ impl State {
         ensures { result ≡ is_inside_at self.now.phase }
     {
         match self.phase {
-            Phase::Within | Phase::Over(Outcome::Trapped(_) | Outcome::OutOfMemory) => true,
+            Phase::Within
+            | Phase::Asking(_)
+            | Phase::Over(Outcome::Trapped(_) | Outcome::OutOfMemory) => true,
             _ => false,
         }
     }

@@ -16,6 +16,7 @@ mod pending;
 mod phase;
 mod places;
 mod plain;
+mod plugin;
 mod running;
 mod shared;
 mod state;
@@ -25,12 +26,15 @@ mod unary;
 
 pub use activation::Activation;
 pub use frames::{Frame, frames_are_the_configurations};
-pub use invoking::{Event, InvokedMachine, MOST_ARGUMENTS, NotInvoked};
+pub use invoking::{
+    AskedCall, Event, InvokedMachine, MOST_ARGUMENTS, NotAnswered, NotInvoked, NotWritten,
+};
 pub use laws::{
     limits_change_no_configuration, machines_keep_to_their_values, machines_show_their_stores,
 };
 pub use machine::{Machine, RefusedInstance};
-pub use phase::Phase;
+pub use phase::{Ask, Phase};
+pub use plugin::PreparedPlugin;
 pub use shared::{PreparedModule, SharedMachine, shared_machines_cross};
 pub use state::MOST_VALUES;
 pub use wasm_num::Trap;

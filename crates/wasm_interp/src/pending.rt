@@ -3,7 +3,7 @@
 use std::marker::Model;
 
 /// The functions that are still to be entered from outside, which every contract sees as a list: the start function, if
-/// there is one, and then `_start`; or an exported function that was invoked with arguments.
+/// there is one, and then `_start`, or `_initialize`, if there is one; or an exported function that was invoked with arguments.
 #[derive(Drop)]
 pub struct Pending {
     start: Option<u32>,
@@ -27,12 +27,12 @@ impl Pending {
     ghost use Rattle.std.specs.Option.{option_to_list};
 
     /// None of the two has been entered.
-    pub fn new(start: Option<u32>, main: u32) -> Pending
-        ensures { result ≡ record { functions = option_to_list start ++ main ∷ []; invoked = None } }
+    pub fn new(start: Option<u32>, main: Option<u32>) -> Pending
+        ensures { result ≡ record { functions = option_to_list start ++ option_to_list main; invoked = None } }
     {
         Pending {
             start,
-            main: Some(main),
+            main,
             invoked: None,
         }
     }

@@ -12,6 +12,7 @@ use crate::first_entry::make_all_entries;
 use crate::frames::Frame;
 use crate::invoking::InvokedMachine;
 use crate::machine::RefusedInstance;
+use crate::plugin::PreparedPlugin;
 use crate::state::State;
 use crate::tables::Prepared;
 use std::alloc::{AllocError, Global};
@@ -175,13 +176,6 @@ impl<'a> SharedMachine<'a> {
         self.state.limit_values(most);
     }
 
-    /// The same machine, whose exported functions are called from now on.
-    pub fn into_invoked(self) -> InvokedMachine<'a>
-        ensures { result ≡ self.entry }
-    {
-        InvokedMachine::of(self.prepared, self.state)
-    }
-
     /// The function at work with so many inside it, as `Machine::frame` tells it.
     pub fn frame(&self, index: usize) -> Option<Frame>
         ensures { result ≡ slice_get (frames_of self.now) index }
@@ -197,4 +191,6 @@ fn crosses<T: Send>() {}
 pub fn shared_machines_cross() {
     crosses::<PreparedModule<'static>>();
     crosses::<SharedMachine<'static>>();
+    crosses::<PreparedPlugin<'static>>();
+    crosses::<InvokedMachine<'static>>();
 }

@@ -7,26 +7,26 @@ use Rattle.wasm_module.specs.declared.module.FuncType.{FuncType}
 use Rattle.wasm_module.specs.declared.module.Import.{Import}
 use Rattle.wasm_module.specs.declared.module.ImportKind.TheVariants as imports
 use Rattle.wasm_module.specs.declared.module.Module.{Module}
-use Rattle.wasm_store.specs.declared.call.HostCall.{HostCall}
+use Rattle.wasm_store.specs.declared.linked.Linked.{Linked}
 use Rattle.wasm_store.specs.declared.instantiation.Instantiated.{Instantiated}
 use Rattle.wasm_store.specs.Values.{IsInType, numbers}
-use Rattle.wasm_store.specs.Instances.{Callee, imported, Instance, Store}
+use Rattle.wasm_store.specs.Instances.{Callee, callee_of, Instance, Store}
 use Rattle.wasm_store.specs.Instantiation.{LinksOf, Instantiates}
 
 -- ---- functions
 
--- an import, the host's call for it, and the function instance
-pub record IsCallee (types : List FuncType) (import : Import) (call : HostCall) (c : Callee) : Type 0 where
+-- an import, what answers it, and the function instance
+pub record IsCallee (types : List FuncType) (import : Import) (linked : Linked) (c : Callee) : Type 0 where
   pub index : ℕ
   pub func_type : FuncType
   pub kind : import.kind ≡ imports.Function index
   pub type_is : slice_get types index ≡ Some func_type
-  pub callee : c ≡ imported func_type call
+  pub callee : c ≡ callee_of func_type linked
 
-abbrev pub AreCallees : List FuncType → List Import → List HostCall → List Callee → Type 0
+abbrev pub AreCallees : List FuncType → List Import → List Linked → List Callee → Type 0
 AreCallees types [] [] [] = Unit {0}
-AreCallees types (i ∷ is) (h ∷ hs) (c ∷ cs) = IsCallee types i h c × AreCallees types is hs cs
-AreCallees types is hs cs = ⊥
+AreCallees types (i ∷ is) (l ∷ ls) (c ∷ cs) = IsCallee types i l c × AreCallees types is ls cs
+AreCallees types is ls cs = ⊥
 
 -- What was made is an instance with its first store, and the functions that are entered first. The calls are those of
 -- the imports.

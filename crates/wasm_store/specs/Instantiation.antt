@@ -68,12 +68,15 @@ AreOwn types [] [] [] = Unit {0}
 AreOwn types (x ∷ xs) (b ∷ bs) (c ∷ cs) = IsOwn types x b c × AreOwn types xs bs cs
 AreOwn types xs bs cs = ⊥
 
--- an exported function `_start` of type [] -> []
-pub record IsStart (m : Module) (x : ℕ) : Type 0 where
-  pub exported : Contains m.exports (record { name = codes "_start"; kind = exports.Function x })
+-- an exported function of this name and of type [] -> []
+pub record IsExportedAs (name : List ℕ) (m : Module) (x : ℕ) : Type 0 where
+  pub exported : Contains m.exports (record { name = name; kind = exports.Function x })
   pub type_index : ℕ
   pub function : slice_get (functions_of m) x ≡ Some type_index
   pub type_is : slice_get m.types type_index ≡ Some (record { params = []; results = [] })
+
+abbrev pub IsStart : Module → ℕ → Type 0
+IsStart = IsExportedAs (codes "_start")
 
 -- ---- memory, table and globals
 

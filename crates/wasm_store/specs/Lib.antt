@@ -1,5 +1,6 @@
 -- What public contracts cite, in reading order: values, memory and tables as lists, instances, instantiation, parts of
--- memory that are lent. `Instantiation` is the standard's, `Instantiating` ties the code to it; `internal` serves
+-- memory that are lent. `Instantiation` is the standard's, `Instantiating` ties the code to it; `Allocating` is of instances
+-- without a `_start`; `internal` serves
 -- private contracts and proofs.
 pub mod Values
 pub mod Bytes
@@ -7,5 +8,6 @@ pub mod Elements
 pub mod Instances
 pub mod Instantiation
 pub mod Instantiating
+pub mod Allocating
 pub mod Lending
 pub mod internal

@@ -1,28 +1,33 @@
 //! From a valid module to what its instance begins with.
 
-ghost use Rattle.std.specs.Prelude.{◌≡◌, ℕ, List, ◌∷◌, ◌+◌, ◌*◌, ◌^◌, ◌<◌, ◌≤◌, Some, None, length, replicate, slice_get, IfOk, IfErr, IfSome, IfNone};
+ghost use Rattle.std.specs.Prelude.{◌≡◌, ◌⊎◌, ℕ, List, ◌∷◌, ◌+◌, ◌*◌, ◌^◌, ◌<◌, ◌≤◌, Some, None, length, replicate, slice_get, IfOk, IfErr, IfSome, IfNone};
 ghost use Rattle.std.specs.Bool.{OnTrue, OnFalse};
 ghost use Rattle.wasm_valid.specs.Validity.{IsValid, functions_of, ExportFits};
 ghost use Rattle.wasm_store.specs.Values.{Val, numbers};
-ghost use Rattle.wasm_store.specs.Instantiation.{IsStart, AreFirst, minimum, page_limit as limit_of, segment_start, ElementsInside, ElementsOutside, DataInside, DataOutside, with_elements, with_data, RefusedFor};
-ghost use Rattle.wasm_store.specs.internal.Finding.{IsNarrow, ImportsFunctions, HasType, StartsAt, AreFound, NotFound, HaveFirst, AreStored, NotStored};
+ghost use Rattle.std.specs.Option.{option_map};
+ghost use Rattle.wasm_store.specs.Instantiation.{IsExportedAs, AreFirst, minimum, page_limit as limit_of, segment_start, ElementsInside, ElementsOutside, DataInside, DataOutside, with_elements, with_data, RefusedFor};
+ghost use Rattle.wasm_store.specs.internal.Finding.{IsNarrow, ImportsFunctions, HasType, ExportsAs, AreFound, NotFound, HaveFirst, AreStored, NotStored, links_with};
 ghost use Rattle.wasm_store.specs.Instantiating.{IsInstantiated};
+ghost use Rattle.wasm_store.specs.Allocating.{IsAllocated, NotAllocated, may_embed as may_be_embedders, with_embedder};
 
-use crate::call::HostCall;
 use crate::fault::InstanceFault;
 use crate::globals::Globals;
 use crate::host::Host;
+use crate::linked::Linked;
 use crate::memory::{Memory, PAGE_SIZE};
 use crate::table::Table;
 use std::alloc::{AllocError, Global};
-use wasm_module::{Export, ExportKind, FuncType, ImportKind, Instruction, Limits, Module};
+use wasm_module::{Export, ExportKind, FuncType, Import, ImportKind, Instruction, Limits, Module};
 use wasm_valid::Valid;
+
+/// A function of whoever embeds the machine takes at most this many arguments.
+pub const MOST_PARAMETERS: usize = 16;
 
 /// What an instance begins with.
 #[derive(Drop)]
 pub struct Instantiated {
     /// The host's call of each import.
-    pub calls: Vec<HostCall>,
+    pub calls: Vec<Linked>,
     pub memory: Memory,
     /// Pages that memory may have.
     pub page_limit: u32,
@@ -50,25 +55,102 @@ pub fn instantiate<H: Host>(
     ensures refused { IfErr result (λ e. RefusedFor (H.links host.now) pages valid.now e) }
 {
     let guest = valid.module();
-    let calls = link(alloc, guest, host)?;
-    let Some(main) = start_function(guest) else {
+    let calls = link(alloc, guest, host, None)?;
+    let Some(main) = exported_function(guest, "_start") else {
         return Err(InstanceFault::NoStart);
     };
-    let memories = guest.memories.as_slice();
-    let initial_pages = minimum(memories);
-    if pages < initial_pages {
-        return Err(InstanceFault::PageLimit);
-    }
+    let initial_pages = first_pages(guest, pages)?;
     let stores = first_stores(alloc, guest, initial_pages)?;
     Ok(Instantiated {
         calls,
         memory: stores.memory,
-        page_limit: page_limit(memories, pages),
+        page_limit: page_limit(guest.memories.as_slice(), pages),
         table: stores.table,
         globals: stores.globals,
         start: guest.start,
         main,
     })
+}
+
+/// What an instance begins with whose exported functions are called.
+#[derive(Drop)]
+pub struct Allocated {
+    /// What answers each import.
+    pub calls: Vec<Linked>,
+    pub memory: Memory,
+    /// Pages that memory may have.
+    pub page_limit: u32,
+    pub table: Table,
+    pub globals: Globals,
+    /// The function that runs first, if there is one.
+    pub start: Option<u32>,
+    /// The exported function `_initialize`, if there is one of type `[] -> []`. It runs next.
+    pub initializer: Option<u32>,
+}
+
+/// Instantiates a module as `instantiate` does, but asks for no `_start`. An import that the host doesn't link is a function of
+/// whoever embeds the machine, unless its module name is `reserved` or it takes more than `MOST_PARAMETERS` arguments. A module
+/// whose start function or `_initialize` is such an import is refused with 13, as one with an import that nobody answers.
+pub fn allocate<H: Host>(
+    alloc: Global,
+    valid: &Valid<'_>,
+    pages: u32,
+    host: &H,
+    reserved: &str,
+) -> Result<Allocated, InstanceFault>
+    ensures allocated { IfOk result (λ r. IsAllocated (with_embedder (H.links host.now) reserved.now) pages valid.now r) }
+
+    // Of several reasons the first is named, in the order 13, 22, 21, 20.
+    ensures refused { IfErr result (λ e. NotAllocated (with_embedder (H.links host.now) reserved.now) pages valid.now e) }
+{
+    let guest = valid.module();
+    let calls = link(alloc, guest, host, Some(reserved))?;
+    let initializer = exported_function(guest, "_initialize");
+    if enters_embedders(calls.as_slice(), guest.start, initializer) {
+        return Err(InstanceFault::Import);
+    }
+    let initial_pages = first_pages(guest, pages)?;
+    let stores = first_stores(alloc, guest, initial_pages)?;
+    Ok(Allocated {
+        calls,
+        memory: stores.memory,
+        page_limit: page_limit(guest.memories.as_slice(), pages),
+        table: stores.table,
+        globals: stores.globals,
+        start: guest.start,
+        initializer,
+    })
+}
+
+/// Whether a function is an import that the embedder answers.
+fn is_embedders(calls: &[Linked], function: Option<u32>) -> bool
+    ensures yes { OnTrue result ((x : ℕ) × (k : ℕ) × (function ≡ Some x) × (slice_get calls.now x ≡ Some (Linked.Embedder k))) }
+    ensures no { OnFalse result ((x k : ℕ) → function ≡ Some x → slice_get calls.now x ≡ Some (Linked.Embedder k) → ⊥) }
+{
+    let Some(function) = function else {
+        return false;
+    };
+    matches!(calls.get(function as usize), Some(Linked::Embedder(_)))
+}
+
+/// Whether the start function or the initializer is an import that the embedder answers.
+fn enters_embedders(calls: &[Linked], start: Option<u32>, initializer: Option<u32>) -> bool
+    ensures yes { OnTrue result ((x : ℕ) × (k : ℕ) × ((start ≡ Some x) ⊎ (initializer ≡ Some x)) × (slice_get calls.now x ≡ Some (Linked.Embedder k))) }
+    ensures no { OnFalse result ((x k : ℕ) → (start ≡ Some x) ⊎ (initializer ≡ Some x) → slice_get calls.now x ≡ Some (Linked.Embedder k) → ⊥) }
+{
+    is_embedders(calls, start) || is_embedders(calls, initializer)
+}
+
+/// How many pages memory begins with, where that is at most so many.
+fn first_pages(guest: &Module, pages: u32) -> Result<u32, InstanceFault>
+    ensures within { IfOk result (λ n. (n ≡ minimum guest.now.memories) × (n ≤ pages)) }
+    ensures refused { IfErr result (λ e. (e ≡ InstanceFault.PageLimit) × (pages < minimum guest.now.memories)) }
+{
+    let initial_pages = minimum(guest.memories.as_slice());
+    if pages < initial_pages {
+        return Err(InstanceFault::PageLimit);
+    }
+    Ok(initial_pages)
 }
 
 /// What an instance keeps beside its calls.
@@ -105,20 +187,52 @@ fn first_stores(alloc: Global, guest: &Module, initial_pages: u32) -> Result<Sto
     })
 }
 
-/// The host's call of each import.
-fn link<H: Host>(alloc: Global, guest: &Module, host: &H) -> Result<Vec<HostCall>, InstanceFault>
+/// Whether the embedder answers an import that the host doesn't link, where this module name is the host's alone.
+fn may_embed(reserved: &str, module_name: &str, func_type: &FuncType) -> bool
+    ensures { result ≡ may_be_embedders reserved.now module_name.now func_type.now }
+{
+    module_name != reserved && func_type.params.len() <= MOST_PARAMETERS
+}
+
+/// What answers the import of this index, which has this type. With an embedder, a module name is given that is the host's alone.
+fn linked<H: Host>(
+    host: &H,
+    embedder: Option<&str>,
+    index: usize,
+    import: &Import,
+    func_type: &FuncType,
+) -> Option<Linked>
+    ensures { result ≡ links_with (H.links host.now) (option_map (λ s. s.now) embedder.entry) index import.now.module_name import.now.name func_type.now }
+{
+    let module_name = import.module_name.as_str();
+    if let Some(call) = host.link(module_name, import.name.as_str(), func_type) {
+        return Some(Linked::Host(call));
+    }
+    let reserved = embedder?;
+    if !may_embed(reserved, module_name, func_type) {
+        return None;
+    }
+    Some(Linked::Embedder(index))
+}
+
+/// What answers each import.
+fn link<H: Host>(
+    alloc: Global,
+    guest: &Module,
+    host: &H,
+    embedder: Option<&str>,
+) -> Result<Vec<Linked>, InstanceFault>
     requires { IsValid guest.now }
-    ensures found { IfOk result (λ calls. AreFound (H.links host.now) guest.now calls.items) }
-    ensures missing { IfErr result (λ e. NotFound (H.links host.now) guest.now e) }
+    ensures found { IfOk result (λ calls. AreFound (links_with (H.links host.now) (option_map (λ s. s.now) embedder.entry)) guest.now calls.items) }
+    ensures missing { IfErr result (λ e. NotFound (links_with (H.links host.now) (option_map (λ s. s.now) embedder.entry)) guest.now e) }
 {
     let mut calls = Vec::new(alloc);
     for import in guest.imports.as_slice() {
-        let ImportKind::Function(index) = import.kind else {
+        let ImportKind::Function(type_index) = import.kind else {
             return Err(InstanceFault::Import);
         };
-        let func_type = &guest.types.as_slice()[index as usize];
-        let Some(call) = host.link(import.module_name.as_str(), import.name.as_str(), func_type)
-        else {
+        let func_type = &guest.types.as_slice()[type_index as usize];
+        let Some(call) = linked(host, embedder, calls.len(), import, func_type) else {
             return Err(InstanceFault::Import);
         };
         calls.push(call)?;
@@ -126,33 +240,33 @@ fn link<H: Host>(alloc: Global, guest: &Module, host: &H) -> Result<Vec<HostCall
     Ok(calls)
 }
 
-/// The function that is exported as `_start`, if its type is `[] -> []`.
-fn start_function(guest: &Module) -> Option<u32>
+/// The function that is exported by this name, if its type is `[] -> []`.
+fn exported_function(guest: &Module, name: &str) -> Option<u32>
     requires valid { IsValid guest.now }
     requires functions { ImportsFunctions guest.now }
-    ensures found { IfSome result (λ x. IsStart guest.now x) }
-    ensures missing { IfNone result ((x : ℕ) → IsStart guest.now x → ⊥) }
+    ensures found { IfSome result (λ x. IsExportedAs name.now guest.now x) }
+    ensures missing { IfNone result ((x : ℕ) → IsExportedAs name.now guest.now x → ⊥) }
 {
     for export in guest.exports.as_slice() {
-        if let Some(function) = started_by(guest, export) {
+        if let Some(function) = exported_by(guest, export, name) {
             return Some(function);
         }
     }
     None
 }
 
-/// The function of this export, if it is named `_start` and has type `[] -> []`.
-fn started_by(guest: &Module, export: &Export) -> Option<u32>
+/// The function of this export, if it has this name and type `[] -> []`.
+fn exported_by(guest: &Module, export: &Export, name: &str) -> Option<u32>
     requires valid { IsValid guest.now }
     requires functions { ImportsFunctions guest.now }
     requires fits { ExportFits guest.now export.now.kind }
-    ensures found { IfSome result (λ x. StartsAt guest.now export.now x) }
-    ensures other { IfNone result ((x : ℕ) → StartsAt guest.now export.now x → ⊥) }
+    ensures found { IfSome result (λ x. ExportsAs name.now guest.now export.now x) }
+    ensures other { IfNone result ((x : ℕ) → ExportsAs name.now guest.now export.now x → ⊥) }
 {
     let ExportKind::Function(function) = export.kind else {
         return None;
     };
-    if export.name.as_str() != "_start" {
+    if export.name.as_str() != name {
         return None;
     }
     let func_type = function_type(guest, function);

@@ -6,6 +6,7 @@ mod fault;
 mod globals;
 mod host;
 mod instantiation;
+mod linked;
 mod memory;
 mod table;
 
@@ -13,6 +14,7 @@ pub use call::{Answer, Errno, HostCall};
 pub use fault::InstanceFault;
 pub use globals::Globals;
 pub use host::Host;
-pub use instantiation::{Instantiated, instantiate};
+pub use instantiation::{Allocated, Instantiated, MOST_PARAMETERS, allocate, instantiate};
+pub use linked::Linked;
 pub use memory::{Memory, PAGE_SIZE};
 pub use table::Table;

@@ -84,7 +84,6 @@ impl OperandStack {
     }
 
     /// Takes these operands; whether they were there.
-    #[inline(always)]
     fn take(&mut self, takes: Takes) -> bool
         ensures below { self.new.below ≡ self.old.below }
         ensures stack { StepsTo result (pops (taken takes) self.old.stack) self.new.stack }

@@ -245,7 +245,10 @@ class Session:
         self._kept, self._module, self._raw = (args, env, names, paths, array, opened, random, input, module), module, c.c_void_p()
         self._settled = 0  # operations that are on the descriptor
         self._used = 0  # units so far
-        _check(_lib.sandbox_open_loaded(c.byref(self._raw), c.byref(module._raw), c.byref(given), c.byref(over)))
+        _check(self._open(module, c.byref(given), c.byref(over)))
+
+    def _open(self, module, given, over):
+        return _lib.sandbox_open_loaded(c.byref(self._raw), c.byref(module._raw), given, over)
 
     def resume(self, units):
         """Goes on for at most this many units, until one call is answered, the units are used, or the guest ends."""
@@ -288,6 +291,9 @@ class Session:
     def finish(self):
         """Commits the guest's calls, and gives the bytes of its volume."""
         _check(_lib.sandbox_finish(c.byref(self._raw)))
+        return self._volume()
+
+    def _volume(self):
         count = _lib.sandbox_volume_out(c.byref(self._raw), b"", c.c_size_t(0))
         room = c.create_string_buffer(512 * max(1, count))
         _lib.sandbox_volume_out(c.byref(self._raw), room, c.c_size_t(count))
@@ -325,4 +331,5 @@ class Session:
     def __exit__(self, *_):
         self.close()
 
-    __del__ = close
+    def __del__(self):
+        self.close()

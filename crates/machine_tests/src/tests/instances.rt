@@ -7,7 +7,7 @@ use super::{assert_row, loaded};
 use std::alloc::Global;
 use std::process::Abort;
 use wasm_module::FuncType;
-use wasm_store::{Answer, Errno, Host, HostCall, InstanceFault, Instantiated, Memory, instantiate};
+use wasm_store::{Answer, Errno, Host, HostCall, InstanceFault, Instantiated, Linked, Memory, instantiate};
 use wasm_valid::Valid;
 
 /// Links each import to one call, or none.
@@ -87,7 +87,7 @@ fn has_first_values(made: &Instantiated) -> bool {
 
 fn is_filled(made: &Instantiated) -> bool {
     has_first_values(made)
-        && made.calls.as_slice() == [HostCall::FdSync].as_slice()
+        && made.calls.as_slice() == [Linked::Host(HostCall::FdSync)].as_slice()
         && made.page_limit == 7
         && made.start == Some(1)
         && made.main == 1

@@ -1,7 +1,7 @@
--- What the steps of instantiation find (section 4.5.4): the host's calls, the exported `_start`, and the first memory,
+-- What the steps of instantiation find (section 4.5.4): what answers the imports, the exported `_start`, and the first memory,
 -- table and globals. A step that fails in several ways has one definition of success and one of failure (`AreFound`,
 -- `NotFound`; `AreStored`, `NotStored`).
-use Rattle.std.specs.Prelude.{◌≡◌, ℕ, ◌*◌, ◌⊎◌, List, [], ◌∷◌, Option, Some, None, replicate, slice_get, codes}
+use Rattle.std.specs.Prelude.{◌≡◌, ℕ, ◌*◌, ◌⊎◌, List, [], ◌∷◌, Option, Some, None, replicate, slice_get}
 use Rattle.std.specs.List.{AllByRecursion}
 use Rattle.wasm_module.specs.declared.instruction.Instruction.{Instruction}
 use Rattle.wasm_module.specs.declared.instruction.Instruction.TheVariants as op
@@ -12,13 +12,14 @@ use Rattle.wasm_module.specs.declared.module.Export.{Export}
 use Rattle.wasm_module.specs.declared.module.ExportKind.TheVariants as exports
 use Rattle.wasm_module.specs.declared.module.Module.{Module}
 use Rattle.wasm_valid.specs.Validity.{functions_of}
-use Rattle.wasm_store.specs.declared.call.HostCall.{HostCall}
+use Rattle.wasm_store.specs.declared.linked.Linked.{Linked}
 use Rattle.wasm_store.specs.declared.fault.InstanceFault.{InstanceFault}
 use Rattle.wasm_store.specs.declared.fault.InstanceFault.TheVariants as faults
 use Rattle.wasm_store.specs.Values.{Val, IsInType, numbers}
 use Rattle.wasm_store.specs.Instances.{Callee}
-use Rattle.wasm_store.specs.Instantiation.{LinksOf, AreLinked, SomeUnlinked, AreFirst, minimum, ElementsInside, ElementsOutside, DataInside, DataOutside, with_elements, with_data}
+use Rattle.wasm_store.specs.Instantiation.{LinksOf, AreFirst, minimum, ElementsInside, ElementsOutside, DataInside, DataOutside, with_elements, with_data}
 use Rattle.wasm_store.specs.Instantiating.{AreCallees}
+use Rattle.wasm_store.specs.Allocating.{AllLinks, AreLinkedTo, SomeUnlinkedTo, all_by_host, with_embedder}
 
 -- an expression of a constant of 32 bits
 abbrev pub IsNarrow : List Instruction → Type 0
@@ -41,26 +42,31 @@ pub record HasType (m : Module) (x : ℕ) (f : FuncType) : Type 0 where
   pub function : slice_get (functions_of m) x ≡ Some type_index
   pub type_is : slice_get m.types type_index ≡ Some f
 
--- an export of function x by the name `_start`
-abbrev pub start_export : ℕ → Export
-start_export x = record { name = codes "_start"; kind = exports.Function x }
+-- an export of function x by this name
+abbrev pub export_of : List ℕ → ℕ → Export
+export_of name x = record { name = name; kind = exports.Function x }
 
 -- the export is that of a function of type [] -> [] by this name
-pub record StartsAt (m : Module) (e : Export) (x : ℕ) : Type 0 where
-  pub is : e ≡ start_export x
+pub record ExportsAs (name : List ℕ) (m : Module) (e : Export) (x : ℕ) : Type 0 where
+  pub is : e ≡ export_of name x
   pub has_type : HasType m x (record { params = []; results = [] })
 
 -- ---- imports
 
--- every import has its call
-pub record AreFound (links : LinksOf) (m : Module) (calls : List HostCall) : Type 0 where
+-- every import has what answers it
+pub record AreFound (links : AllLinks) (m : Module) (calls : List Linked) : Type 0 where
   pub linked : List Callee
-  pub are_linked : AreLinked links m.types m.imports linked
+  pub are_linked : AreLinkedTo links m.types 0 m.imports linked
   pub are_callees : AreCallees m.types m.imports calls linked
 
 -- an import was not linked, or memory was refused
-abbrev pub NotFound : LinksOf → Module → InstanceFault → Type 0
-NotFound links m e = (e ≡ faults.Memory) ⊎ ((e ≡ faults.Import) × SomeUnlinked links m.types m.imports)
+abbrev pub NotFound : AllLinks → Module → InstanceFault → Type 0
+NotFound links m e = (e ≡ faults.Memory) ⊎ ((e ≡ faults.Import) × SomeUnlinkedTo links m.types 0 m.imports)
+
+-- the links of a host, with the embedder's functions or without
+abbrev pub links_with : LinksOf → Option (List ℕ) → AllLinks
+links_with links None = all_by_host links
+links_with links (Some reserved) = with_embedder links reserved
 
 -- ---- the whole
 

@@ -5,7 +5,10 @@
 //! ([`Module::share`]): then any number of sessions are of it at once, in any threads, and each opens as fast as one of a small
 //! module. What a guest reads is borrowed for as long as its session lives. Both may go to another thread; each thread can have its
 //! own.
+mod plugin;
 mod sys;
+
+pub use plugin::{Call, Instance, Plugin, Question, Step};
 
 use std::error::Error;
 use std::fmt;

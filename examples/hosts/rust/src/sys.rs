@@ -6,6 +6,9 @@ pub struct OpaqueSession([u8; 0]);
 pub struct OpaqueModule([u8; 0]);
 
 #[repr(C)]
+pub struct OpaquePlugin([u8; 0]);
+
+#[repr(C)]
 #[derive(Clone, Copy)]
 pub struct Bytes {
     pub at: *const u8,
@@ -102,6 +105,25 @@ extern "C" {
     pub fn sandbox_operation_at(session: *mut *mut OpaqueSession, number: usize, operation: *mut Operation) -> u32;
     pub fn sandbox_close(session: *mut *mut OpaqueSession) -> u32;
     pub fn sandbox_close_loaded(session: *mut *mut OpaqueSession, module: *mut *mut OpaqueModule) -> u32;
+    pub fn sandbox_plugin_load(plugin: *mut *mut OpaquePlugin, bytes: *const u8, length: usize, limits: *const Limits, floats: u32, why: *mut Why) -> u32;
+    pub fn sandbox_plugin_share(other: *mut *mut OpaquePlugin, plugin: *mut *mut OpaquePlugin) -> u32;
+    pub fn sandbox_plugin_name(plugin: *mut *mut OpaquePlugin, part: u32, index: usize, room: *mut u8, length: usize) -> usize;
+    pub fn sandbox_plugin_unload(plugin: *mut *mut OpaquePlugin) -> u32;
+    pub fn sandbox_instance_open(
+        instance: *mut *mut OpaqueSession,
+        plugin: *mut *mut OpaquePlugin,
+        supplies: *const Supplies,
+        volume: *const Volume,
+    ) -> u32;
+    pub fn sandbox_invoke(instance: *mut *mut OpaqueSession, name: *const u8, name_length: usize, arguments: *const u64, count: usize) -> u32;
+    pub fn sandbox_go(instance: *mut *mut OpaqueSession, units: u64, told: *mut Told) -> u32;
+    pub fn sandbox_values(instance: *mut *mut OpaqueSession, room: *mut u64, length: usize) -> usize;
+    pub fn sandbox_answer(instance: *mut *mut OpaqueSession, results: *const u64, count: usize) -> u32;
+    pub fn sandbox_abandon(instance: *mut *mut OpaqueSession) -> u32;
+    pub fn sandbox_memory_size(instance: *mut *mut OpaqueSession) -> usize;
+    pub fn sandbox_memory_read(instance: *mut *mut OpaqueSession, address: u32, room: *mut u8, length: usize) -> u32;
+    pub fn sandbox_memory_write(instance: *mut *mut OpaqueSession, address: u32, bytes: *const u8, length: usize) -> u32;
+    pub fn sandbox_instance_finish(instance: *mut *mut OpaqueSession) -> u32;
     pub fn sandbox_format(sectors: *mut [u8; 512], count: usize, slots: u32) -> u32;
     pub fn sandbox_format_huge(sectors: *mut [u8; 512], count: usize, slots: u32) -> u32;
 }

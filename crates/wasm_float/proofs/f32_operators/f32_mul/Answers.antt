@@ -1,13 +1,16 @@
--- A NaN makes a NaN.
+-- Of finite numbers it is a number.
 use Rattle.std.proofs.Common.{sym, ◌∙◌}
-use Rattle.std.specs.Float.Ieee.{binary32, mul}
-use Rattle.wasm_float.proofs.Nans.{constant32, mul_nan, two_value, two_allowed}
+use Rattle.std.specs.Float.Ieee.{binary32}
+use Rattle.wasm_float.proofs.Finites.{both, no_nans, mul_number}
 use Rattle.wasm_float.proofs.f32_operators.f32_mul.Goals as goal
 
-pub returns-then-either_nan-clause-value : goal.returns-then-either_nan-clause-value
-returns-then-either_nan-clause-value c =
-    c.bits.ensures.value ∙ two_value (mul binary32) (mul_nan binary32) binary32 c.args.a c.args.b _ constant32 (sym c.either_nan.ensures ∙ c.if-either_nan.true)
+pub float_from_bits-a : goal.float_from_bits-a
+float_from_bits-a c = (no_nans binary32 c.args.a c.args.b (sym c.both_finite.ensures ∙ c.if-both_finite.true)).0
 
-pub returns-then-either_nan-clause-allowed : goal.returns-then-either_nan-clause-allowed
-returns-then-either_nan-clause-allowed c =
-    two_allowed (mul binary32) (mul_nan binary32) binary32 c.args.a c.args.b _ constant32 (sym c.either_nan.ensures ∙ c.if-either_nan.true) _ (c.bits.ensures.allowed _)
+pub float_from_bits-b : goal.float_from_bits-b
+float_from_bits-b c = (no_nans binary32 c.args.a c.args.b (sym c.both_finite.ensures ∙ c.if-both_finite.true)).1
+
+pub number_bits-requires : goal.number_bits-requires
+number_bits-requires c =
+    let finite = both binary32 c.args.a c.args.b (sym c.both_finite.ensures ∙ c.if-both_finite.true) in
+    mul_number binary32 _ _ finite.0 finite.1

@@ -2,7 +2,7 @@ use Rattle.std.proofs.Common.{◌≡◌, [], refl, sym, subst, ap, ◌∙◌, ar
 use Rattle.wasm_steps.specs.declared.pause.Outcome.TheVariants as ends
 use Rattle.wasm_steps.specs.Configuration.{Configuration, at, Instance, code_of, store_of, used_by}
 use Rattle.wasm_interp.specs.declared.phase.Phase.{Phase}
-use Rattle.wasm_interp.specs.declared.phase.Phase.TheVariants.{Within as within, Between as between, Refused as refused, Over as over}
+use Rattle.wasm_interp.specs.declared.phase.Phase.TheVariants.{Within as within, Between as between, Refused as refused, Over as over, Asking as asking}
 use Rattle.wasm_interp.specs.Frames.{AreFrames, Tells, WereFrames, frames_at, frames_within}
 use Rattle.wasm_interp.specs.Machine.{Represents, Snapshot}
 use Rattle.wasm_interp.specs.internal.Standing.{Flat, Program}
@@ -34,6 +34,7 @@ module _ (s : Snapshot) (i : Instance) (c : Configuration) (h : IsStateOf s.vali
   by_phase within st = frames_told s.valid s.state.calls i h.valid h.instance s.state.pending flat c st
   by_phase between st = record { frames = subst (λ (y : Configuration). AreFrames s.valid i (code_of y) [] []) (sym st.is) refl; calls = tt }
   by_phase refused st = inl (refl, record { frames = subst (λ (y : Configuration). AreFrames s.valid i (code_of y) [] []) (sym st.3.is) refl; calls = tt })
+  by_phase (asking a) st = frames_told s.valid s.state.calls i h.valid h.instance s.state.pending flat c st.stands
   by_phase (over (ends.Exited n)) st = refl
   by_phase (over (ends.Trapped t)) st = (st.2.0.used, used_is c ∙ st.2.1, were st.2.0, st.2.2)
   by_phase (over ends.OutOfFuel) st = refl

@@ -12,4 +12,4 @@ pub returns-in-Err-clause-refused : goal.returns-in-Err-clause-refused
 returns-in-Err-clause-refused g c = (refl, c.in-Err.ensures.refused)
 
 pub returns-in-Ok-clause-most : goal.returns-in-Ok-clause-most
-returns-in-Ok-clause-most g c = c.in-Ok.ensures.begun.most
+returns-in-Ok-clause-most g c = c.in-Ok.ensures.begun.first.most

@@ -7,7 +7,7 @@ use Rattle.wasm_interp.proofs.PlainSteps.Snapshots.{resumed_of}
 use Rattle.wasm_interp.proofs.machine.Machine.resume.Goals as goal
 
 pub invariant_of-self : goal.invariant_of-self
-invariant_of-self g c = machine_made c.self.inside.prepared c.resume_making.new.guest c.self.inside.state c.resume_making.new.self c.resume_making.ensures.made c.self.invariant c.resume_making.ensures.live (c.resume_making.ensures.pauses.invoked ∙ c.self.invariant.command)
+invariant_of-self g c = machine_made c.self.inside.prepared c.resume_making.new.guest c.self.inside.state c.resume_making.new.self c.resume_making.ensures.made c.self.invariant c.resume_making.ensures.live (c.resume_making.ensures.pauses.invoked ∙ c.self.invariant.command) (λ a e. absurd (c.resume_making.ensures.pauses.unasked a e))
 
 pub returns : goal.returns
 returns g c =

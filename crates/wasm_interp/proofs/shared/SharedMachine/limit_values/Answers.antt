@@ -1,7 +1,7 @@
 use Rattle.std.proofs.Common.{◌∙◌, sym, ap, subst, arith}
 use Rattle.std.specs.Arc.{arc_value}
 use Rattle.wasm_interp.specs.declared.state.State.{State}
-use Rattle.wasm_interp.specs.internal.Running.{IsLive, snapshot_of}
+use Rattle.wasm_interp.specs.internal.Running.{CanBeAnswered, IsLive, snapshot_of}
 use Rattle.wasm_interp.proofs.shared.SharedMachine.limit_values.Goals as goal
 
 pub limit_values-requires : goal.limit_values-requires
@@ -21,8 +21,10 @@ invariant_of-self c =
           stands = live.stands;
           room = record { values = live.room.values; spare = live.room.spare; frames = live.room.frames; few = live.room.few; bound = omega (arith, live.room.values) };
         });
+        answers = subst CanBeAnswered (sym c.limit_values.ensures) c.self.invariant.invocable.answers;
       };
       command = ap (λ (s : State). s.pending.invoked) c.limit_values.ensures ∙ c.self.invariant.command;
+      hosted = c.self.invariant.hosted;
     }
 
 pub returns : goal.returns

@@ -29,4 +29,4 @@ returns-in-Err-clause-refused g c =
     rw (← c.ready.view_is) (subst (λ (r : Prepared). RefusedFor (g.H.Host.links c.args.host.now) c.ready.inside.pages r.valid c.in-Err.fault) c.deref.ensures c.in-Err.ensures.refused)
 
 pub returns-clause-most : goal.returns-clause-most
-returns-clause-most g c = c.in-Ok.ensures.begun.most
+returns-clause-most g c = c.in-Ok.ensures.begun.first.most

@@ -8,8 +8,9 @@ use Rattle.wasm_interp.proofs.shared.SharedMachine.resume.Goals as goal
 -- what `resume` says of the module that is lent is said of the shared one
 pub invariant_of-self : goal.invariant_of-self
 invariant_of-self g c = record {
-  invocable = record { tables = c.self.invariant.invocable.tables; live = subst (λ (r : Prepared). IsLive r c.resume.new.self) c.deref.ensures c.resume.ensures.live };
+  invocable = record { tables = c.self.invariant.invocable.tables; live = subst (λ (r : Prepared). IsLive r c.resume.new.self) c.deref.ensures c.resume.ensures.live; answers = λ a e. absurd (c.resume.ensures.pauses.unasked a e) };
   command = c.resume.ensures.pauses.invoked ∙ c.self.invariant.command;
+  hosted = c.self.invariant.hosted;
 }
 
 pub returns : goal.returns

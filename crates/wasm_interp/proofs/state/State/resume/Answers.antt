@@ -1,4 +1,5 @@
 use Rattle.std.proofs.Common.{◌+◌, ◌∙◌, refl, arith, inr}
+use Rattle.wasm_interp.proofs.PlainSteps.Asking.{hosts_answer}
 use Rattle.wasm_interp.proofs.PlainSteps.Turns.{goes_none}
 use Rattle.wasm_interp.proofs.PlainSteps.Pausing.{ended_stays, runs_on, runs_to}
 use Rattle.wasm_interp.proofs.state.State.resume.Goals as goal
@@ -12,7 +13,7 @@ running-preserved g c =
     runs_on _ g.H.Host.calls c.args.guest.now (c.args.self.now.used + c.args.units) c.args.units c.args.host.now c.args.self.now c.running.self c.running.host c.turn.new.host c.turn.new.self c.running.invariant c.in_default.ensures.continues c.turn.ensures.live c.in_default.ensures.runs c.turn.ensures.most
 
 pub turn-requires : goal.turn-requires
-turn-requires g c = record { live = c.running.invariant.live; units = c.running.invariant.units_left; awaited = λ between none. c.running.invariant.goes.1.invoked ∙ c.requires.command }
+turn-requires g c = record { live = c.running.invariant.live; units = c.running.invariant.units_left; awaited = λ between none. c.running.invariant.goes.1.invoked ∙ c.requires.command; unasked = hosts_answer c.args.guest.now c.running.self c.running.invariant.live c.requires.hosted }
 
 pub returns-in-Some-clause-pauses : goal.returns-in-Some-clause-pauses
 returns-in-Some-clause-pauses g c =

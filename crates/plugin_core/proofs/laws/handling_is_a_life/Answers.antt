@@ -1,0 +1,5 @@
+use Rattle.plugin_core.proofs.Handling.{handling_is_a_life}
+use Rattle.plugin_core.proofs.laws.handling_is_a_life.Goals as goal
+
+pub returns : goal.returns
+returns g c = handling_is_a_life _ g.H.Host.calls

@@ -1,0 +1,5 @@
+pub mod Headline
+pub mod Doing
+pub mod Refusing
+pub mod Limiting
+pub mod Finding

@@ -1,0 +1,115 @@
+-- An instance is a machine whose exported functions are called, the host that answers its guest's calls of WASI, and where it is. Here
+-- stands how one is opened or refused, and what each call of it does.
+use Rattle.std.specs.Prelude.{◌≡◌, ◌≢◌, ◌≤◌, ◌+◌, ℕ, true, false, List, codes, Contains, Option, Some, None}
+use Rattle.std.specs.Option.{option_map}
+use Rattle.wasm_module.specs.declared.module.ExportKind.TheVariants as exports
+use Rattle.wasm_module.specs.declared.module.Module.{Module}
+use Rattle.wasm_store.specs.declared.fault.InstanceFault.TheVariants.{Memory as NoMemory}
+use Rattle.wasm_store.specs.Allocating.{AllLinks, NotAllocated, with_embedder}
+use Rattle.wasm_interp.specs.declared.invoking.Event.{Event}
+use Rattle.wasm_interp.specs.declared.invoking.Event.TheVariants as events
+use Rattle.wasm_steps.specs.Outcomes.{UnitsRise}
+use Rattle.wasm_interp.specs.Machine.{Snapshot, limited}
+use Rattle.wasm_interp.specs.Invoking as machine
+use Rattle.wasi_calls.specs.declared.streams.Terminals.{Terminals}
+use Rattle.wasi_calls.specs.declared.host.wasi_host.HostParts.{HostParts}
+use Rattle.wasi_calls.specs.host.Settings.{settings_fit}
+use Rattle.wasi_calls.specs.host.Links.{link}
+use Rattle.wasi_calls.specs.supplies.Random.{seeded}
+use Rattle.wasi_calls.specs.host.Worlds.{HostState}
+use Rattle.wasi_calls.specs.host.Making.{preopens_of}
+use Rattle.sandbox_core.specs.Devices.{Devices, Calls}
+use Rattle.sandbox_core.specs.declared.fault.SessionFault.{SessionFault}
+use Rattle.sandbox_core.specs.declared.fault.SessionFault.TheVariants.{Setting, Device, Preopen, Memory}
+use Rattle.sandbox_core.specs.declared.fault.SessionFault.TheVariants.{Instance as NoInstance}
+use Rattle.sandbox_core.specs.Session.{SessionState}
+use Rattle.plugin_core.specs.declared.stage.Stage.{Stage}
+use Rattle.plugin_core.specs.declared.stage.Stage.TheVariants.{Opening}
+use Rattle.plugin_core.specs.Handling.{Act, Handled, MayDo, act_of, after, answered, invoked}
+
+-- who answers an import: the host, and else the embedder, but none of WASI's
+abbrev pub links : AllLinks
+links = with_embedder link (codes "wasi_snapshot_preview1")
+
+-- what callers see of an instance
+pub record InstanceState (D R W1 W2 : Type 0) : Type 0 where
+  pub machine : Snapshot
+  pub host : HostState D R W1 W2
+  pub stage : Stage
+
+module _ {D R W1 W2 : Type 0} where
+  abbrev pub used_by : InstanceState D R W1 W2 → ℕ
+  used_by s = s.machine.used
+
+  -- its machine and its host alone
+  abbrev pub session_of : InstanceState D R W1 W2 → SessionState D R W1 W2
+  session_of s = record { machine = s.machine; host = s.host }
+
+  -- the same instance, whose random bytes are those of a seed from now on
+  abbrev pub seeded_by : ℕ → InstanceState D R W1 W2 → InstanceState D R W1 W2
+  seeded_by seed s = record s { host = record s.host { generator = Some (seeded seed) } }
+
+  -- the same instance, interactive from now on, with these terminals
+  abbrev pub interactive_with : Terminals → InstanceState D R W1 W2 → InstanceState D R W1 W2
+  interactive_with terminals s = record s { host = record s.host { interactive = Some terminals } }
+
+  -- the same instance, whose guest's stack has this many values at most from now on, or as many as find room already
+  abbrev pub limited_to : ℕ → InstanceState D R W1 W2 → InstanceState D R W1 W2
+  limited_to most s = record s { machine = limited most s.machine }
+
+  -- The settings fit, the machine stands for the module's first configuration, no stream has failed, and random bytes come from this
+  -- seed; where there is none, from the settings. Where there are terminals, it is interactive with these.
+  pub record OpensWith (seed : Option ℕ) (terminals : Option Terminals) (m : Module) (parts : HostParts D R W1 W2) (s : InstanceState D R W1 W2) : Type 0 where
+    pub fits : settings_fit parts.settings ≡ true
+    pub opens : machine.Opens links parts.settings.pages m s.machine
+    pub input : s.host.input ≡ record { reader = parts.input; failed = false; ended = false }
+    pub out : s.host.out ≡ record { writer = parts.out; failed = false }
+    pub err : s.host.err ≡ record { writer = parts.err; failed = false }
+    pub settings : s.host.settings ≡ parts.settings
+    pub supply : s.host.generator ≡ option_map seeded seed
+    pub interactive : s.host.interactive ≡ terminals
+    pub stage : s.stage ≡ Opening
+
+  -- as a new instance does
+  abbrev pub Opens : Module → HostParts D R W1 W2 → InstanceState D R W1 W2 → Type 0
+  Opens m parts s = OpensWith None None m parts s
+
+-- how units rise until an event: all that were given are used where the next step would take one more
+abbrev pub RisesBy : Event → ℕ → ℕ → ℕ → Type 0
+RisesBy (events.Paused p) units before after = UnitsRise p units before after
+RisesBy events.Returned units before after = (before ≤ after) × (after ≤ before + units)
+RisesBy (events.Asked x) units before after = (before ≤ after) × (after ≤ before + units)
+
+-- an instance of the module can be opened, with at most this many pages
+abbrev pub IsOpenable : Module → ℕ → Type 0
+IsOpenable m pages = (s : Snapshot) × machine.Opens links pages m s
+
+-- The reason of a refusal, in this order: the settings exactly where they don't fit, the module exactly where it has no instance, the
+-- volume where it has failed then, and a path exactly where it names no directory.
+abbrev pub IsRefused : {D R W1 W2 : Type 0} → (D → Type 0) → SessionFault → Module → HostParts D R W1 W2 → Type 0
+IsRefused honest Setting m parts = settings_fit parts.settings ≡ false
+IsRefused honest (NoInstance f) m parts = (settings_fit parts.settings ≡ true) × (f ≢ NoMemory) × NotAllocated links parts.settings.pages m f
+IsRefused honest Device m parts = (settings_fit parts.settings ≡ true) × IsOpenable m parts.settings.pages
+IsRefused honest Preopen m parts = (settings_fit parts.settings ≡ true) × IsOpenable m parts.settings.pages
+    × (honest parts.volume.device → preopens_of parts.volume.tree parts.settings.preopens.now ≡ None)
+IsRefused honest Memory m parts = settings_fit parts.settings ≡ true
+
+module _ {D R W1 W2 : Type 0} (on : Devices D R W1 W2) where
+  -- what a call of an instance does with its machine and its host, where it is allowed
+  pub record Does (old : InstanceState D R W1 W2) (k : Act) (new : InstanceState D R W1 W2) : Type 0 where
+    pub may : MayDo old.stage k
+    pub handled : Handled (HostState D R W1 W2) (Calls on) old.machine.valid old.host old.machine k new.host new.machine
+    pub stage : new.stage ≡ after old.stage k
+
+  -- a function that is exported by this name is entered next
+  abbrev pub Invokes : InstanceState D R W1 W2 → InstanceState D R W1 W2 → List ℕ → List ℕ → Type 0
+  Invokes old new name arguments = (x : ℕ) × Contains old.machine.valid.exports (record { name = name; kind = exports.Function x }) × Does old (invoked x arguments) new
+
+  -- it went on for at most these units, until this event
+  pub record Goes (old new : InstanceState D R W1 W2) (units : ℕ) (e : Event) : Type 0 where
+    pub does : Does old (act_of e new.machine) new
+    pub within : RisesBy e units (used_by old) (used_by new)
+
+  -- the embedder has answered what it was asked for, with these results
+  abbrev pub Answers : InstanceState D R W1 W2 → InstanceState D R W1 W2 → List ℕ → Type 0
+  Answers old new results = (x : ℕ) × (arguments : List ℕ) × Does old (answered old.machine.memory x arguments results) new

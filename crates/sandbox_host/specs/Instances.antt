@@ -1,0 +1,207 @@
+-- Instances whose exported functions a host in C calls: what a handle has of a module for them, of one that isn't finished, and of one
+-- that is; and what each call makes of it. What the calls of an instance do is said by `plugin_session`.
+use Rattle.std.specs.Prelude.{◌≡◌, ◌≢◌, ◌⊎◌, ◌-◌, ◌^◌, ◌<◌, ◌≤◌, ◌+◌, ℕ, false, true, List, [], length, reverse, take, drop, min, max, slice_get, Option, Some, None, Result, IfSome, option_map, ◌==◌, if◌then◌else◌}
+use Rattle.std.specs.Option.{option_to_list}
+use Rattle.std.specs.Borrow.{Bor}
+use Rattle.vol_sector.specs.declared.fault.Refused.{Refused}
+use Rattle.wasm_module.specs.declared.module.FuncType.{FuncType}
+use Rattle.wasm_module.specs.declared.module.Module.{Module}
+use Rattle.wasm_module.specs.declared.profile.Profile.{Profile}
+use Rattle.wasm_store.specs.declared.fault.InstanceFault.{InstanceFault}
+use Rattle.wasm_store.specs.Allocating.{NotAllocated}
+use Rattle.wasm_interp.specs.declared.invoking.Event.{Event}
+use Rattle.wasm_interp.specs.Invoking.{IsAskedFor, results_of}
+use Rattle.wasm_interp.specs.Shared.{Ready}
+use Rattle.sandbox_core.specs.Session.{given}
+use Rattle.sandbox_core.specs.declared.fault.SessionFault.{SessionFault}
+use Rattle.sandbox_core.specs.declared.fault.SessionFault.TheVariants.{Device}
+use Rattle.sandbox_device.specs.declared.recorded_device.RecordedDevice.{RecordedDevice}
+use Rattle.plugin_session.specs.Instance as instance
+use Rattle.plugin_session.specs.Instance.{InstanceState, links, session_of, used_by}
+use Rattle.sandbox_host.specs.declared.numbers.Told.{Told}
+use Rattle.sandbox_host.specs.declared.numbers.Why.{Why}
+use Rattle.sandbox_host.specs.declared.supplies.Limits.{Limits}
+use Rattle.sandbox_host.specs.declared.supplies.Supplies.{Supplies}
+use Rattle.sandbox_host.specs.declared.volumes.Origin.{Origin}
+use Rattle.sandbox_host.specs.declared.instance.Left.{Left as LeftOver}
+use Rattle.sandbox_host.specs.declared.held.Held.{Held}
+use Rattle.sandbox_host.specs.declared.held.Held.TheVariants.{Loaded, Running, Finished, Plugin, Instance, Left, Nothing}
+use Rattle.sandbox_host.specs.Numbers.{instance_number, session_number, told_event}
+use Rattle.sandbox_host.specs.Supplies.{is_known, most_output, most_pages, most_values, settings_of}
+use Rattle.sandbox_host.specs.Host.{Bytes, Commits, HostVolume, IsHonest, Shares, known}
+use Rattle.sandbox_host.specs.Volumes.{IsVolume}
+use Rattle.sandbox_host.specs.Refusals.{NoLimit, NoVolume, NotLoadedWith, OtherPages}
+use Rattle.sandbox_host.specs.Sessions.{IsLoadedWith, IsShown, commit_number, returned_device}
+
+-- what callers see of an instance
+abbrev pub Living : Type 0
+Living = InstanceState RecordedDevice (Bor (List ℕ)) Bytes Bytes
+
+-- ---- what a handle has
+
+-- the module for instances, an instance that isn't finished, and what a finished one left
+abbrev pub plugin_in : Held → Option Ready
+plugin_in (Loaded m bytes) = None
+plugin_in (Running r) = None
+plugin_in (Finished e) = None
+plugin_in (Plugin p bytes) = Some p
+plugin_in (Instance l) = None
+plugin_in (Left e) = None
+plugin_in Nothing = None
+
+abbrev pub living_in : Held → Option Living
+living_in (Loaded m bytes) = None
+living_in (Running r) = None
+living_in (Finished e) = None
+living_in (Plugin p bytes) = None
+living_in (Instance l) = Some l.instance
+living_in (Left e) = None
+living_in Nothing = None
+
+abbrev pub left_in : Held → Option LeftOver
+left_in (Loaded m bytes) = None
+left_in (Running r) = None
+left_in (Finished e) = None
+left_in (Plugin p bytes) = None
+left_in (Instance l) = None
+left_in (Left e) = Some e
+left_in Nothing = None
+
+abbrev pub plugin_of : Option Held → Option Ready
+plugin_of None = None
+plugin_of (Some held) = plugin_in held
+
+abbrev pub living : Option Held → Option Living
+living None = None
+living (Some held) = living_in held
+
+abbrev pub left : Option Held → Option LeftOver
+left None = None
+left (Some held) = left_in held
+
+-- all bytes of an instance's memory
+abbrev pub memory_in : Held → List ℕ
+memory_in (Loaded m bytes) = []
+memory_in (Running r) = []
+memory_in (Finished e) = []
+memory_in (Plugin p bytes) = []
+memory_in (Instance l) = l.instance.machine.memory
+memory_in (Left e) = []
+memory_in Nothing = []
+
+abbrev pub memory : Option Held → List ℕ
+memory None = []
+memory (Some held) = memory_in held
+
+-- ---- modules for instances
+
+-- The module isn't made ready for instances with these limits: one isn't known, or there are more pages than a memory can have; or it
+-- has no instance; or memory was refused.
+pub record HasNoInstance (m : Module) (limits : Limits) (number : ℕ) : Type 0 where
+  pub fault : InstanceFault
+  pub refuses : NotAllocated links (most_pages limits) m fault
+  pub tells : number ≡ instance_number fault
+
+abbrev pub NotPlugged : Module → Limits → ℕ → Type 0
+NotPlugged m limits number = (((is_known limits ≡ false) ⊎ (65536 < most_pages limits)) × (number ≡ 15)) ⊎ (HasNoInstance m limits number ⊎ (number ≡ 40))
+
+-- the module was loaded, and isn't made ready for these limits
+pub record NotPluggedFrom (p : Profile) (bytes : List ℕ) (limits : Limits) (number : ℕ) : Type 0 where
+  pub m : Module
+  pub is_loaded : IsLoadedWith p bytes m
+  pub why : NotPlugged m limits number
+
+-- A module isn't loaded for instances: it is refused, which is told, or its limits are.
+abbrev pub NotPluggedWith : Profile → List ℕ → Limits → ℕ → Why → Why → Type 0
+NotPluggedWith p bytes limits number before after =
+    ((number ≡ after.fault) × NotLoadedWith p bytes after) ⊎ (NotPluggedFrom p bytes limits number × (after ≡ before))
+
+-- a name of a module: of an import that of its module (0) and its own (1), of an export its own (2)
+abbrev pub name_in : Module → ℕ → ℕ → Option (List ℕ)
+name_in m part index =
+    if part == 0 then option_map (λ i. i.module_name) (slice_get m.imports index)
+    else (if part == 1 then option_map (λ i. i.name) (slice_get m.imports index)
+    else (if part == 2 then option_map (λ e. e.name) (slice_get m.exports index) else None))
+
+-- it is in the room, as far as there is room for it; 2^64 - 1 is told past the last
+pub record IsNamed (m : Module) (part index : ℕ) (before after : List ℕ) (count : ℕ) : Type 0 where
+  pub named : IfSome (name_in m part index) (λ name. (count ≡ length name) × IsShown name before after)
+  pub none : name_in m part index ≡ None → (count ≡ 2 ^ 64 - 1) × (after ≡ before)
+
+-- ---- instances that begin
+
+-- An instance of the module over the volume that was named, with what the guest was given, which has used and written nothing.
+pub record BeginsInstance (m : Module) (supplies : Supplies) (origin : Origin) (s : Living) : Type 0 where
+  pub known_limits : is_known supplies.limits ≡ true
+  pub volume : HostVolume
+  pub is_volume : IsVolume origin volume
+  pub out : Bytes
+  pub err : Bytes
+  pub no_output : out.bytes.items ≡ []
+  pub no_errors : err.bytes.items ≡ []
+  pub output_bound : out.most ≡ most_output supplies.limits
+  pub errors_bound : err.most ≡ most_output supplies.limits
+  pub values : s.machine.most_values ≡ max (most_values supplies.limits) 4097
+  pub opens : instance.Opens m (given (settings_of supplies) volume supplies.input out err) s
+  pub shares : Shares (given (settings_of supplies) volume supplies.input out err) (session_of s)
+
+-- the instance isn't made over the volume, for a reason with this number; a device in memory is none
+pub record NoLiving (m : Module) (supplies : Supplies) (origin : Origin) (number : ℕ) : Type 0 where
+  pub volume : HostVolume
+  pub is_volume : IsVolume origin volume
+  pub out : Bytes
+  pub err : Bytes
+  pub fault : SessionFault
+  pub refuses : instance.IsRefused IsHonest fault m (given (settings_of supplies) volume supplies.input out err)
+  pub no_device : fault ≢ Device
+  pub tells : number ≡ session_number fault
+
+-- An instance doesn't begin: a limit is refused, then its pages where the module was made ready for others, then the volume, then the
+-- instance; or memory was refused.
+abbrev pub NotBegunInstance : Ready → Supplies → Origin → ℕ → Type 0
+NotBegunInstance ready supplies origin number =
+    (NoLimit supplies number ⊎ OtherPages (Some ready) supplies number) ⊎ ((NoVolume origin number ⊎ NoLiving ready.valid supplies origin number) ⊎ (number ≡ 40))
+
+-- ---- what is done with one
+
+-- a call that answers this number: 0 where it did this, and else nothing has changed
+abbrev pub Answered : ℕ → Living → Living → Type 0 → Type 0
+Answered number old new did = (number ≡ 0 → did) × (number ≢ 0 → new ≡ old)
+
+abbrev pub Invokes : Living → Living → List ℕ → List ℕ → Type 0
+Invokes = instance.Invokes known
+
+abbrev pub Answers : Living → Living → List ℕ → Type 0
+Answers = instance.Answers known
+
+-- at most these units were used, and not past 2^64 - 1 in all, and this was told
+pub record Went (units : ℕ) (old new : Living) (told : Told) : Type 0 where
+  pub event : Event
+  pub goes : instance.Goes known old new (min units (2 ^ 64 - 1 - used_by old)) event
+  pub tells : told ≡ told_event event (used_by new)
+
+-- what there is to hand over: the arguments of the call that the host is asked for, or the result of what has returned last
+abbrev pub HandsOver : Living → List ℕ → Type 0
+HandsOver s items = ((x : ℕ) × (f : FuncType) × IsAskedFor s.machine x f (reverse items)) ⊎ (items ≡ option_to_list (slice_get (results_of s.machine) 0))
+
+-- it is in the room, as far as there is room for it
+pub record IsHandedOver (s : Living) (before after : List ℕ) (count : ℕ) : Type 0 where
+  pub items : List ℕ
+  pub hands_over : HandsOver s items
+  pub count_is : count ≡ length items
+  pub shown : IsShown items before after
+
+-- The bytes from an address on are in the room, or they would pass the end.
+abbrev pub IsRead : List ℕ → ℕ → List ℕ → List ℕ → ℕ → Type 0
+IsRead bytes address before after number =
+    ((number ≡ 0) × (address + length before ≤ length bytes) × (after ≡ take (length before) (drop address bytes)))
+    ⊎ ((number ≡ 110) × (length bytes < address + length before) × (after ≡ before))
+
+-- The calls of WASI are committed, and what an instance leaves is the volume's device then, and what it has written.
+pub record FinishesInstance (s : Living) (e : LeftOver) (number : ℕ) : Type 0 where
+  pub volume : Result HostVolume (Refused RecordedDevice)
+  pub commits : Commits s.host.volume volume
+  pub device : e.device ≡ returned_device volume
+  pub number_told : number ≡ commit_number volume
+  pub out : e.out ≡ s.host.out.writer
+  pub err : e.err ≡ s.host.err.writer

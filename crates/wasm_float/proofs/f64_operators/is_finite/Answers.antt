@@ -1,0 +1,7 @@
+-- By the doubled bits.
+use Rattle.std.proofs.Common.{rules}
+use Rattle.wasm_float.proofs.Finites.{doubled_below_64}
+use Rattle.wasm_float.proofs.f64_operators.is_finite.Goals as goal
+
+pub returns : goal.returns
+returns c = doubled_below_64 c.args.a (search rules)

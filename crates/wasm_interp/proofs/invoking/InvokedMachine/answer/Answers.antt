@@ -1,0 +1,56 @@
+use Rattle.std.proofs.Common.{◌≡◌, ◌∙◌, ℕ, ◌≤◌, List, [], ◌∷◌, length, Option, None, Some, sym, ap, subst, arith}
+use Rattle.std.specs.Prelude.{MatchOption}
+use Rattle.std.specs.Arc.{arc_value}
+use Rattle.std.specs.Option.{option_to_list}
+use Rattle.wasm_module.specs.declared.instruction.ValueType.{ValueType}
+use Rattle.wasm_module.specs.declared.module.FuncType.{FuncType}
+use Rattle.wasm_module.specs.declared.module.Module.{Module}
+use Rattle.wasm_interp.specs.declared.tables.Prepared.{Prepared}
+use Rattle.wasm_interp.specs.Invoking.{Fit, IsImportType}
+use Rattle.wasm_interp.specs.internal.Invoking.{IsAnswered}
+use Rattle.wasm_interp.proofs.PlainSteps.Invoking.{answered_invocable, answers_of, arguments_asked}
+use Rattle.wasm_interp.proofs.invoking.InvokedMachine.answer.Goals as goal
+
+-- a result, if there is one, as a list
+listed : (o : Option ℕ) (xs : List ℕ) → MatchOption o (xs ≡ []) (λ x. xs ≡ x ∷ []) → xs ≡ option_to_list o
+listed None xs e = e
+listed (Some x) xs e = e
+
+at_most_one : (o : Option ℕ) → length (option_to_list o) ≤ 1
+at_most_one None = omega arith
+at_most_one (Some x) = omega arith
+
+pub answer-requires : goal.answer-requires
+answer-requires c =
+    let r : Prepared = arc_value c.self.inside.prepared in
+    let f : FuncType = c.in-Some.func_type.now in
+    let is_import : IsImportType r.valid c.in-Asking.ask.function f = subst (λ (m : Module). IsImportType m c.in-Asking.ask.function f) (c.module.ensures.value ∙ ap (λ (p : Prepared). p.valid) c.deref-prepared.ensures) c.in-Some.ensures in
+    let can = c.self.invariant.answers c.in-Asking.ask c.in-Asking.is in
+    record {
+      arguments = omega (arith, arguments_asked r c.self.inside.state c.in-Asking.ask c.in-Asking.is f is_import c.self.invariant.live, ap length c.as_slice-params.ensures);
+      room = can.1;
+      fits = can.0;
+      next_pc = can.2;
+    }
+
+pub invariant_of-self : goal.invariant_of-self
+invariant_of-self c =
+    let r : Prepared = arc_value c.self.inside.prepared in
+    let f : FuncType = c.in-Some.func_type.now in
+    let ns : List ℕ = option_to_list c.args.value in
+    let is_import : IsImportType r.valid c.in-Asking.ask.function f = subst (λ (m : Module). IsImportType m c.in-Asking.ask.function f) (c.module.ensures.value ∙ ap (λ (p : Prepared). p.valid) c.deref-prepared.ensures) c.in-Some.ensures in
+    let fits : Fit f.results ns = subst (λ (xs : List ℕ). Fit f.results xs) (listed c.args.value _ c.as_slice-given.ensures) (subst (λ (ts : List ValueType). Fit ts c.as_slice-given.result.now) c.as_slice-results.ensures c.if-not-fit.ensures) in
+    let count : length c.as_slice-params.result.now ≡ length f.params = ap length c.as_slice-params.ensures in
+    let e : IsAnswered c.self.inside.state c.answer.new.self c.in-Asking.ask.above (length f.params) ns = subst (λ (n : ℕ). IsAnswered c.self.inside.state c.answer.new.self c.in-Asking.ask.above n ns) count c.answer.ensures in
+    answered_invocable r c.self.inside.state c.answer.new.self c.in-Asking.ask c.in-Asking.is f is_import ns fits e c.self.invariant (at_most_one c.args.value)
+
+pub returns-clause-answered : goal.returns-clause-answered
+returns-clause-answered c =
+    let r : Prepared = arc_value c.self.inside.prepared in
+    let f : FuncType = c.in-Some.func_type.now in
+    let ns : List ℕ = option_to_list c.args.value in
+    let is_import : IsImportType r.valid c.in-Asking.ask.function f = subst (λ (m : Module). IsImportType m c.in-Asking.ask.function f) (c.module.ensures.value ∙ ap (λ (p : Prepared). p.valid) c.deref-prepared.ensures) c.in-Some.ensures in
+    let fits : Fit f.results ns = subst (λ (xs : List ℕ). Fit f.results xs) (listed c.args.value _ c.as_slice-given.ensures) (subst (λ (ts : List ValueType). Fit ts c.as_slice-given.result.now) c.as_slice-results.ensures c.if-not-fit.ensures) in
+    let count : length c.as_slice-params.result.now ≡ length f.params = ap length c.as_slice-params.ensures in
+    let e : IsAnswered c.self.inside.state c.answer.new.self c.in-Asking.ask.above (length f.params) ns = subst (λ (n : ℕ). IsAnswered c.self.inside.state c.answer.new.self c.in-Asking.ask.above n ns) count c.answer.ensures in
+    rw (← c.self.view_is) (answers_of r c.self.inside.state c.answer.new.self c.in-Asking.ask c.in-Asking.is f is_import ns fits e c.self.invariant (at_most_one c.args.value))

@@ -1,0 +1,37 @@
+use Rattle.std.proofs.Common.{◌∙◌, ℕ, List, length, reverse, take, drop, ap, subst, arith}
+use Rattle.std.specs.Arc.{arc_value}
+use Rattle.wasm_module.specs.declared.module.FuncType.{FuncType}
+use Rattle.wasm_module.specs.declared.module.Module.{Module}
+use Rattle.wasm_interp.specs.declared.tables.Prepared.{Prepared}
+use Rattle.wasm_interp.specs.Invoking.{IsImportType}
+use Rattle.wasm_interp.proofs.PlainSteps.Invoking.{arguments_asked}
+use Rattle.wasm_interp.proofs.invoking.InvokedMachine.asked.Goals as goal
+
+pub below-requires : goal.below-requires
+below-requires c =
+    let r : Prepared = arc_value c.self.inside.prepared in
+    let f : FuncType = c.in-Some.func_type.now in
+    let is_import : IsImportType r.valid c.in-Asking.ask.function f = subst (λ (m : Module). IsImportType m c.in-Asking.ask.function f) (c.module.ensures.value ∙ ap (λ (p : Prepared). p.valid) c.deref-prepared.ensures) c.in-Some.ensures in
+    omega (
+      arith,
+      arguments_asked r c.self.inside.state c.in-Asking.ask c.in-Asking.is f is_import c.self.invariant.live,
+      ap length c.as_slice-params.ensures,
+      c.as_slice-values.ensures.len,
+      c.self.inside.state.values.ok.0,
+    )
+
+pub returns : goal.returns
+returns c =
+    let r : Prepared = arc_value c.self.inside.prepared in
+    let f : FuncType = c.in-Some.func_type.now in
+    let is_import : IsImportType r.valid c.in-Asking.ask.function f = subst (λ (m : Module). IsImportType m c.in-Asking.ask.function f) (c.module.ensures.value ∙ ap (λ (p : Prepared). p.valid) c.deref-prepared.ensures) c.in-Some.ensures in
+    let above : ℕ = c.in-Asking.ask.above in
+    rw (← c.self.view_is) (
+      f,
+      record {
+        above = above;
+        asks = c.in-Asking.is;
+        is_import = is_import;
+        arguments_are = c.below.ensures ∙ ap (λ (xs : List ℕ). take (length c.as_slice-params.result.now) (drop above (reverse xs))) c.as_slice-values.ensures.value ∙ ap (λ (n : ℕ). take n (drop above (reverse c.self.inside.state.values.items))) (ap length c.as_slice-params.ensures);
+      },
+    )

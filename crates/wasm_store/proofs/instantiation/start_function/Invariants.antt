@@ -1,5 +1,0 @@
-use Rattle.wasm_store.proofs.Starting.{NoneBefore}
-use Rattle.wasm_store.proofs.instantiation.start_function.Given as goal
-
-abbrev pub invariant-loop-export : goal.invariant-loop-export
-invariant-loop-export l = NoneBefore l.fn.guest l.export-index

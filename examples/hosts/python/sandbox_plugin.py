@@ -1,0 +1,173 @@
+"""Instances of WebAssembly modules whose exported functions are called, from Python: over include/sandbox_plugin.h, by ctypes.
+
+    plugin = Plugin(bytes)
+    with plugin.instance(imports={("env", "log"): lambda caller, at, size: print(caller.read(at, size).decode())}) as instance:
+        print(instance.call("add", 2, 3, fuel=10**6))
+
+A function of the host gets the instance and its arguments, and gives a number or None. Arguments and results are numbers from 0 on, of
+32 or 64 bits; a float's are its bits. What it raises goes on to who called the export, and the call is let go. While it is asked, the
+instance can be read and written, and not called: that is `Busy`.
+"""
+import ctypes as c
+import threading
+
+import sandbox
+from sandbox import CALLED, MOST_32, MOST_64, MOST_SIZE, Refused, Session, Told, _check, _lib, _Limits, _number, _Why
+
+RETURNED, ASKED = 6, 7
+MOST_VALUES = 16
+
+_lib.sandbox_plugin_name.restype = _lib.sandbox_values.restype = _lib.sandbox_memory_size.restype = c.c_size_t
+
+
+class Busy(Exception):
+    """A function of the host called an export of the instance that waits for its answer."""
+
+
+class Ended(Exception):
+    """A call that didn't return: by a trap, by `proc_exit`, without memory, or without fuel. `told` says which."""
+
+    def __init__(self, told):
+        super().__init__(f"kind {told.kind}, code {told.code} after {told.used} units")
+        self.told = told
+
+
+class Plugin:
+    """A valid module for any number of instances, in any threads, each with these `pages`; with `floats` it may have floating point."""
+    _raw = None  # where it wasn't made
+
+    def __init__(self, given, pages=0, floats=False):
+        limits = _Limits(_number("pages", pages, MOST_32))
+        self._bytes, self._raw, why = bytes(memoryview(given)), c.c_void_p(), _Why()
+        self._pages, self._lock = limits.pages, threading.Lock()
+        size, takes = c.c_size_t(len(self._bytes)), c.c_uint32(bool(floats))
+        _check(_lib.sandbox_plugin_load(c.byref(self._raw), self._bytes, size, c.byref(limits), takes, c.byref(why)), why.offset)
+
+    def _name(self, part, index):
+        length = _lib.sandbox_plugin_name(c.byref(self._raw), c.c_uint32(part), c.c_size_t(index), b"", c.c_size_t(0))
+        if length == MOST_SIZE:
+            return None
+        room = c.create_string_buffer(max(1, length))
+        _lib.sandbox_plugin_name(c.byref(self._raw), c.c_uint32(part), c.c_size_t(index), room, c.c_size_t(length))
+        return room.raw[:length].decode()
+
+    def imports(self):
+        """The module name and the name of each import, in their order."""
+        found = []
+        with self._lock:
+            while (module := self._name(0, len(found))) is not None:
+                found.append((module, self._name(1, len(found))))
+        return found
+
+    def exports(self):
+        """The name of each export, in their order."""
+        found = []
+        with self._lock:
+            while (name := self._name(2, len(found))) is not None:
+                found.append(name)
+        return found
+
+    def instance(self, imports=None, **supplies):
+        """An instance, which is given `imports` by module name and name, and the rest as a session is."""
+        return Instance(self, imports or {}, **{"pages": self._pages, **supplies})
+
+    def __del__(self):
+        if self._raw:
+            _lib.sandbox_plugin_unload(c.byref(self._raw))
+
+
+class Instance(Session):
+    """An instance: its exported functions are called, one after another, over a volume that is kept over its life. Its start function
+    and its `_initialize` have run when it is made, with at most `fuel` units."""
+
+    def __init__(self, plugin, imports, fuel=10**9, **supplies):
+        self._imports, self._names, self._at_work = dict(imports), plugin.imports(), False
+        super().__init__(plugin, **supplies)
+        self._through(_number("fuel", fuel, MOST_64))
+
+    def _open(self, module, given, over):
+        with module._lock:  # two threads may open instances of it at once, and the library takes one call at a time
+            return _lib.sandbox_instance_open(c.byref(self._raw), c.byref(module._raw), given, over)
+
+    def _values(self):
+        room = (c.c_uint64 * MOST_VALUES)()
+        count = _lib.sandbox_values(c.byref(self._raw), room, c.c_size_t(MOST_VALUES))
+        return room[:count]
+
+    def _answer(self, import_index):
+        name = self._names[import_index]
+        function = self._imports.get(name)
+        if function is None:
+            raise KeyError(f"no function of the host for the import {name[0]}.{name[1]}")
+        result = function(self, *self._values())
+        given = () if result is None else (_number(f"the result of {name[0]}.{name[1]}", result, MOST_64),)
+        _check(_lib.sandbox_answer(c.byref(self._raw), (c.c_uint64 * 1)(*given), c.c_size_t(len(given))))
+
+    def _through(self, fuel):
+        """Goes on until what runs has returned, and gives its result."""
+        end, told, self._at_work = self._used + fuel, Told(), True
+        try:
+            while True:
+                _check(_lib.sandbox_go(c.byref(self._raw), c.c_uint64(max(0, end - self._used)), c.byref(told)))
+                self._used = told.used
+                if told.kind == ASKED:
+                    self._answer(told.call)
+                    self._used += 1
+                elif told.kind == RETURNED:
+                    return next(iter(self._values()), None)
+                elif told.kind != CALLED:
+                    raise Ended(told)
+        except BaseException:
+            if told.kind != sandbox.EXITED:
+                self.abandon()
+            raise
+        finally:
+            self._at_work = False
+
+    def call(self, name, *arguments, fuel=10**9):
+        """Calls an exported function with at most `fuel` units, and gives its result, or None where it has none."""
+        if self._at_work:
+            raise Busy(f"{name} is called while a function of the host is asked")
+        numbers = [_number("an argument", it, MOST_64) for it in arguments]
+        named, given = name.encode(), (c.c_uint64 * max(1, len(numbers)))(*numbers)
+        _check(_lib.sandbox_invoke(c.byref(self._raw), named, c.c_size_t(len(named)), given, c.c_size_t(len(numbers))))
+        return self._through(_number("fuel", fuel, MOST_64))
+
+    def abandon(self):
+        """Lets go what is at work."""
+        return _lib.sandbox_abandon(c.byref(self._raw)) == 0
+
+    def read(self, address, length):
+        """Bytes of memory."""
+        room = c.create_string_buffer(max(1, _number("length", length, MOST_32)))
+        _check(_lib.sandbox_memory_read(c.byref(self._raw), c.c_uint32(_number("address", address, MOST_32)), room, c.c_size_t(length)))
+        return room.raw[:length]
+
+    def write(self, address, given):
+        """Writes bytes into memory."""
+        given = sandbox._bytes(given)
+        _check(_lib.sandbox_memory_write(c.byref(self._raw), c.c_uint32(_number("address", address, MOST_32)), given, c.c_size_t(len(given))))
+
+    def memory_size(self):
+        """How many bytes memory has."""
+        return _lib.sandbox_memory_size(c.byref(self._raw))
+
+    @property
+    def used(self):
+        """The units used so far."""
+        return self._used
+
+    def resume(self, units):
+        raise TypeError("an instance is called")
+
+    run = resume
+
+    def finish(self):
+        """Commits the guest's calls, and gives the bytes of its volume."""
+        _check(_lib.sandbox_instance_finish(c.byref(self._raw)))
+        return self._volume()
+
+    def close(self):
+        """Discards the instance, also what isn't committed."""
+        if self._raw:
+            _lib.sandbox_close(c.byref(self._raw))
