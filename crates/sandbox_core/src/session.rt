@@ -68,9 +68,7 @@ fn committed<D: Device>(mut volume: Volume<D>) -> Result<Volume<D>, Refused<D>>
 }
 
 /// Commits all calls so far, and gives back what a host has: the volume and the streams.
-pub fn give_back<D, R, W1, W2>(
-    host: WasiHost<'_, '_, D, R, W1, W2>,
-) -> Finished<D, R, W1, W2>
+pub fn give_back<D, R, W1, W2>(host: WasiHost<'_, '_, D, R, W1, W2>) -> Finished<D, R, W1, W2>
 where
     D: Device + Drop,
     R: Inlet + Drop,

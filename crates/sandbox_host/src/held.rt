@@ -3,8 +3,8 @@
 ghost use Rattle.std.specs.Prelude.{◌≡◌, length};
 ghost use Rattle.sandbox_host.specs.Sessions.{stream, is_filled};
 
-use crate::kept::Kept;
 use crate::instance::{Left, Living};
+use crate::kept::Kept;
 use crate::modules::LoadedModule;
 use crate::session::HostSession;
 use crate::showing::show_sectors;

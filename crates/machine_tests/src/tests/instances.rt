@@ -7,7 +7,9 @@ use super::{assert_row, loaded};
 use std::alloc::Global;
 use std::process::Abort;
 use wasm_module::FuncType;
-use wasm_store::{Answer, Errno, Host, HostCall, InstanceFault, Instantiated, Linked, Memory, instantiate};
+use wasm_store::{
+    Answer, Errno, Host, HostCall, InstanceFault, Instantiated, Linked, Memory, instantiate,
+};
 use wasm_valid::Valid;
 
 /// Links each import to one call, or none.

@@ -112,17 +112,37 @@ const TRAPPED: Pause = Pause::Ended(Outcome::Trapped(Trap::Unreachable));
 
 static ROWS: [Row; 34] = [
     // before the opening has returned nothing else is done
-    (Call::Invoke("add", &[2, 3]), Given::Refused(Misuse::AtWork), 0),
+    (
+        Call::Invoke("add", &[2, 3]),
+        Given::Refused(Misuse::AtWork),
+        0,
+    ),
     (Call::Write(8, &[1]), Given::Refused(Misuse::AtWork), 0),
     (Call::Go(1), Given::Paused(Pause::Spent), 1),
     (Call::Go(9), Given::Returned(None), 2),
     (Call::Go(9), Given::Refused(Misuse::Idle), 2),
     // a sum
-    (Call::Invoke("none", &[]), Given::Refused(Misuse::NoFunction), 2),
-    (Call::Invoke("add", &[2]), Given::Refused(Misuse::Mistyped), 2),
-    (Call::Invoke("add", &[1 << 32, 0]), Given::Refused(Misuse::Mistyped), 2),
+    (
+        Call::Invoke("none", &[]),
+        Given::Refused(Misuse::NoFunction),
+        2,
+    ),
+    (
+        Call::Invoke("add", &[2]),
+        Given::Refused(Misuse::Mistyped),
+        2,
+    ),
+    (
+        Call::Invoke("add", &[1 << 32, 0]),
+        Given::Refused(Misuse::Mistyped),
+        2,
+    ),
     (Call::Invoke("add", &[2, 3]), Given::Done, 2),
-    (Call::Invoke("add", &[2, 3]), Given::Refused(Misuse::AtWork), 2),
+    (
+        Call::Invoke("add", &[2, 3]),
+        Given::Refused(Misuse::AtWork),
+        2,
+    ),
     (Call::Go(9), Given::Returned(Some(5)), 5),
     // the embedder is asked
     (Call::Answer(Some(1)), Given::Refused(Misuse::NotAsked), 5),
@@ -142,7 +162,11 @@ static ROWS: [Row; 34] = [
     (Call::Write(8, &[1]), Given::Refused(Misuse::Stopped), 11),
     (Call::Abandon, Given::Done, 11),
     (Call::Write(65_532, &[1, 2, 3, 4]), Given::Done, 11),
-    (Call::Write(65_533, &[1, 2, 3, 4]), Given::Refused(Misuse::PastEnd), 11),
+    (
+        Call::Write(65_533, &[1, 2, 3, 4]),
+        Given::Refused(Misuse::PastEnd),
+        11,
+    ),
     (Call::Invoke("count", &[]), Given::Done, 11),
     (Call::Go(9), Given::Returned(Some(41)), 16),
     // and so does a call that is abandoned
