@@ -9,7 +9,8 @@ use Rattle.wasm_module.specs.declared.instruction.Instruction.TheVariants as op
 use Rattle.wasm_module.specs.declared.module.Body.{Body}
 use Rattle.wasm_module.specs.declared.module.Module.{Module}
 use Rattle.wasm_module.specs.Grammar.{Each, U32, Vector, Sized}
-use Rattle.wasm_module.specs.Instructions.{Instructions, done, plain, block, loop, if_then, if_else, invoke, flatten, SpellsInstruction, SpellsUpTo}
+use Rattle.wasm_module.specs.Nested.{Instructions, done, plain, block, loop, if_then, if_else, invoke, flatten}
+use Rattle.wasm_module.specs.Instructions.{SpellsInstruction, SpellsUpTo}
 use Rattle.wasm_module.specs.Sections.{Custom, Section as SpellsSection, BodyContent}
 use Rattle.wasm_module.specs.Module.{Sections, SpellsSections, SpellsWith, module_of}
 use Rattle.wasm_module.specs.Reading.{◌>>=◌, u32_at, sized_at, raw_of}

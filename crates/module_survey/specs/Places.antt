@@ -8,7 +8,7 @@ use Rattle.wasm_module.specs.declared.module.Body.{Body}
 use Rattle.wasm_module.specs.declared.module.Module.{Module}
 use Rattle.wasm_module.specs.Module.{SpellsWith}
 use Rattle.wasm_module.specs.Reading.{◌>>=◌, next_at, u32_at, sized_at, raw_of}
-use Rattle.wasm_valid.specs.Validity.{kinds_of, imported_function}
+use Rattle.wasm_valid.specs.Spaces.{kinds_of, imported_function}
 use Rattle.wasm_module.specs.declared.profile.Profile.{Profile}
 use Rattle.wasm_valid.specs.Offsets.{StandsBehind}
 use Rattle.module_survey.specs.declared.sections.Wanted.{Wanted}

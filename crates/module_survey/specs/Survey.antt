@@ -13,7 +13,7 @@ use Rattle.wasm_module.specs.declared.module.ExportKind.{ExportKind}
 use Rattle.wasm_module.specs.declared.module.ExportKind.TheVariants as exported
 use Rattle.wasm_module.specs.declared.module.Export.{Export}
 use Rattle.wasm_module.specs.declared.module.Module.{Module}
-use Rattle.wasm_valid.specs.Validity.{functions_of}
+use Rattle.wasm_valid.specs.Spaces.{functions_of}
 use Rattle.wasm_store.specs.declared.call.HostCall.{HostCall}
 use Rattle.wasm_store.specs.declared.call.HostCall.TheVariants as call
 use Rattle.wasm_store.specs.Instantiation.{LinksOf}

@@ -1,7 +1,7 @@
 //! The functions of a module, the imported ones first.
 
 ghost use Rattle.std.specs.Prelude.{◌≡◌, IfOk};
-ghost use Rattle.wasm_valid.specs.Validity.{functions_of};
+ghost use Rattle.wasm_valid.specs.Spaces.{functions_of};
 
 use std::alloc::{AllocError, Global};
 use wasm_module::Module;

@@ -9,7 +9,8 @@ use Rattle.vol_tree.specs.declared.errno.Errno.{Errno}
 use Rattle.vol_tree.specs.declared.errno.Errno.TheVariants as errno
 use Rattle.vol_tree.specs.Tree.{Tree, Name, entry, lookup, same_name}
 use Rattle.vol_tree.specs.Calls.{directory_at}
-use Rattle.vol_tree.specs.Opened.{Opened, IsSerial, is_io}
+use Rattle.vol_tree.specs.Clauses.{is_io}
+use Rattle.vol_tree.specs.Opened.{Opened, IsSerial}
 use Rattle.vol_tree.proofs.Taking.{passed_io}
 use Rattle.path_walk.specs.Paths.{Reached, missing, stepped, parent_at, dots, is_skipped}
 use Rattle.path_walk.specs.Walk.{Asked, IsEntryOf}

@@ -5,7 +5,8 @@ use Rattle.vol_tree.specs.declared.errno.Errno.{Errno}
 use Rattle.vol_tree.specs.declared.errno.Errno.TheVariants as errno
 use Rattle.vol_tree.specs.Tree.{Tree, Name, Entry, entry, lookup, same_name}
 use Rattle.vol_tree.specs.Calls.{directory_at}
-use Rattle.vol_tree.specs.Opened.{Opened, Tells, IsSerial}
+use Rattle.vol_tree.specs.Clauses.{Tells}
+use Rattle.vol_tree.specs.Opened.{Opened, IsSerial}
 use Rattle.vol_tree.proofs.Lookups.{looked_up}
 use Rattle.path_walk.specs.Paths.{dots}
 use Rattle.path_walk.specs.internal.Turns.{turned}

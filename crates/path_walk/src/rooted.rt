@@ -1,7 +1,7 @@
 //! Paths from the root of a volume.
 
 ghost use Rattle.std.specs.Prelude.{◌≡◌, IfOk, false};
-ghost use Rattle.vol_tree.specs.Opened.{is_io};
+ghost use Rattle.vol_tree.specs.Clauses.{is_io};
 ghost use Rattle.path_walk.specs.Walk.{Asked, GivesBoth, IsReached};
 ghost use Rattle.path_walk.specs.Rooted.{reached_from_root};
 

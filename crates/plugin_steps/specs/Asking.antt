@@ -3,7 +3,7 @@
 use Rattle.std.specs.Prelude.{◌≡◌, ℕ, ◌≤◌, List, [], ◌∷◌, length, slice_get, Some}
 use Rattle.wasm_module.specs.declared.instruction.ValueType.TheVariants.{I32}
 use Rattle.wasm_module.specs.declared.instruction.Instruction.TheVariants as op
-use Rattle.wasm_module.specs.Instructions.{Instructions, plain, invoke}
+use Rattle.wasm_module.specs.Nested.{Instructions, plain, invoke}
 use Rattle.wasm_steps.specs.Configuration.{Val, val, Callee, signature_of, Instance, Store, Code, code, label, frame, Configuration, at}
 use Rattle.wasm_steps.specs.Steps.{CallsOf, tick}
 use Rattle.plugin_steps.specs.Serving.{Exchange, ServeStep}

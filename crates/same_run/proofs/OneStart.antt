@@ -15,8 +15,9 @@ use Rattle.wasm_module.specs.declared.module.ExportKind.TheVariants as exports
 use Rattle.wasm_module.specs.declared.module.Body.{Body}
 use Rattle.wasm_module.specs.declared.module.GlobalEntry.{GlobalEntry}
 use Rattle.wasm_module.specs.declared.module.Module.{Module}
-use Rattle.wasm_module.specs.Instructions.{Instructions, done, plain, block, loop, if_then, if_else, invoke, IsPlain, flatten, IsWritten, Nests}
-use Rattle.wasm_valid.specs.Validity.{AreApart, IsValid, local_types}
+use Rattle.wasm_module.specs.Nested.{Instructions, done, plain, block, loop, if_then, if_else, invoke, IsPlain, flatten, IsWritten, Nests}
+use Rattle.wasm_valid.specs.Spaces.{local_types}
+use Rattle.wasm_valid.specs.Validity.{AreApart, IsValid}
 use Rattle.wasm_store.specs.Values.{Val}
 use Rattle.wasm_store.specs.Instances.{Callee, imported, own, Instance, Store}
 use Rattle.wasm_store.specs.Instantiation.{LinksOf, AreLinked, AreOwn, IsStart, AreFirst, minimum, with_elements, with_data, Instantiates}

@@ -8,12 +8,12 @@ use Rattle.wasm_module.specs.declared.instruction.ValueType.TheVariants.{I32, I6
 use Rattle.wasm_module.specs.declared.instruction.Instruction.{Instruction}
 use Rattle.wasm_module.specs.declared.instruction.Instruction.TheVariants as op
 use Rattle.wasm_module.specs.declared.module.FuncType.{FuncType}
-use Rattle.wasm_module.specs.Instructions.{Instructions, done, plain, block, loop, if_then, if_else, invoke}
-use Rattle.wasm_valid.specs.Typing.{arity, float_takes, float_gives}
+use Rattle.wasm_module.specs.Nested.{Instructions, done, plain, block, loop, if_then, if_else, invoke}
+use Rattle.wasm_valid.specs.Arities.{arity, float_takes, float_gives}
 use Rattle.wasm_num.specs.declared.trap.Trap.{Trap}
 use Rattle.wasm_num.specs.declared.trap.Trap.TheVariants as traps
 use Rattle.wasm_num.specs.Numbers.{signed, wrapped, bool_number}
-use Rattle.wasm_module.specs.Types.{integer}
+use Rattle.wasm_module.specs.ValueTypes.{integer}
 use Rattle.wasm_steps.specs.Operators.{width, compare_test, unary_number, binary_number}
 use Rattle.wasm_steps.specs.FloatOperators.{float_number}
 use Rattle.wasm_steps.specs.Configuration.{Val, val, numbers, Callee, signature_of, Instance, Store, trapped, Code, code, label, stopped, Configuration, at}

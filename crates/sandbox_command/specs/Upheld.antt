@@ -7,6 +7,7 @@ use Rattle.vol_tree.specs.Stands.{StandsAs}
 use Rattle.wasm_module.specs.declared.module.Module.{Module}
 use Rattle.wasi_calls.specs.declared.host.wasi_host.HostParts.{HostParts}
 use Rattle.wasi_calls.specs.host.Worlds.{Hearing}
+use Rattle.wasm_interp.specs.Machine.{Represents}
 use Rattle.sandbox_core.specs.Headline.{Upholds}
 use Rattle.sandbox_words.specs.declared.request.Run.{Run}
 use Rattle.sandbox_command.specs.declared.program.Executed.{Executed}
@@ -20,5 +21,5 @@ module _ {D R W1 W2 : Type 0} (is_honest : D → Type 0) (disk : D → Disk) (se
       → (ran : Ran is_honest disk sectors_on failures goes_on remaining out_contents err_contents ear m run parts left)
       → is_honest parts.volume.device
       → ((c : Image) → (disk parts.volume.device).may_leave c → StandsAs c parts.volume.numbers parts.volume.tree)
-      → Upholds (counted_devices is_honest disk sectors_on failures goes_on remaining out_contents err_contents ear) m parts.settings.pages
+      → Upholds Represents (counted_devices is_honest disk sectors_on failures goes_on remaining out_contents err_contents ear) m parts.settings.pages
       (parts.volume.tree ∷ []) 0 ran.session ran.counted.reports.resumes ran.counted.reports.last

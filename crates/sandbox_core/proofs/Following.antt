@@ -10,6 +10,8 @@ use Rattle.wasi_calls.proofs.bodies.StreamsHeard.{unheard}
 use Rattle.wasi_calls.proofs.runs.StreamsKeep.{streams_then}
 use Rattle.sandbox_core.specs.declared.tally.Tally.{Tally}
 use Rattle.sandbox_core.specs.Devices.{Devices}
+use Rattle.wasm_interp.specs.Snapshots.{StandsFor}
+use Rattle.sandbox_core.specs.Sessions.{FollowBy}
 use Rattle.sandbox_core.specs.Session.{SessionState, Resumes, History, Follow, is_answered, is_called, is_synced}
 use Rattle.sandbox_core.specs.Tally.{Tallies, no_tally}
 use Rattle.sandbox_core.specs.internal.Running.{Followed}
@@ -100,6 +102,6 @@ module _ {D R W1 W2 : Type 0} (on : Devices D R W1 W2) where
       (rs ++ (p, u) ∷ [], follow_on rs s t u units p follow more, tallied_on rs p u tally tally tallies (adds_nothing rs p tally tallies uncalled unsynced))
 
   -- the streams are heard in all of them
-  pub heard_follow : (rs : History S) (s t : S) → Follow on s rs t → HearsStreams on.ear s.host t.host
-  heard_follow [] s t same = unheard on.ear s.host t.host (ap (λ (x : S). x.host.input) same) (ap (λ (x : S). x.host.out) same) (ap (λ (x : S). x.host.err) same)
-  heard_follow (r ∷ rs) s t ((units, more), rest) = streams_then on.ear s.host r.1.host t.host more.heard (heard_follow rs r.1 t rest)
+  pub heard_follow : (Stands : StandsFor) (rs : History S) (s t : S) → FollowBy Stands on s rs t → HearsStreams on.ear s.host t.host
+  heard_follow Stands [] s t same = unheard on.ear s.host t.host (ap (λ (x : S). x.host.input) same) (ap (λ (x : S). x.host.out) same) (ap (λ (x : S). x.host.err) same)
+  heard_follow Stands (r ∷ rs) s t ((units, more), rest) = streams_then on.ear s.host r.1.host t.host more.heard (heard_follow Stands rs r.1 t rest)

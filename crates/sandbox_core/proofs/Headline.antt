@@ -44,10 +44,11 @@ use Rattle.std.specs.Io.KnownBytes.{Consumes}
 use Rattle.std.proofs.KnownBytes.{Consumes-nil, Consumes-trans, Appends-nil, Appends-trans}
 use Rattle.sandbox_core.specs.Devices.{Devices, Calls as CallsOn}
 use Rattle.wasi_calls.specs.declared.streams.Terminals.{Terminals}
-use Rattle.sandbox_core.specs.Session.{SessionState, OpensWith, Shares, History, Follow, is_synced, pauses_of, seeded_by}
+use Rattle.wasm_interp.specs.Snapshots.{StandsFor}
+use Rattle.sandbox_core.specs.Sessions.{SessionState, OpensBy, Shares, History, FollowBy, is_synced, pauses_of, seeded_by}
 use Rattle.sandbox_core.proofs.Following.{heard_follow}
 use Rattle.sandbox_core.proofs.Reaching.{resumes_compose}
-use Rattle.sandbox_core.specs.Runs.{ResumesFollow, answered}
+use Rattle.sandbox_core.specs.Runs.{ResumesFollowBy, answered}
 use Rattle.sandbox_core.specs.Safety.{IsSafeVolume}
 use Rattle.sandbox_core.specs.Headline.{Upholds, Headline, SeededHeadline, OpenedHeadline, turns_of}
 
@@ -256,12 +257,12 @@ module _ {D R W1 W2 : Type 0} (on : Devices D R W1 W2) where
   abbrev honest_of : Host → Type 0
   honest_of h = on.device.honest h.volume.device
 
-  abbrev Follows : S → History S → S → Type 0
-  Follows = Follow on
+  abbrev Follows : StandsFor → S → History S → S → Type 0
+  Follows Stands s rs s' = FollowBy Stands on s rs s'
 
-  follows : (rs : History S) (s s' : S) → Follows s rs s' → ResumesFollow Calls (pauses_of rs) s.host s.machine s'.host s'.machine
-  follows [] s s' same = (ap (λ (s : S). s.host) same, ap (λ (s : S). s.machine) same)
-  follows (r ∷ rs) s s' ((units, resumes), rest) = (r.1.host, r.1.machine, units, resumes.run, follows rs r.1 s' rest)
+  follows : (Stands : StandsFor) (rs : History S) (s s' : S) → Follows Stands s rs s' → ResumesFollowBy Stands Calls (pauses_of rs) s.host s.machine s'.host s'.machine
+  follows Stands [] s s' same = (ap (λ (s : S). s.host) same, ap (λ (s : S). s.machine) same)
+  follows Stands (r ∷ rs) s s' ((units, resumes), rest) = (r.1.host, r.1.machine, units, resumes.run, follows Stands rs r.1 s' rest)
 
   pub synced_by : (p : Pause) (h : Host) → PauseSynced disk_of numbers_of tree_of honest_of p h → IsTrue (is_synced p) → (image : Image) → (disk_of h).may_leave image → StandsAs image (numbers_of h) (tree_of h)
   synced_by (Called c e) h told is image may =
@@ -269,23 +270,23 @@ module _ {D R W1 W2 : Type 0} (on : Devices D R W1 W2) where
   synced_by Spent h told is image may = cc
   synced_by (Ended o) h told is image may = cc
 
-  sizes : (rs : History S) (s s' : S) → Follows s rs s' → on.device.size s'.host.volume.device ≡ on.device.size s.host.volume.device
-  sizes [] s s' same = ap (λ (s : S). on.device.size s.host.volume.device) same
-  sizes (r ∷ rs) s s' ((units, resumes), rest) = sizes rs r.1 s' rest ∙ resumes.size
+  sizes : (Stands : StandsFor) (rs : History S) (s s' : S) → Follows Stands s rs s' → on.device.size s'.host.volume.device ≡ on.device.size s.host.volume.device
+  sizes Stands [] s s' same = ap (λ (s : S). on.device.size s.host.volume.device) same
+  sizes Stands (r ∷ rs) s s' ((units, resumes), rest) = sizes Stands rs r.1 s' rest ∙ resumes.size
 
-  goes_on : (rs : History S) (s s' : S) → Follows s rs s' → GoesOn on.device.goes_on s.host.volume s'.host.volume
-  goes_on [] s s' same = goes_same on.device.goes_on s.host.volume s'.host.volume (ap (λ (s : S). s.host.volume.device) same)
-  goes_on (r ∷ rs) s s' ((units, resumes), rest) =
-      goes_then on.device.goes_on s.host.volume r.1.host.volume s'.host.volume resumes.numbers resumes.goes (goes_on rs r.1 s' rest)
+  goes_on : (Stands : StandsFor) (rs : History S) (s s' : S) → Follows Stands s rs s' → GoesOn on.device.goes_on s.host.volume s'.host.volume
+  goes_on Stands [] s s' same = goes_same on.device.goes_on s.host.volume s'.host.volume (ap (λ (s : S). s.host.volume.device) same)
+  goes_on Stands (r ∷ rs) s s' ((units, resumes), rest) =
+      goes_then on.device.goes_on s.host.volume r.1.host.volume s'.host.volume resumes.numbers resumes.goes (goes_on Stands rs r.1 s' rest)
 
   module _ (now : (d : D) (t : ℕ) (image : Image) → on.device.honest d → t ≤ (on.device.disk d).operation_count → (on.device.disk d).may_leave image → (on.device.disk d).left_since t image)
       (only : (d : D) (image : Image) → on.device.honest d → (on.device.disk d).left_since (on.device.disk d).operation_count image → (on.device.disk d).may_leave image) where
     counts : (d : D) → on.device.honest d → CountsMoments (on.device.disk d)
     counts d is = record { counts_now = λ t image low may. now d t image is low may; only_now = λ image left. only d image is left }
 
-    turns : (rs : History S) (s s' : S) → Follows s rs s' → honest_of s.host → Turns disk_of numbers_of tree_of s.host (turns_of s rs)
-    turns [] s s' same is = tt
-    turns (r ∷ rs) s s' ((units, resumes), rest) is = (refl, resumes.numbers, resumes.crash is, synced_by r.0 r.1.host (resumes.synced is), counts r.1.host.volume.device (resumes.honest_after is), turns rs r.1 s' rest (resumes.honest_after is))
+    turns : (Stands : StandsFor) (rs : History S) (s s' : S) → Follows Stands s rs s' → honest_of s.host → Turns disk_of numbers_of tree_of s.host (turns_of s rs)
+    turns Stands [] s s' same is = tt
+    turns Stands (r ∷ rs) s s' ((units, resumes), rest) is = (refl, resumes.numbers, resumes.crash is, synced_by r.0 r.1.host (resumes.synced is), counts r.1.host.volume.device (resumes.honest_after is), turns Stands rs r.1 s' rest (resumes.honest_after is))
 
     module _ (parts : HostParts D R W1 W2) (s : S) (shares : Shares on.device parts s) (is : on.device.honest parts.volume.device) where
       pub still : honest_of s.host
@@ -322,11 +323,11 @@ module _ {D R W1 W2 : Type 0} (on : Devices D R W1 W2) where
                 omega (arith, place.1, slice_get_within there.directories place.0 (Entry o) place.2, dirs.0, few_preopens parts.settings fits);
           }
 
-      upholds : (seed : Option ℕ) (terminals : Option Terminals) (m : Module) (trees : List Tree) (from : ℕ) (s' : S) (rs : History S) → OpensWith seed terminals m parts s → IsSafeVolume on.device parts.volume trees from
-          → Follows s rs s' → Upholds on m parts.settings.pages trees from s rs s'
-      upholds seed terminals m trees from s' rs opens before follow =
+      upholds : (Stands : StandsFor) (seed : Option ℕ) (terminals : Option Terminals) (m : Module) (trees : List Tree) (from : ℕ) (s' : S) (rs : History S) → OpensBy Stands seed terminals m parts s → IsSafeVolume on.device parts.volume trees from
+          → Follows Stands s rs s' → Upholds Stands on m parts.settings.pages trees from s rs s'
+      upholds Stands seed terminals m trees from s' rs opens before follow =
           let first = opens.starts in
-          let run = resumes_compose Host Calls first.instance (pauses_of rs) s.host s'.host s.machine s'.machine (first_configuration first.entered first.store) first.stands (follows rs s s' follow)
+          let run = resumes_compose Host Calls first.instance Stands (pauses_of rs) s.host s'.host s.machine s'.machine (first_configuration first.entered first.store) first.stands (follows Stands rs s s' follow)
           (first.instantiates.used ∙ sym first.used) in
           let over = reach_moves on first.instance s.host s'.host
           (first_configuration first.entered first.store) run.0 (answered (pauses_of rs)) run.2 still in
@@ -343,10 +344,10 @@ module _ {D R W1 W2 : Type 0} (on : Devices D R W1 W2) where
             moved = over.0;
             moves = over.1;
             over_paths = over.2;
-            kept = keeps_all disk_of numbers_of tree_of (turns_of s rs) s.host trees from (safe trees from before) (turns rs s s' follow still);
-            size = sizes rs s s' follow;
-            goes = goes_on rs s s' follow;
-            heard = heard_follow on rs s s' follow;
+            kept = keeps_all disk_of numbers_of tree_of (turns_of s rs) s.host trees from (safe trees from before) (turns Stands rs s s' follow still);
+            size = sizes Stands rs s s' follow;
+            goes = goes_on Stands rs s s' follow;
+            heard = heard_follow on Stands rs s s' follow;
             confined = λ w w' shown shown_after. confines_host Calls Shows honest_of first.instance s.host s'.host w w' (first_configuration first.entered first.store) run.0 (answered (pauses_of rs))
                 (are_rows on.device.honest on.device.disk on.device.size on.device.failures on.device.goes_on on.input.remaining on.out.contents on.err.contents on.ear) still shown
                 (subst HasOnlyDirectoriesOpen (sym shown.1) (world_begins opens.fits shown.0)) run.2 shown_after;
@@ -354,20 +355,20 @@ module _ {D R W1 W2 : Type 0} (on : Devices D R W1 W2) where
 
   pub headline : ((d : D) (t : ℕ) (image : Image) → on.device.honest d → t ≤ (on.device.disk d).operation_count → (on.device.disk d).may_leave image → (on.device.disk d).left_since t image)
       → ((d : D) (image : Image) → on.device.honest d → (on.device.disk d).left_since (on.device.disk d).operation_count image → (on.device.disk d).may_leave image)
-      → Headline on
-  headline now only m parts trees from s s' rs opens shares is before follow = upholds now only parts s shares is None None m trees from s' rs opens before follow
+      → (Stands : StandsFor) → Headline Stands on
+  headline now only Stands m parts trees from s s' rs opens shares is before follow = upholds now only parts s shares is Stands None None m trees from s' rs opens before follow
 
   -- being seeded changes nothing that the headline asks of a session
   pub headline_seeded : ((d : D) (t : ℕ) (image : Image) → on.device.honest d → t ≤ (on.device.disk d).operation_count → (on.device.disk d).may_leave image → (on.device.disk d).left_since t image)
       → ((d : D) (image : Image) → on.device.honest d → (on.device.disk d).left_since (on.device.disk d).operation_count image → (on.device.disk d).may_leave image)
-      → SeededHeadline on
-  headline_seeded now only seed m parts trees from s s' rs opens shares is before follow =
-      upholds now only parts (seeded_by seed s) (record { is_tree = shares.is_tree; reads = shares.reads; preopens = shares.preopens }) is (Some seed) None m trees from s' rs
+      → (Stands : StandsFor) → SeededHeadline Stands on
+  headline_seeded now only Stands seed m parts trees from s s' rs opens shares is before follow =
+      upholds now only parts (seeded_by seed s) (record { is_tree = shares.is_tree; reads = shares.reads; preopens = shares.preopens }) is Stands (Some seed) None m trees from s' rs
       (record { fits = opens.fits; starts = opens.starts; input = opens.input; out = opens.out; err = opens.err; settings = opens.settings; supply = refl; interactive = opens.interactive }) before follow
 
   -- nor does being interactive
   pub headline_opened : ((d : D) (t : ℕ) (image : Image) → on.device.honest d → t ≤ (on.device.disk d).operation_count → (on.device.disk d).may_leave image → (on.device.disk d).left_since t image)
       → ((d : D) (image : Image) → on.device.honest d → (on.device.disk d).left_since (on.device.disk d).operation_count image → (on.device.disk d).may_leave image)
-      → OpenedHeadline on
-  headline_opened now only seed terminals m parts trees from s s' rs opens shares is before follow =
-      upholds now only parts s shares is seed terminals m trees from s' rs opens before follow
+      → (Stands : StandsFor) → OpenedHeadline Stands on
+  headline_opened now only Stands seed terminals m parts trees from s s' rs opens shares is before follow =
+      upholds now only parts s shares is Stands seed terminals m trees from s' rs opens before follow

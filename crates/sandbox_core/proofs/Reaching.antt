@@ -12,12 +12,12 @@ use Rattle.wasm_steps.specs.declared.pause.Pause.{Pause}
 use Rattle.wasm_steps.specs.declared.pause.Pause.TheVariants.{Called, Spent, Ended}
 use Rattle.wasm_steps.specs.Configuration.{Instance, Configuration, at, used_by}
 use Rattle.wasm_steps.specs.Steps.{CallsOf, silent, answers, Reach, stays, goes}
-use Rattle.wasm_interp.specs.Machine.{Snapshot, Represents, outcome_of}
+use Rattle.wasm_interp.specs.Machine.{Snapshot, Represents, StandsFor, outcome_of}
 use Rattle.wasm_steps.specs.declared.pause.Outcome.{Outcome}
 use Rattle.wasm_steps.specs.declared.pause.Outcome.TheVariants.{Exited, Trapped, OutOfFuel, OutOfMemory}
 use Rattle.wasm_interp.specs.Promise.{EndsAs, Paused, Resumed, HasItsUnit}
 use Rattle.wasi_calls.specs.laws.Moments.{IsTurn}
-use Rattle.sandbox_core.specs.Runs.{answered, PausesFollow, ResumesFollow, StopsAt, LastStopsAt, StopsAs, RunsWithin, ComesBy, LeftInRun}
+use Rattle.sandbox_core.specs.Runs.{answered, PausesFollow, ResumesFollowBy, StopsAt, LastStopsAt, StopsAs, RunsWithin, ComesBy, LeftInRun}
 
 module _ (H : Type 0) (Calls : CallsOf H) (i : Instance) where
   -- two runs of which one begins where the other ended are one run
@@ -54,21 +54,21 @@ module _ (H : Type 0) (Calls : CallsOf H) (i : Instance) where
   paused_stops Spent h h' c c' p = p.2
   paused_stops (Ended o) h h' c c' p = p.1
 
-  pub resumes_compose : (ps : List Pause) (h h' : H) (s s' : Snapshot) (c : Configuration) → Represents s i c → ResumesFollow Calls ps h s h' s'
-      → used_by c ≡ s.used → (c' : Configuration) × Represents s' i c' × Reach H Calls i h c (answered ps) h' c' × (used_by c' ≡ s'.used) × LastStopsAt Calls i ps h' c'
-  resumes_compose [] h h' s s' c stands (same_host, same) used =
-      (c, subst (λ (t : Snapshot). Represents t i c) (sym same) stands, subst (λ (g : H). Reach H Calls i h c [] g c) (sym same_host) stays, used ∙ ap (λ (t : Snapshot). t.used) (sym same), tt)
-  resumes_compose (p ∷ []) h h' s s' c stands (g, t, units, first, (same_host, same)) used =
+  pub resumes_compose : (Stands : StandsFor) (ps : List Pause) (h h' : H) (s s' : Snapshot) (c : Configuration) → Stands s i c → ResumesFollowBy Stands Calls ps h s h' s'
+      → used_by c ≡ s.used → (c' : Configuration) × Stands s' i c' × Reach H Calls i h c (answered ps) h' c' × (used_by c' ≡ s'.used) × LastStopsAt Calls i ps h' c'
+  resumes_compose Stands [] h h' s s' c stands (same_host, same) used =
+      (c, subst (λ (t : Snapshot). Stands t i c) (sym same) stands, subst (λ (g : H). Reach H Calls i h c [] g c) (sym same_host) stays, used ∙ ap (λ (t : Snapshot). t.used) (sym same), tt)
+  resumes_compose Stands (p ∷ []) h h' s s' c stands (g, t, units, first, (same_host, same)) used =
       let next = first.run i c stands in (
         next.0,
-        subst (λ (t : Snapshot). Represents t i next.0) (sym same) next.1,
+        subst (λ (t : Snapshot). Stands t i next.0) (sym same) next.1,
         subst (λ (g : H). Reach H Calls i h c (answered (p ∷ [])) g next.0) (sym same_host) (paused_reach p h g c next.0 next.2),
         next.4 ∙ ap (λ (t : Snapshot). t.used) (sym same),
         subst (λ (g : H). StopsAt Calls i p g next.0) (sym same_host) (paused_stops p h g c next.0 next.2),
       )
-  resumes_compose (p ∷ (q ∷ ps)) h h' s s' c stands (g, t, units, first, rest) used =
+  resumes_compose Stands (p ∷ (q ∷ ps)) h h' s s' c stands (g, t, units, first, rest) used =
       let next = first.run i c stands in
-      let later = resumes_compose (q ∷ ps) g h' t s' next.0 next.1 rest next.4 in (
+      let later = resumes_compose Stands (q ∷ ps) g h' t s' next.0 next.1 rest next.4 in (
         later.0,
         later.1,
         subst (λ (es : List (HostCall × Errno)). Reach H Calls i h c es h' later.0) (sym (answered-first p (q ∷ ps)))

@@ -200,7 +200,7 @@ module _ {D R W1 W2 : Type 0} (on : Devices D R W1 W2) where
         within = let rise = rises_within stops.pause stops.units (used_by stops.middle) (used_by last) more.run.units_rise in omega (arith, used_is, rise, stops.within);
         pages = pages_is;
         broken = broken_is;
-        heard = heard_follow on resumes first last followed;
+        heard = heard_follow on Represents resumes first last followed;
         resumes = resumes;
         follow = followed;
         run = run.run;

@@ -8,7 +8,7 @@ use Rattle.wasm_module.specs.declared.module.Module.{Module}
 use Rattle.wasm_store.specs.Instantiation.{Instantiates}
 use Rattle.wasm_steps.specs.Configuration.{Instance, Store, Configuration, first_configuration}
 use Rattle.wasm_steps.specs.Configuration as configuration
-use Rattle.wasm_interp.specs.Machine.{Represents}
+use Rattle.wasm_interp.specs.Snapshots.{StandsFor}
 use Rattle.wasm_steps.specs.Steps.{Reach}
 use Rattle.wasi_calls.specs.declared.host.wasi_host.HostParts.{HostParts}
 use Rattle.wasi_calls.specs.declared.streams.Terminals.{Terminals}
@@ -20,10 +20,10 @@ use Rattle.wasi_calls.specs.host.Worlds.{HearsStreams, Shows, world_of}
 use Rattle.wasi_calls.specs.laws.Moments.{Turn, AllKept}
 use Rattle.wasi_calls.specs.laws.Confined.{IsConfined, named_by}
 use Rattle.sandbox_core.specs.Devices.{Devices, Calls, disk_of, numbers_of, tree_of}
-use Rattle.sandbox_core.specs.Session.{SessionState, Opens, OpensWith, Shares, Follow, used_by, seeded_by}
-use Rattle.sandbox_core.specs.Session.{History, pauses_of, is_synced}
-use Rattle.sandbox_core.specs.Runs.{answered, LastStopsAt}
-use Rattle.sandbox_core.specs.Safety.{IsSafeVolume}
+use Rattle.sandbox_core.specs.Sessions.{SessionState, OpensBy, Shares, FollowBy, used_by, seeded_by}
+use Rattle.sandbox_core.specs.Sessions.{History, pauses_of, is_synced}
+use Rattle.sandbox_core.specs.Pauses.{answered, LastStopsAt}
+use Rattle.sandbox_core.specs.SafeVolumes.{IsSafeVolume}
 
 -- the host before and after each of some resumes, and whether it answered a sync
 abbrev pub turns_of : {D R W1 W2 : Type 0} → SessionState D R W1 W2 → History (SessionState D R W1 W2)
@@ -31,7 +31,9 @@ abbrev pub turns_of : {D R W1 W2 : Type 0} → SessionState D R W1 W2 → Histor
 turns_of s [] = []
 turns_of s (r ∷ rs) = record { old = s.host; new = r.1.host; synced = is_synced r.0 } ∷ turns_of r.1 rs
 
-module _ {D R W1 W2 : Type 0} (on : Devices D R W1 W2) where
+-- By whichever relation the machine stands for configurations: what a session promises at its opening and at each resume is said by the
+-- machine's own (`Session`), and the law holds of any.
+module _ {D R W1 W2 : Type 0} (Stands : StandsFor) (on : Devices D R W1 W2) where
   abbrev pub Host : Type 0
   Host = HostState D R W1 W2
 
@@ -49,7 +51,7 @@ module _ {D R W1 W2 : Type 0} (on : Devices D R W1 W2) where
     -- a run from there to the configuration that the session stands for, in which the host answered the calls that the
     -- pauses tell of, with the units used
     pub last : Configuration
-    pub stands : Represents s'.machine instance last
+    pub stands : Stands s'.machine instance last
     pub run : Reach Host (Calls on) instance s.host (first_configuration entered store) (answered (pauses_of rs))
         s'.host last
     pub units : configuration.used_by last ≡ used_by s'
@@ -78,21 +80,21 @@ module _ {D R W1 W2 : Type 0} (on : Devices D R W1 W2) where
   -- `Volume::open`: for the one tree), whatever resumes follow.
   abbrev pub Headline : Type 0
   Headline = (m : Module) (parts : HostParts D R W1 W2) (trees : List Tree) (from : ℕ) (s s' : Session)
-      (rs : History Session) → Opens m parts s → Shares on.device parts s → on.device.honest parts.volume.device
-      → IsSafeVolume on.device parts.volume trees from → Follow on s rs s'
+      (rs : History Session) → OpensBy Stands None None m parts s → Shares on.device parts s → on.device.honest parts.volume.device
+      → IsSafeVolume on.device parts.volume trees from → FollowBy Stands on s rs s'
       → Upholds m parts.settings.pages trees from s rs s'
 
   -- The same of a session that was seeded before its first resume.
   abbrev pub SeededHeadline : Type 0
   SeededHeadline = (seed : ℕ) (m : Module) (parts : HostParts D R W1 W2) (trees : List Tree) (from : ℕ) (s s' : Session)
-      (rs : History Session) → Opens m parts s → Shares on.device parts s → on.device.honest parts.volume.device
-      → IsSafeVolume on.device parts.volume trees from → Follow on (seeded_by seed s) rs s'
+      (rs : History Session) → OpensBy Stands None None m parts s → Shares on.device parts s → on.device.honest parts.volume.device
+      → IsSafeVolume on.device parts.volume trees from → FollowBy Stands on (seeded_by seed s) rs s'
       → Upholds m parts.settings.pages trees from (seeded_by seed s) rs s'
 
   -- The same of a session that opens with any seed or none, interactive or not.
   abbrev pub OpenedHeadline : Type 0
   OpenedHeadline = (seed : Option ℕ) (terminals : Option Terminals) (m : Module) (parts : HostParts D R W1 W2)
       (trees : List Tree) (from : ℕ) (s s' : Session) (rs : History Session)
-      → OpensWith seed terminals m parts s → Shares on.device parts s → on.device.honest parts.volume.device
-      → IsSafeVolume on.device parts.volume trees from → Follow on s rs s'
+      → OpensBy Stands seed terminals m parts s → Shares on.device parts s → on.device.honest parts.volume.device
+      → IsSafeVolume on.device parts.volume trees from → FollowBy Stands on s rs s'
       → Upholds m parts.settings.pages trees from s rs s'

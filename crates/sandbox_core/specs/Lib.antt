@@ -2,11 +2,14 @@
 -- may leave turn by turn, and in `Headline` what holds after any list of resumes. `internal` serves private contracts,
 -- proofs and the invariant of `Session`.
 pub mod Devices
+pub mod Sessions
 pub mod Session
+pub mod Pauses
 pub mod Runs
 pub mod Tally
 pub mod Report
 pub mod Slices
+pub mod SafeVolumes
 pub mod Safety
 pub mod Headline
 pub mod internal

@@ -10,19 +10,13 @@ use Rattle.vol_tree.specs.declared.superblock.Superblock.{Superblock}
 use Rattle.wasm_store.specs.declared.call.HostCall.{HostCall}
 use Rattle.wasm_store.specs.declared.call.Errno.{Errno}
 use Rattle.wasm_steps.specs.declared.pause.Pause.{Pause}
-use Rattle.wasm_steps.specs.declared.pause.Pause.TheVariants.{Called, Spent, Ended}
 use Rattle.wasm_steps.specs.declared.pause.Outcome.{Outcome}
 use Rattle.wasm_steps.specs.declared.pause.Outcome.TheVariants.{OutOfFuel}
 use Rattle.wasm_steps.specs.Configuration.{Instance, Configuration, code_of, used_by, NextIsPlain}
 use Rattle.wasm_steps.specs.Steps.{CallsOf, Reach}
-use Rattle.wasm_interp.specs.Machine.{Snapshot, Represents}
-use Rattle.wasm_interp.specs.Promise.{EndsAs, Paused, Resumed}
-
--- the calls that pauses tell of, with what each answered
-abbrev pub answered : List Pause → List (HostCall × Errno)
-answered [] = []
-answered (Called call e ∷ ps) = (call, e) ∷ answered ps
-answered (other ∷ ps) = answered ps
+use Rattle.wasm_interp.specs.Machine.{Snapshot, Represents, StandsFor}
+pub use Rattle.sandbox_core.specs.Pauses.{answered, StopsAt, LastStopsAt}
+use Rattle.wasm_interp.specs.Promise.{EndsAs, Paused, ResumedBy}
 
 module _ {H : Type 0} (Calls : CallsOf H) where
   -- each pause says what steps lead to it from the one before
@@ -37,22 +31,13 @@ module _ {H : Type 0} (Calls : CallsOf H) where
       → PausesFollow i ps h c h' c' → Reach H Calls i h c (answered ps) h' c'
 
   -- one resume after another, from a host and a machine to others
+  abbrev pub ResumesFollowBy : StandsFor → List Pause → H → Snapshot → H → Snapshot → Type 0
+  ResumesFollowBy Stands [] h s h' s' = (h' ≡ h) × (s' ≡ s)
+  ResumesFollowBy Stands (p ∷ ps) h s h' s' =
+      (g : H) × (t : Snapshot) × (units : ℕ) × ResumedBy Stands H Calls h g s t units p × ResumesFollowBy Stands ps g t h' s'
+
   abbrev pub ResumesFollow : List Pause → H → Snapshot → H → Snapshot → Type 0
-  ResumesFollow [] h s h' s' = (h' ≡ h) × (s' ≡ s)
-  ResumesFollow (p ∷ ps) h s h' s' =
-      (g : H) × (t : Snapshot) × (units : ℕ) × Resumed H Calls h g s t units p × ResumesFollow ps g t h' s'
-
-  -- what a pause says of the configuration that it leaves: it has ended so, or its next step takes a unit
-  abbrev pub StopsAt : Instance → Pause → H → Configuration → Type 0
-  StopsAt i (Called call e) h c = Unit {0}
-  StopsAt i Spent h c = NextIsPlain (code_of c)
-  StopsAt i (Ended o) h c = EndsAs H Calls i o h c
-
-  -- and what the last of some pauses says
-  abbrev pub LastStopsAt : Instance → List Pause → H → Configuration → Type 0
-  LastStopsAt i [] h c = Unit {0}
-  LastStopsAt i (p ∷ []) h c = StopsAt i p h c
-  LastStopsAt i (p ∷ (q ∷ ps)) h c = LastStopsAt i (q ∷ ps) h c
+  ResumesFollow ps h s h' s' = ResumesFollowBy Represents ps h s h' s'
 
   -- resumes that follow one another are one run, from whatever configuration the machine stood for, with exactly the
   -- units that the machine tells of, to where the last of them stops
@@ -60,7 +45,7 @@ module _ {H : Type 0} (Calls : CallsOf H) where
   ResumesCompose = (i : Instance) (ps : List Pause) (h h' : H) (s s' : Snapshot) (c : Configuration)
       → Represents s i c → ResumesFollow ps h s h' s' → used_by c ≡ s.used
       → (c' : Configuration) × Represents s' i c' × Reach H Calls i h c (answered ps) h' c' × (used_by c' ≡ s'.used)
-      × LastStopsAt i ps h' c'
+      × LastStopsAt Calls i ps h' c'
 
   -- how a run with fuel stops: out of it exactly where all was used and the next step takes a unit
   abbrev pub StopsAs : Instance → Outcome → ℕ → ℕ → H → Configuration → Type 0

@@ -9,16 +9,13 @@ use Rattle.vol_tree.specs.Opened.{Opened}
 use Rattle.vol_tree.specs.Stands.{StandsAs}
 use Rattle.wasm_steps.specs.declared.pause.Pause.{Pause}
 use Rattle.wasi_calls.specs.declared.host.wasi_host.HostParts.{HostParts}
-use Rattle.wasi_calls.specs.laws.Moments.{Kept, IsSafe}
+use Rattle.wasi_calls.specs.laws.Moments.{Kept}
 use Rattle.sandbox_core.specs.declared.session.Finished.{Finished}
 use Rattle.sandbox_core.specs.Devices.{Devices, IsHonest}
+pub use Rattle.sandbox_core.specs.SafeVolumes.{IsSafeVolume}
 use Rattle.sandbox_core.specs.Session.{SessionState, Shares, Resumes, Finishes, is_synced}
 
 module _ {D : Type 0} (device : Ghosts D) where
-  -- These are the trees so far, the last of which is the volume's. A crash may leave those from the place `from` on.
-  abbrev pub IsSafeVolume : Opened D → List Tree → ℕ → Type 0
-  IsSafeVolume = IsSafe (λ (v : Opened D). device.disk v.device) (λ v. v.numbers) (λ v. v.tree)
-
   -- each image that a crash may leave in a turn stands for one of these trees, under the volume's numbers
   abbrev pub KeptSince : Opened D → Opened D → List Tree → ℕ → ℕ → Type 0
   KeptSince old new trees from to = (image : Image)
@@ -32,7 +29,7 @@ module _ {D : Type 0} (device : Ghosts D) where
     pub numbers : new.numbers ≡ old.numbers
     pub size : device.size new.device ≡ device.size old.device
     pub during : KeptSince old new (trees ++ new.tree ∷ []) from (length trees)
-    pub after : IsSafeVolume new (trees ++ new.tree ∷ []) (if synced then length trees else from)
+    pub after : IsSafeVolume device new (trees ++ new.tree ∷ []) (if synced then length trees else from)
 
   -- A turn with no tree more.
   pub record RestsSafe (old new : Opened D) (synced : Bool) (trees : List Tree) (from : ℕ) : Type 0 where
@@ -40,7 +37,7 @@ module _ {D : Type 0} (device : Ghosts D) where
     pub numbers : new.numbers ≡ old.numbers
     pub size : device.size new.device ≡ device.size old.device
     pub during : KeptSince old new trees from (length trees - 1)
-    pub after : IsSafeVolume new trees (if synced then length trees - 1 else from)
+    pub after : IsSafeVolume device new trees (if synced then length trees - 1 else from)
 
 -- After `Volume::open` a crash leaves its tree alone. Making a session leaves no other tree; a resume may leave the one
 -- at its end, and after an answered sync no other; and finishing leaves no other, and where the volume is handed back

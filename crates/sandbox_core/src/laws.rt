@@ -2,6 +2,7 @@
 
 ghost use Rattle.sandbox_core.specs.Devices.{devices};
 ghost use Rattle.sandbox_core.specs.Headline.{Headline, OpenedHeadline, SeededHeadline};
+ghost use Rattle.wasm_interp.specs.Snapshots.{StandsFor};
 ghost use Rattle.sandbox_core.specs.Runs.{PausesCompose, ResumesCompose};
 ghost use Rattle.sandbox_core.specs.Safety.{TurnsAreSafe};
 
@@ -26,16 +27,16 @@ pub fn turns_are_safe<D: Device, R: Inlet, W1: Outlet, W2: Outlet>()
 /// of the reduction rules over a tree of paths, each image that a crash may leave stands for the tree after a first part
 /// of its calls, with all up to the last sync that was answered, and what is outside its directories stays.
 pub fn headline<D: Device, R: Inlet, W1: Outlet, W2: Outlet>()
-    ensures { Headline (devices D.Device R.Read W1.Write W2.Write R.gave R.refused W1.took W1.refused W2.took W2.refused) }
+    ensures { (Stands : StandsFor) → Headline Stands (devices D.Device R.Read W1.Write W2.Write R.gave R.refused W1.took W1.refused W2.took W2.refused) }
 {}
 
 /// The headline of a session that `Session::seed` gave random bytes before its first resume.
 pub fn headline_seeded<D: Device, R: Inlet, W1: Outlet, W2: Outlet>()
-    ensures { SeededHeadline (devices D.Device R.Read W1.Write W2.Write R.gave R.refused W1.took W1.refused W2.took W2.refused) }
+    ensures { (Stands : StandsFor) → SeededHeadline Stands (devices D.Device R.Read W1.Write W2.Write R.gave R.refused W1.took W1.refused W2.took W2.refused) }
 {}
 
 /// The headline of a session that `Session::seed` gave random bytes or `Session::interact` made interactive, either or both or
 /// neither, before its first resume.
 pub fn headline_opened<D: Device, R: Inlet, W1: Outlet, W2: Outlet>()
-    ensures { OpenedHeadline (devices D.Device R.Read W1.Write W2.Write R.gave R.refused W1.took W1.refused W2.took W2.refused) }
+    ensures { (Stands : StandsFor) → OpenedHeadline Stands (devices D.Device R.Read W1.Write W2.Write R.gave R.refused W1.took W1.refused W2.took W2.refused) }
 {}

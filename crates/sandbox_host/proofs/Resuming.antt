@@ -2,6 +2,7 @@
 use Rattle.std.proofs.Common.{◌-◌, ◌^◌, min, List, [], ◌∷◌, refl}
 use Rattle.wasm_module.specs.declared.module.Module.{Module}
 use Rattle.sandbox_core.specs.Session.{given, used_by}
+use Rattle.wasm_interp.specs.Machine.{Represents}
 use Rattle.sandbox_core.specs.Headline as headline
 use Rattle.sandbox_core.specs.Safety as safety
 use Rattle.sandbox_host.specs.declared.numbers.Told.{Told}
@@ -23,7 +24,7 @@ gathered m supplies s s' (r ∷ rs) is =
       follow = ((min is.0.0 (2 ^ 64 - 1 - used_by s), one.resumes), more.follow);
     }
 
-pub host_headline : headline.Headline known
+pub host_headline : headline.Headline Represents known
     → safety.TurnsAreSafe known → HostHeadline
 host_headline upholds safe m supplies origin s s' rs begins resumed =
     let parts : Parts = given (settings_of supplies) begins.volume supplies.input begins.out begins.err in

@@ -5,6 +5,7 @@ use Rattle.std.specs.Prelude.{◌≡◌, ℕ, List, [], ◌∷◌}
 use Rattle.wasm_module.specs.declared.module.Module.{Module}
 use Rattle.sandbox_core.specs.Session.{History, used_by}
 use Rattle.sandbox_core.specs.Session as core
+use Rattle.wasm_interp.specs.Machine.{Represents}
 use Rattle.sandbox_core.specs.Headline as headline
 use Rattle.sandbox_host.specs.declared.numbers.Told.{Told}
 use Rattle.sandbox_host.specs.declared.supplies.Supplies.{Supplies}
@@ -37,4 +38,4 @@ abbrev pub HostHeadline : Type 0
 HostHeadline = (m : Module) (supplies : Supplies) (origin : Origin) (s s' : State) (rs : List (Told × State))
     → (begins : Begins m supplies origin s) → Resumed s rs s'
     → (all : HostUpholds m supplies s rs s')
-    × headline.Upholds known m (most_pages supplies.limits) (begins.volume.tree ∷ []) 0 s all.history s'
+    × headline.Upholds Represents known m (most_pages supplies.limits) (begins.volume.tree ∷ []) 0 s all.history s'

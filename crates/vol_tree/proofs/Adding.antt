@@ -22,7 +22,8 @@ use Rattle.vol_tree.specs.Tree.{Tree, Name, Node, IsTree, lookup, least_from, is
 use Rattle.vol_tree.specs.Calls.{created}
 use Rattle.vol_tree.specs.Space.{space, need_in, size_of}
 use Rattle.vol_tree.specs.Stands.{Slots, entry_of, tree_of, node_by, IsVolume}
-use Rattle.vol_tree.specs.Opened.{slots_in, tree_in, data_sectors}
+use Rattle.vol_tree.specs.Clauses.{slots_in, tree_in}
+use Rattle.vol_tree.specs.Opened.{data_sectors}
 use Rattle.vol_tree.specs.internal.Parts.{IsContent, AreTaken}
 use Rattle.vol_tree.proofs.SlotsRead.{slots_count}
 use Rattle.vol_tree.proofs.SlotChange.{OtherSlots, FitsIn, set_tree, set_slots, set_volume}

@@ -14,7 +14,8 @@ use Rattle.vol_tree.specs.declared.superblock.Superblock.{Superblock}
 use Rattle.vol_tree.specs.Superblock.{superblock}
 use Rattle.vol_tree.specs.Space.{space}
 use Rattle.vol_tree.specs.Tree.{Tree}
-use Rattle.vol_tree.specs.Opened.{Keeps, is_io, tree_in, slots_in}
+use Rattle.vol_tree.specs.Clauses.{is_io, tree_in, slots_in}
+use Rattle.vol_tree.specs.Opened.{Keeps}
 use Rattle.vol_tree.specs.Parts.{opened}
 use Rattle.vol_tree.specs.internal.Parts.{IsOpen, IsContent, AreTaken}
 use Rattle.vol_tree.specs.internal.Commits.{Commits, ReadsOnly}

@@ -15,7 +15,7 @@ use Rattle.vol_dirs.specs.declared.dirs.Dirs.{Dirs}
 use Rattle.vol_dirs.specs.Names.{Shows}
 use Rattle.vol_tree.specs.declared.superblock.Superblock.{Superblock}
 use Rattle.vol_tree.specs.declared.reading.Entries.{Entries}
-use Rattle.vol_tree.specs.Opened.{slots_in, slot_in}
+use Rattle.vol_tree.specs.Clauses.{slots_in, slot_in}
 use Rattle.vol_tree.specs.internal.Reads.{held_at, parent_in, directory_in, named_in, reserved_in, IsPlaced, IsNew, IsRight, AddsSlot, FitIn, HaveRead}
 use Rattle.vol_tree.proofs.SlotsRead.{slots_at, slot_read, slots_count}
 use Rattle.vol_dirs.specs.Slots.{slot_sector}

@@ -27,7 +27,7 @@ use Rattle.vol_tree.specs.Tree.{Tree, Directory, root}
 use Rattle.vol_tree.specs.Calls.{is_within}
 use Rattle.vol_tree.specs.Space.{space, need_in}
 use Rattle.vol_tree.specs.Stands.{Slots, entry_of, tree_of, node_by}
-use Rattle.vol_tree.specs.Opened.{slots_in, tree_in}
+use Rattle.vol_tree.specs.Clauses.{slots_in, tree_in}
 use Rattle.vol_tree.specs.internal.Parts.{IsContent}
 use Rattle.vol_tree.specs.internal.Replacing.{kind_is_directory}
 use Rattle.vol_tree.specs.internal.Climbs.{climb, AllLeadUpSoon, StandInDirectories}

@@ -25,7 +25,7 @@ use Rattle.vol_tree.specs.Tree as tree
 use Rattle.vol_tree.specs.Tree.{Tree, Directory, Path, IsAt, IsDirectory, IsTree, root}
 use Rattle.vol_tree.specs.Space.{space}
 use Rattle.vol_tree.specs.Stands.{Slots, entry_of, node_by, KeepApart}
-use Rattle.vol_tree.specs.Opened.{slots_in, tree_in}
+use Rattle.vol_tree.specs.Clauses.{slots_in, tree_in}
 use Rattle.vol_tree.specs.internal.Parts.{IsContent, AreTaken}
 use Rattle.vol_tree.specs.internal.Replacing.{kind_is_directory}
 use Rattle.vol_tree.specs.internal.Climbs.{climb, AllLeadUp, StandInDirectories}

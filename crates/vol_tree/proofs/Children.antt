@@ -17,7 +17,7 @@ use Rattle.vol_tree.specs.Tree as tree
 use Rattle.vol_tree.specs.Tree.{Tree, IsTree, lookup, is_in, is_empty, changed, root}
 use Rattle.vol_tree.specs.Calls.{next_child, directory_removed, is_file_at, is_directory}
 use Rattle.vol_tree.specs.Stands.{entry_of}
-use Rattle.vol_tree.specs.Opened.{tree_in}
+use Rattle.vol_tree.specs.Clauses.{tree_in}
 use Rattle.vol_tree.specs.internal.Slots.{slot_of}
 use Rattle.vol_tree.specs.internal.Parts.{IsContent}
 use Rattle.vol_tree.specs.internal.Removals.{IsBare}

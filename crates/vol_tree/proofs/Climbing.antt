@@ -14,7 +14,7 @@ use Rattle.vol_tree.specs.declared.errno.Errno.TheVariants as errno
 use Rattle.vol_tree.specs.Tree.{Tree, Path, Name, Entry, entry, Leads, IsTree, IsDirectory, lookup, changed, is_empty, root}
 use Rattle.vol_tree.specs.Calls.{is_within, unless, renamed, moved, moved_onto, directory_at, is_directory}
 use Rattle.vol_tree.specs.Stands.{entry_of, node_by}
-use Rattle.vol_tree.specs.Opened.{tree_in}
+use Rattle.vol_tree.specs.Clauses.{tree_in}
 use Rattle.vol_tree.specs.internal.Slots.{slot_of}
 use Rattle.vol_body.specs.Body.{bytes_of}
 use Rattle.vol_tree.specs.internal.Moves.{MovesToName, MovesIn, IsAbove}

@@ -18,7 +18,8 @@ use Rattle.vol_tree.specs.Superblock.{superblock}
 use Rattle.vol_tree.specs.Space.{space}
 use Rattle.vol_tree.specs.Stands.{StandsAs}
 use Rattle.vol_tree.specs.declared.superblock.Superblock.{Superblock}
-use Rattle.vol_tree.specs.Opened.{ReflectsOr, tree_in, slots_in}
+use Rattle.vol_tree.specs.Clauses.{tree_in, slots_in}
+use Rattle.vol_tree.specs.Opened.{ReflectsOr}
 use Rattle.vol_tree.specs.Parts.{opened}
 use Rattle.vol_tree.specs.internal.Parts.{IsOpen, IsContent, AreTaken}
 use Rattle.vol_tree.specs.internal.Commits.{Commits}

@@ -16,7 +16,8 @@ use Rattle.vol_alloc.specs.Alloc.{first_of, end_of, free_of}
 use Rattle.vol_alloc.proofs.Covers.{taken_in_list}
 use Rattle.vol_tree.specs.declared.superblock.Superblock.{Superblock}
 use Rattle.vol_tree.specs.Stands.{Slots}
-use Rattle.vol_tree.specs.Opened.{slots_in, data_sectors}
+use Rattle.vol_tree.specs.Clauses.{slots_in}
+use Rattle.vol_tree.specs.Opened.{data_sectors}
 use Rattle.vol_tree.specs.internal.Parts.{IsContent, AreTaken}
 use Rattle.vol_log.specs.declared.layout.TheConstants.{FIRST_AFTER_LOG}
 

@@ -19,7 +19,7 @@ use Rattle.vol_tree.specs.Tree.{Tree, Name, Node, IsTree, IsDirectory, lookup, l
 use Rattle.vol_tree.specs.Calls.{created}
 use Rattle.vol_tree.specs.Space.{space}
 use Rattle.vol_tree.specs.Stands.{node_by, entry_of}
-use Rattle.vol_tree.specs.Opened.{slots_in, tree_in}
+use Rattle.vol_tree.specs.Clauses.{slots_in, tree_in}
 use Rattle.vol_tree.specs.internal.Parts.{IsContent, AreTaken}
 use Rattle.vol_tree.proofs.LeastSerial.{created_least}
 use Rattle.vol_tree.proofs.Grows.{created_grows}

@@ -22,7 +22,8 @@ use Rattle.vol_tree.specs.Tree.{Tree}
 use Rattle.vol_tree.specs.Calls.{if_it_fits, with_unit, is_file_at, bytes_at}
 use Rattle.vol_tree.specs.Space.{space}
 use Rattle.vol_tree.specs.Stands.{Slots, entry_of}
-use Rattle.vol_tree.specs.Opened.{tree_in, data_sectors, geometry}
+use Rattle.vol_tree.specs.Clauses.{tree_in}
+use Rattle.vol_tree.specs.Opened.{data_sectors, geometry}
 use Rattle.vol_tree.specs.internal.Slots.{slot_of}
 use Rattle.vol_tree.specs.internal.Parts.{IsOpen}
 use Rattle.vol_tree.specs.internal.Commits.{Commits, ReadsOnly}

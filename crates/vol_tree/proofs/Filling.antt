@@ -25,7 +25,8 @@ use Rattle.vol_tree.specs.Tree.{Tree, Node, Directory, File, IsTree, changed}
 use Rattle.vol_tree.specs.Calls.{if_it_fits}
 use Rattle.vol_tree.specs.Space.{space, size_of}
 use Rattle.vol_tree.specs.Stands.{entry_of, node_by}
-use Rattle.vol_tree.specs.Opened.{slots_in, tree_in, data_sectors, geometry, Keeps}
+use Rattle.vol_tree.specs.Clauses.{slots_in, tree_in}
+use Rattle.vol_tree.specs.Opened.{data_sectors, geometry, Keeps}
 use Rattle.vol_tree.specs.internal.Slots.{slot_of}
 use Rattle.vol_tree.specs.Parts.{opened}
 use Rattle.vol_tree.specs.internal.Parts.{IsContent, AreTaken}

@@ -28,7 +28,7 @@ use Rattle.vol_tree.specs.Tree as tree
 use Rattle.vol_tree.specs.Tree.{Tree}
 use Rattle.vol_tree.specs.Space.{space}
 use Rattle.vol_tree.specs.Stands.{Slots, slot, entry_of, tree_of, IsVolume, StandsAs, empty_tree}
-use Rattle.vol_tree.specs.Opened.{slots_in, tree_in}
+use Rattle.vol_tree.specs.Clauses.{slots_in, tree_in}
 use Rattle.vol_tree.specs.internal.Formatting.{root_entry, fresh_slot, HasFreshSlots}
 use Rattle.vol_tree.specs.internal.Parts.{IsContent, AreTaken}
 use Rattle.vol_tree.specs.internal.Reads.{HasParts}

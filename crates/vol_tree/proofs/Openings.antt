@@ -15,7 +15,7 @@ use Rattle.vol_tree.specs.declared.superblock.Superblock.{Superblock}
 use Rattle.vol_tree.specs.Superblock.{superblock, HasRanges}
 use Rattle.vol_tree.specs.Tree.{Tree}
 use Rattle.vol_tree.specs.Stands.{IsVolume, StandsAs}
-use Rattle.vol_tree.specs.Opened.{slots_in, tree_in}
+use Rattle.vol_tree.specs.Clauses.{slots_in, tree_in}
 use Rattle.vol_tree.specs.Opening.{StandsOn, HoldsOn}
 use Rattle.vol_alloc.specs.declared.sectors.Alloc.{Alloc}
 use Rattle.vol_dirs.specs.declared.dirs.Dirs.{Dirs}

@@ -26,7 +26,8 @@ use Rattle.vol_tree.specs.Superblock.{superblock, HasRanges, IsOlder, version_nu
 use Rattle.vol_tree.specs.Tree.{Tree}
 use Rattle.vol_tree.specs.Space.{space}
 use Rattle.vol_tree.specs.Stands.{StandsAs}
-use Rattle.vol_tree.specs.Opened.{slot_in, slots_in, tree_in, raised, ReflectsOr, MayUpgrade, GoesOn}
+use Rattle.vol_tree.specs.Clauses.{slot_in, slots_in, tree_in, raised, MayUpgrade}
+use Rattle.vol_tree.specs.Opened.{ReflectsOr, GoesOn}
 use Rattle.vol_tree.specs.Parts.{opened}
 use Rattle.vol_tree.specs.internal.Parts.{IsContent, AreTaken, IsOpen}
 use Rattle.vol_tree.specs.internal.Upgrades.{Upgrades}

@@ -14,7 +14,7 @@ use Rattle.vol_tree.specs.declared.errno.Errno.TheVariants as errno
 use Rattle.vol_tree.specs.declared.superblock.Superblock.{Superblock}
 use Rattle.vol_tree.specs.Tree.{Tree}
 use Rattle.vol_tree.specs.Calls.{read_bytes, is_file_at}
-use Rattle.vol_tree.specs.Opened.{tree_in, TellsBytes}
+use Rattle.vol_tree.specs.Clauses.{tree_in, TellsBytes}
 use Rattle.vol_tree.specs.internal.Slots.{slot_of}
 use Rattle.vol_tree.specs.internal.Parts.{IsContent}
 use Rattle.vol_tree.proofs.Committing.{LogReads}

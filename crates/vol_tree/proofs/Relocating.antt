@@ -21,7 +21,8 @@ use Rattle.vol_tree.specs.Tree.{Tree, Name, IsTree, changed}
 use Rattle.vol_tree.specs.Calls.{moved}
 use Rattle.vol_tree.specs.Space.{space, need_in, size_of}
 use Rattle.vol_tree.specs.Stands.{Slots, entry_of, node_by, tree_of, IsVolume}
-use Rattle.vol_tree.specs.Opened.{slots_in, tree_in, data_sectors}
+use Rattle.vol_tree.specs.Clauses.{slots_in, tree_in}
+use Rattle.vol_tree.specs.Opened.{data_sectors}
 use Rattle.vol_tree.specs.internal.Parts.{IsContent, AreTaken}
 use Rattle.vol_tree.specs.internal.Moves.{MovesToName}
 use Rattle.vol_tree.proofs.OneTree.{same_tree_entry}

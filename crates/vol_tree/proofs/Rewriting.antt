@@ -20,7 +20,8 @@ use Rattle.vol_tree.specs.Tree as tree
 use Rattle.vol_tree.specs.Tree.{Tree, Path, Directory, File, IsTree, IsDirectory, IsAt, root, changed}
 use Rattle.vol_tree.specs.Space.{space}
 use Rattle.vol_tree.specs.Stands.{Slots, slot, entry_of, tree_of, IsVolume}
-use Rattle.vol_tree.specs.Opened.{slots_in, tree_in, data_sectors}
+use Rattle.vol_tree.specs.Clauses.{slots_in, tree_in}
+use Rattle.vol_tree.specs.Opened.{data_sectors}
 use Rattle.vol_tree.specs.internal.Parts.{IsContent, AreTaken}
 use Rattle.vol_tree.proofs.SlotsRead.{slots_count}
 use Rattle.vol_tree.proofs.SlotChange.{OtherSlots, FitsIn, set_tree, set_slots, set_volume}

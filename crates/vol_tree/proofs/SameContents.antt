@@ -20,7 +20,8 @@ use Rattle.vol_tree.specs.Superblock.{HasRanges, superblock}
 use Rattle.vol_tree.specs.Tree.{Tree, IsTree}
 use Rattle.vol_tree.specs.Space.{space}
 use Rattle.vol_tree.specs.Stands.{Slots, entry_of, tree_of, IsVolume, StandsAs}
-use Rattle.vol_tree.specs.Opened.{slots_in, tree_in, data_sectors, ReflectsOr}
+use Rattle.vol_tree.specs.Clauses.{slots_in, tree_in}
+use Rattle.vol_tree.specs.Opened.{data_sectors, ReflectsOr}
 use Rattle.vol_tree.specs.internal.Parts.{IsContent, AreTaken}
 use Rattle.vol_tree.proofs.SlotsRead.{slots_count}
 use Rattle.vol_tree.proofs.SlotChange.{OtherSlots, FitsIn, set_tree, set_slots, set_volume}

@@ -13,7 +13,8 @@ use Rattle.vol_tree.specs.declared.stat.Stat.{Stat}
 use Rattle.vol_tree.specs.Stat.{TellsStat}
 use Rattle.vol_tree.specs.Tree as tree
 use Rattle.vol_tree.specs.Tree.{Tree}
-use Rattle.vol_tree.specs.Opened.{IsSerial, tree_in}
+use Rattle.vol_tree.specs.Clauses.{tree_in}
+use Rattle.vol_tree.specs.Opened.{IsSerial}
 use Rattle.vol_tree.specs.internal.Slots.{slot_of}
 use Rattle.vol_tree.specs.internal.Parts.{IsContent}
 use Rattle.vol_tree.proofs.Entries.{used_within}

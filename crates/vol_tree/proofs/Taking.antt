@@ -6,10 +6,10 @@ use Rattle.vol_sector.specs.declared.device.Device.{Ghosts}
 use Rattle.vol_log.specs.Log.{device_of}
 use Rattle.vol_tree.specs.declared.errno.Errno.{Errno}
 use Rattle.vol_tree.specs.declared.errno.Errno.TheVariants as errno
-use Rattle.vol_tree.specs.Opened.{is_io}
+use Rattle.vol_tree.specs.Clauses.{is_io}
 use Rattle.vol_tree.specs.declared.parts.Parts.{Parts}
 use Rattle.vol_tree.specs.Tree.{Tree}
-use Rattle.vol_tree.specs.Opened.{Answers, LeavesAlone}
+use Rattle.vol_tree.specs.Clauses.{Answers, LeavesAlone}
 use Rattle.vol_tree.specs.internal.Changes.{Changes}
 use Rattle.vol_tree.specs.Parts.{opened}
 use Rattle.vol_tree.specs.internal.Commits.{Commits, ReadsOnly}

@@ -16,7 +16,7 @@ use Rattle.vol_tree.specs.declared.superblock.Superblock.{Superblock}
 use Rattle.vol_tree.specs.Tree.{Tree, Name, entry, lookup, is_empty}
 use Rattle.vol_tree.specs.Calls.{is_directory, directory_at}
 use Rattle.vol_tree.specs.Stands.{Slots, entry_of, node_by}
-use Rattle.vol_tree.specs.Opened.{tree_in, is_io}
+use Rattle.vol_tree.specs.Clauses.{tree_in, is_io}
 use Rattle.vol_tree.specs.internal.Slots.{slot_of}
 use Rattle.vol_tree.specs.internal.Parts.{IsContent, IsOpen}
 use Rattle.vol_tree.specs.internal.Commits.{Commits}

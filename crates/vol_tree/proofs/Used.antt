@@ -5,7 +5,7 @@ use Rattle.vol_dirs.specs.declared.dirs.Dirs.{Dirs}
 use Rattle.vol_dirs.specs.Names.{IsFree, Shows}
 use Rattle.vol_tree.specs.declared.superblock.Superblock.{Superblock}
 use Rattle.vol_tree.specs.Tree as tree
-use Rattle.vol_tree.specs.Opened.{tree_in}
+use Rattle.vol_tree.specs.Clauses.{tree_in}
 use Rattle.vol_tree.specs.internal.Parts.{IsContent}
 use Rattle.vol_tree.proofs.Finding.{free_is_none, none_is_free}
 

@@ -23,7 +23,8 @@ use Rattle.vol_tree.specs.Calls.{bytes_at, is_file_at, is_directory}
 use Rattle.vol_tree.specs.Calls as calls
 use Rattle.vol_tree.specs.Space.{space, need_in, size_of}
 use Rattle.vol_tree.specs.Stands.{entry_of, node_by}
-use Rattle.vol_tree.specs.Opened.{slots_in, tree_in, data_sectors}
+use Rattle.vol_tree.specs.Clauses.{slots_in, tree_in}
+use Rattle.vol_tree.specs.Opened.{data_sectors}
 use Rattle.vol_tree.specs.internal.Slots.{slot_of}
 use Rattle.vol_tree.specs.internal.Parts.{IsContent, AreTaken}
 use Rattle.vol_tree.proofs.Counts.{used_in, free_and_used}

@@ -12,6 +12,7 @@ pub mod Superblock
 pub mod Stands
 pub mod Fresh
 pub mod Opened
+pub mod Clauses
 pub mod Stats
 pub mod Opening
 pub mod Parts

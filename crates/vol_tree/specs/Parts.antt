@@ -4,7 +4,8 @@
 use Rattle.vol_sector.specs.declared.device.Device.{Ghosts}
 use Rattle.vol_log.specs.Log.{view, device_of, has_failed}
 use Rattle.vol_tree.specs.declared.parts.Parts.{Parts}
-use Rattle.vol_tree.specs.Opened.{Opened, tree_in}
+use Rattle.vol_tree.specs.Clauses.{tree_in}
+use Rattle.vol_tree.specs.Opened.{Opened}
 
 abbrev pub opened : {D : Type 0} {g : Ghosts D} → Parts D g → Opened D
 opened p = record { device = device_of p.log; numbers = p.numbers; tree = tree_in (view p.log) p.numbers; failed = has_failed p.log }

@@ -8,7 +8,7 @@ ghost use Rattle.vol_log.specs.Log.{view, device_of, room_of, has_failed};
 ghost use Rattle.vol_dirs.specs.Names.{Names};
 ghost use Rattle.vol_tree.specs.Tree.{IsDirectory, entry, lookup};
 ghost use Rattle.vol_tree.specs.Calls.{renamed, moved, moved_onto, with_unit, is_within};
-ghost use Rattle.vol_tree.specs.Opened.{is_io};
+ghost use Rattle.vol_tree.specs.Clauses.{is_io};
 ghost use Rattle.vol_tree.specs.internal.Replacing.{replacing};
 
 use crate::Errno;

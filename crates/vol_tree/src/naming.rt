@@ -6,7 +6,7 @@ ghost use Rattle.vol_log.specs.Log.{view, device_of, room_of, has_failed};
 ghost use Rattle.vol_dirs.specs.Names.{Names};
 ghost use Rattle.vol_tree.specs.Tree.{IsDirectory, entry, changed};
 ghost use Rattle.vol_tree.specs.Calls.{unlinked, directory_removed, with_unit, is_file_at};
-ghost use Rattle.vol_tree.specs.Opened.{is_io};
+ghost use Rattle.vol_tree.specs.Clauses.{is_io};
 
 use crate::Errno;
 use crate::parts::Parts;

@@ -16,9 +16,12 @@ ghost use Rattle.vol_tree.specs.Opening.{StandsOn, HoldsOn, NoVolumeOn, HasNoVer
 ghost use Rattle.vol_tree.specs.declared.superblock.Superblock.{Superblock};
 ghost use Rattle.vol_sector.specs.Fault.{is_device, IsDamage};
 ghost use Rattle.vol_tree.specs.Tree.{Tree};
-ghost use Rattle.vol_tree.specs.Opened.{Answers, Tells, TellsBytes, Keeps, ReflectsOr, MayUpgrade};
-ghost use Rattle.vol_tree.specs.Opened.{LeavesAlone, IsSerial, GoesOn};
-ghost use Rattle.vol_tree.specs.Opened.{geometry, is_io, raised};
+ghost use Rattle.vol_tree.specs.Clauses.{Answers, Tells, TellsBytes, MayUpgrade};
+ghost use Rattle.vol_tree.specs.Opened.{Keeps, ReflectsOr};
+ghost use Rattle.vol_tree.specs.Clauses.{LeavesAlone};
+ghost use Rattle.vol_tree.specs.Opened.{IsSerial, GoesOn};
+ghost use Rattle.vol_tree.specs.Clauses.{is_io, raised};
+ghost use Rattle.vol_tree.specs.Opened.{geometry};
 ghost use Rattle.vol_inode.specs.Name.{IsName};
 
 use crate::checking::read_parts;

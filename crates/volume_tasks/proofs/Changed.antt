@@ -8,7 +8,8 @@ use Rattle.vol_tree.specs.declared.errno.Errno.TheVariants as errno
 use Rattle.vol_tree.specs.declared.superblock.Superblock.{Superblock}
 use Rattle.vol_tree.specs.Tree.{Tree, Name, Directory, entry}
 use Rattle.vol_tree.specs.Calls.{created, with_unit}
-use Rattle.vol_tree.specs.Opened.{Opened, Answers, IsSerial, Keeps, ReflectsOr, is_io, GoesOn}
+use Rattle.vol_tree.specs.Clauses.{Answers, is_io}
+use Rattle.vol_tree.specs.Opened.{Opened, IsSerial, Keeps, ReflectsOr, GoesOn}
 use Rattle.vol_tree.proofs.GoingOn.{goes_then}
 use Rattle.path_walk.specs.Paths.{◌>>=◌}
 use Rattle.path_walk.specs.Walk.{Asked, IsEntryOf}

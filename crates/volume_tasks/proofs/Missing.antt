@@ -8,7 +8,8 @@ use Rattle.vol_tree.specs.declared.errno.Errno.TheVariants as errno
 use Rattle.vol_tree.specs.declared.superblock.Superblock.{Superblock}
 use Rattle.vol_tree.specs.Tree.{Tree, Name, Node, Directory, File, Entry, entry, IsDirectory}
 use Rattle.vol_tree.specs.Calls.{directory_at, is_directory, created}
-use Rattle.vol_tree.specs.Opened.{Answers, geometry}
+use Rattle.vol_tree.specs.Clauses.{Answers}
+use Rattle.vol_tree.specs.Opened.{geometry}
 use Rattle.path_walk.specs.Paths.{Reached, Found, Missing, path_read, resolved, slash, wants_directory, ◌>>=◌}
 use Rattle.path_walk.proofs.Walks.{missing_free}
 use Rattle.volume_tasks.specs.Tasks.{begun, begun_at, emptied, reached}

@@ -6,7 +6,8 @@ use Rattle.vol_tree.specs.declared.errno.Errno.{Errno}
 use Rattle.vol_tree.specs.declared.errno.Errno.TheVariants as errno
 use Rattle.vol_tree.specs.Tree.{Tree, IsTree, changed, entry}
 use Rattle.vol_tree.specs.Calls.{parent_at, with_unit}
-use Rattle.vol_tree.specs.Opened.{Opened, Answers, Keeps, ReflectsOr, is_io, GoesOn}
+use Rattle.vol_tree.specs.Clauses.{Answers, is_io}
+use Rattle.vol_tree.specs.Opened.{Opened, Keeps, ReflectsOr, GoesOn}
 use Rattle.vol_tree.proofs.GoingOn.{goes_then}
 use Rattle.path_walk.specs.Paths.{◌>>=◌}
 use Rattle.path_walk.specs.Walk.{Asked}

@@ -6,7 +6,8 @@ use Rattle.vol_tree.specs.declared.superblock.Superblock.{Superblock}
 use Rattle.vol_tree.specs.declared.errno.Errno.{Errno}
 use Rattle.vol_tree.specs.declared.errno.Errno.TheVariants as errno
 use Rattle.vol_tree.specs.Tree.{Tree}
-use Rattle.vol_tree.specs.Opened.{geometry, is_io}
+use Rattle.vol_tree.specs.Clauses.{is_io}
+use Rattle.vol_tree.specs.Opened.{geometry}
 use Rattle.sandbox_words.specs.Request.{Text}
 use Rattle.sandbox_words.specs.declared.request.Change.TheVariants.{Move, Remove}
 use Rattle.volume_archive.proofs.Results.{consumed_begins}

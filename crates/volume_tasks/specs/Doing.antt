@@ -13,7 +13,7 @@ use Rattle.vol_tree.specs.declared.superblock.Superblock.{Superblock}
 use Rattle.vol_tree.specs.Superblock.{IsOlder}
 use Rattle.vol_tree.specs.Tree.{Tree}
 use Rattle.vol_tree.specs.Stands.{StandsAs}
-use Rattle.vol_tree.specs.Opened.{raised}
+use Rattle.vol_tree.specs.Clauses.{raised}
 use Rattle.vol_tree.specs.Opening.{StandsOn, HoldsOn, NoVolumeOn, HasNoVersion, IsDamaged}
 use Rattle.sandbox_words.specs.declared.request.Task.{Task}
 use Rattle.sandbox_words.specs.declared.request.Task.TheVariants.{List as Ls, ListAs as LsAs, Get, Put, PutWhole, Check, Upgrade, Stat, Change as Changing}

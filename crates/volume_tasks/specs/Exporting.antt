@@ -10,7 +10,7 @@ use Rattle.vol_tree.specs.declared.superblock.Superblock.{Superblock}
 use Rattle.vol_tree.specs.declared.errno.Errno.TheVariants as errno
 use Rattle.vol_tree.specs.Tree.{Tree}
 use Rattle.vol_tree.specs.Stands.{StandsAs}
-use Rattle.vol_tree.specs.Opened.{is_io}
+use Rattle.vol_tree.specs.Clauses.{is_io}
 use Rattle.vol_tree.specs.Opening.{StandsOn}
 use Rattle.volume_archive.specs.Export.{Exports, ExportsPart, HasMisfit, RefusesExport}
 use Rattle.volume_archive.specs.Import as archive

@@ -4,7 +4,8 @@ ghost use Rattle.std.specs.Prelude.{◌≡◌, ◌≢◌, true, Ok, None, IfOk, 
 ghost use Rattle.vol_sector.specs.Disk.{Leaves};
 ghost use Rattle.vol_tree.specs.Tree.{changed, is_empty};
 ghost use Rattle.vol_tree.specs.Calls.{parent_at};
-ghost use Rattle.vol_tree.specs.Opened.{Answers, IsSerial, Keeps, GoesOn, ReflectsOr, is_io};
+ghost use Rattle.vol_tree.specs.Clauses.{Answers, is_io};
+ghost use Rattle.vol_tree.specs.Opened.{IsSerial, Keeps, GoesOn, ReflectsOr};
 ghost use Rattle.path_walk.specs.Walk.{Asked, IsEntryOf};
 ghost use Rattle.volume_tasks.specs.Changes.{IsPartOfRemoval, IsThinned, tree_removed, without};
 ghost use Rattle.volume_tasks.specs.internal.Changing.{Applied, IsLeafBelow};

@@ -4,7 +4,8 @@ ghost use Rattle.std.specs.Prelude.{◌≡◌, ◌++◌, Err, IfErr, IfOk, OnOk,
 ghost use Rattle.stream_answers.specs.Hearing.{Moves};
 ghost use Rattle.vol_sector.specs.Disk.{Image, Leaves};
 ghost use Rattle.vol_tree.specs.Stands.{StandsAs};
-ghost use Rattle.vol_tree.specs.Opened.{Keeps, GoesOn, is_io};
+ghost use Rattle.vol_tree.specs.Clauses.{is_io};
+ghost use Rattle.vol_tree.specs.Opened.{Keeps, GoesOn};
 ghost use Rattle.path_walk.specs.Walk.{Asked};
 ghost use Rattle.volume_tasks.specs.Blame.{IsCause, blames_device, is_stream};
 ghost use Rattle.volume_tasks.specs.Changes.{entry_removed};

@@ -3,7 +3,7 @@
 ghost use Rattle.std.specs.Prelude.{◌≡◌, IfOk, false};
 ghost use Rattle.path_walk.specs.Walk.{Asked, GivesBoth, IsEntryOf, IsReached};
 ghost use Rattle.vol_tree.specs.Calls.{directory_at};
-ghost use Rattle.vol_tree.specs.Opened.{is_io};
+ghost use Rattle.vol_tree.specs.Clauses.{is_io};
 ghost use Rattle.volume_tasks.specs.Tasks.{reached, serial_named};
 ghost use Rattle.volume_tasks.specs.Tasks.{entry_named, directory_named, file_named};
 ghost use Rattle.volume_tasks.specs.internal.Reaching.{Answered};

@@ -13,7 +13,8 @@ pub mod removing;
 pub mod renaming;
 
 ghost use Rattle.std.specs.Prelude.{true, ◌≡◌, ◌⊎◌, ◌+◌, ◌≤◌, length, Ok, Err, MatchResult, IfOk, OnOk};
-ghost use Rattle.vol_tree.specs.Opened.{Keeps, is_io};
+ghost use Rattle.vol_tree.specs.Clauses.{is_io};
+ghost use Rattle.vol_tree.specs.Opened.{Keeps};
 ghost use Rattle.wasi_calls.specs.Calls.{Answered};
 ghost use Rattle.wasm_store.specs.Bytes.{bytes_at};
 ghost use Rattle.wasi_fd.specs.Table.{table_of};

@@ -6,7 +6,7 @@ use Rattle.wasm_module.specs.declared.module.FuncType.{FuncType}
 use Rattle.wasm_module.specs.declared.module.Import.{Import}
 use Rattle.wasm_module.specs.declared.module.ImportKind.TheVariants as imports
 use Rattle.wasm_module.specs.declared.module.Module.{Module}
-use Rattle.wasm_module.specs.Instructions.{done, invoke}
+use Rattle.wasm_module.specs.Nested.{done, invoke}
 use Rattle.wasm_steps.specs.Operators.{width}
 use Rattle.wasm_steps.specs.Configuration.{Val, val, numbers, Callee, signature_of, Instance, Store, first_configuration, Code, code, code_of, Configuration, at, store_of, used_by}
 use Rattle.wasm_steps.specs.Steps.{CallsOf, Reach, tick}

@@ -21,7 +21,8 @@ use Rattle.wasm_module.specs.declared.module.Module.{Module}
 use Rattle.wasm_module.specs.Grammar.{Each, Vector, Sized}
 use Rattle.wasm_module.specs.Profile.{TakesType}
 use Rattle.wasm_module.specs.Types.{SpellsValueType, SpellsBlockType, SpellsFuncType}
-use Rattle.wasm_module.specs.Instructions.{Instructions, done, plain, block, loop, if_then, if_else, invoke, flatten, SpellsInstruction, SpellsUpTo, SpellsExpression}
+use Rattle.wasm_module.specs.Nested.{Instructions, done, plain, block, loop, if_then, if_else, invoke, flatten}
+use Rattle.wasm_module.specs.Instructions.{SpellsInstruction, SpellsUpTo, SpellsExpression}
 use Rattle.wasm_module.specs.Sections.{Section, SpellsImportKind, SpellsImport, SpellsGlobal, SpellsElements, SpellsLocals, BodyContent, SpellsData}
 use Rattle.wasm_module.specs.Module.{Sections, SpellsSections, Spells, module_of}
 use Rattle.wasm_module.specs.Floatless.{IsInteger, LeavesIntegers, IsFloatless, AreFloatless, HasIntegers, ImportsIntegers, IsFloatlessGlobal, IsFloatlessBody, HasNoFloat}

@@ -8,7 +8,8 @@ use Rattle.wasm_module.specs.declared.instruction.Instruction.{Instruction}
 use Rattle.wasm_module.specs.declared.instruction.Instruction.TheVariants as op
 use Rattle.wasm_module.specs.declared.open_blocks.OpenBlock.{OpenBlock}
 use Rattle.wasm_module.specs.declared.open_blocks.OpenBlock.TheVariants.{Plain, Conditional}
-use Rattle.wasm_module.specs.Instructions.{Instructions, done, plain, block, loop, if_then, if_else, invoke, IsPlain, flatten, SpellsInstruction, SpellsUpTo, SpellsExpression}
+use Rattle.wasm_module.specs.Nested.{Instructions, done, plain, block, loop, if_then, if_else, invoke, IsPlain, flatten}
+use Rattle.wasm_module.specs.Instructions.{SpellsInstruction, SpellsUpTo, SpellsExpression}
 use Rattle.wasm_module.specs.internal.CodeReading.{instruction_at, after_instruction, code_from, code_at}
 use Rattle.wasm_module.specs.Reading.{◌>>=◌, Reader}
 use Rattle.wasm_module.proofs.Laws.{bind_some, some_is, chosen, Front, Reads}

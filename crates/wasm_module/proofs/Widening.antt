@@ -18,7 +18,8 @@ use Rattle.wasm_module.specs.declared.module.Module.{Module}
 use Rattle.wasm_module.specs.Grammar.{Then, Each, U32, Vector, Sized}
 use Rattle.wasm_module.specs.Profile.{TakesType}
 use Rattle.wasm_module.specs.Types.{SpellsValueType, SpellsBlockType, SpellsFuncType, SpellsGlobalType}
-use Rattle.wasm_module.specs.Instructions.{Instructions, done, plain, block, loop, if_then, if_else, invoke, SpellsOnlyTable, SpellsImmediates, SpellsInstruction, SpellsUpTo, SpellsExpression}
+use Rattle.wasm_module.specs.Nested.{Instructions, done, plain, block, loop, if_then, if_else, invoke}
+use Rattle.wasm_module.specs.Instructions.{SpellsOnlyTable, SpellsImmediates, SpellsInstruction, SpellsUpTo, SpellsExpression}
 use Rattle.wasm_module.specs.Sections.{Section, SpellsImportKind, SpellsImport, SpellsGlobal, SpellsElements, SpellsLocals, BodyContent, SpellsData}
 use Rattle.wasm_module.specs.Module.{Sections, SpellsSections, SpellsParts, Spells, SpellsWith}
 

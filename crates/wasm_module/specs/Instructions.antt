@@ -1,5 +1,4 @@
--- Instructions: as they nest, and how bytes spell them (section 5.4). The decoder keeps a body as one flat list, while
--- typing and steps are stated over nested instructions; `Nests` ties the two.
+-- How bytes spell instructions (section 5.4); as they nest they stand in `Nested`.
 use Rattle.std.specs.Prelude.{◌≡◌, ℕ, ◌+◌, ◌*◌, List, [], ◌∷◌, ◌++◌}
 use Rattle.wasm_module.specs.declared.number.Sign.{Sign}
 use Rattle.wasm_module.specs.declared.number.Sign.TheVariants.{Unsigned, Signed}
@@ -7,7 +6,6 @@ use Rattle.wasm_module.specs.declared.profile.Profile.{Profile}
 use Rattle.wasm_module.specs.declared.profile.Profile.TheVariants.{Integers, Floats}
 use Rattle.wasm_module.specs.declared.instruction.IntegerType.{IntegerType}
 use Rattle.wasm_module.specs.declared.instruction.IntegerType.TheVariants.{I32, I64}
-use Rattle.wasm_module.specs.declared.instruction.BlockType.{BlockType}
 use Rattle.wasm_module.specs.declared.instruction.MemArg.{MemArg}
 use Rattle.wasm_module.specs.declared.accesses.LoadOperator.{LoadOperator}
 use Rattle.wasm_module.specs.declared.accesses.LoadOperator.TheVariants as load
@@ -36,62 +34,7 @@ use Rattle.wasm_module.specs.Grammar.{Byte, Then, U32, Vector, FloatBits}
 use Rattle.wasm_module.specs.Profile.{TakesType}
 use Rattle.wasm_module.specs.Accesses.{load_access, store_access}
 use Rattle.wasm_module.specs.Types.{SpellsBlockType}
-
--- ---- as they nest
-
--- A list of instructions: each constructor but done is an instruction before the rest of its list.
-pub data Instructions : Type 0 where
-  done : Instructions
-  plain : Instruction → Instructions → Instructions
-  block : BlockType → Instructions → Instructions → Instructions
-  loop : BlockType → Instructions → Instructions → Instructions
-  if_then : BlockType → Instructions → Instructions → Instructions
-  if_else : BlockType → Instructions → Instructions → Instructions → Instructions
-  -- a function that is to be entered: no bytes spell it, a call is rewritten to it
-  invoke : ℕ → Instructions → Instructions
-
--- one list of instructions after another
-abbrev pub append : Instructions → Instructions → Instructions
-append done more = more
-append (plain i rest) more = plain i (append rest more)
-append (block t body rest) more = block t body (append rest more)
-append (loop t body rest) more = loop t body (append rest more)
-append (if_then t body rest) more = if_then t body (append rest more)
-append (if_else t body other rest) more = if_else t body other (append rest more)
-append (invoke x rest) more = invoke x (append rest more)
-
--- an instruction that is no part of a block
-abbrev pub IsPlain : Instruction → Type 0
-IsPlain (op.Block t) = ⊥
-IsPlain (op.Loop t) = ⊥
-IsPlain (op.If t) = ⊥
-IsPlain op.Else = ⊥
-IsPlain op.End = ⊥
-IsPlain i = Unit {0}
-
--- the instructions one after the other; last is the one that ends them
-abbrev pub flatten : Instruction → Instructions → List Instruction
-flatten last done = last ∷ []
-flatten last (plain i rest) = i ∷ flatten last rest
-flatten last (block t body rest) = op.Block t ∷ flatten op.End body ++ flatten last rest
-flatten last (loop t body rest) = op.Loop t ∷ flatten op.End body ++ flatten last rest
-flatten last (if_then t body rest) = op.If t ∷ flatten op.End body ++ flatten last rest
-flatten last (if_else t body other rest) = op.If t ∷ flatten op.Else body ++ flatten op.End other ++ flatten last rest
-flatten last (invoke x rest) = flatten last rest
-
--- what bytes can spell: plain instructions are plain, and no function is to be entered
-abbrev pub IsWritten : Instructions → Type 0
-IsWritten done = Unit {0}
-IsWritten (plain i rest) = IsPlain i × IsWritten rest
-IsWritten (block t body rest) = IsWritten body × IsWritten rest
-IsWritten (loop t body rest) = IsWritten body × IsWritten rest
-IsWritten (if_then t body rest) = IsWritten body × IsWritten rest
-IsWritten (if_else t body other rest) = IsWritten body × IsWritten other × IsWritten rest
-IsWritten (invoke x rest) = ⊥
-
--- decoded instructions, as they nest
-abbrev pub Nests : List Instruction → Instructions → Type 0
-Nests flat code = IsWritten code × (flatten op.End code ≡ flat)
+pub use Rattle.wasm_module.specs.Nested.{Instructions, done, plain, block, loop, if_then, if_else, invoke, append, IsPlain, flatten, IsWritten, Nests}
 
 -- ---- as they are spelled
 

@@ -5,8 +5,10 @@
 pub mod Number
 pub mod Grammar
 pub mod Profile
+pub mod ValueTypes
 pub mod Types
 pub mod Accesses
+pub mod Nested
 pub mod Instructions
 pub mod Sections
 pub mod Module

@@ -1,29 +1,16 @@
 -- The spellings of types and limits (section 5.3), by a profile: which bytes spell which type that the decoder returns. The profile's limit on the elements that a table begins with stands here, too (`SpellsTable`).
 use Rattle.std.specs.Prelude.{◌≡◌, ℕ, ◌≤◌, List, [], ◌∷◌, Option, Some, None, Bool, true, false}
 use Rattle.wasm_module.specs.declared.profile.Profile.{Profile}
-use Rattle.wasm_module.specs.declared.profile.Profile.TheVariants.{Integers, Floats}
+use Rattle.wasm_module.specs.declared.profile.Profile.TheVariants.{Floats}
 use Rattle.wasm_module.specs.declared.instruction.ValueType.{ValueType}
 use Rattle.wasm_module.specs.declared.instruction.ValueType.TheVariants.{I32, I64, F32, F64}
-use Rattle.wasm_module.specs.declared.instruction.IntegerType.{IntegerType}
-use Rattle.wasm_module.specs.declared.instruction.IntegerType.TheVariants as int
-use Rattle.wasm_module.specs.declared.instruction.FloatType.{FloatType}
-use Rattle.wasm_module.specs.declared.instruction.FloatType.TheVariants as float_type
 use Rattle.wasm_module.specs.declared.instruction.BlockType.{BlockType}
 use Rattle.wasm_module.specs.declared.instruction.BlockType.TheVariants.{Empty, Value}
 use Rattle.wasm_module.specs.declared.module.FuncType.{FuncType}
 use Rattle.wasm_module.specs.declared.module.Limits.{Limits}
 use Rattle.wasm_module.specs.declared.module.GlobalType.{GlobalType}
 use Rattle.wasm_module.specs.Grammar.{Byte, Then, U32, Vector}
-
--- an integer type as a type of values (section 2.3.1)
-abbrev pub integer : IntegerType → ValueType
-integer int.I32 = I32
-integer int.I64 = I64
-
--- a type of floats as a type of values
-abbrev pub float : FloatType → ValueType
-float float_type.F32 = F32
-float float_type.F64 = F64
+pub use Rattle.wasm_module.specs.ValueTypes.{integer, float}
 
 -- section 5.3.1
 abbrev pub SpellsValueType : Profile → List ℕ → ValueType → Type 0

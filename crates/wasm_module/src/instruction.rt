@@ -25,7 +25,7 @@ pub enum IntegerType {
 
 impl IntegerType {
     ghost use Rattle.std.specs.Prelude.{◌≡◌};
-    ghost use Rattle.wasm_module.specs.Types.{integer};
+    ghost use Rattle.wasm_module.specs.ValueTypes.{integer};
 
     /// The type of the values that are such integers.
     pub fn value_type(self) -> ValueType
@@ -47,7 +47,7 @@ pub enum FloatType {
 
 impl FloatType {
     ghost use Rattle.std.specs.Prelude.{◌≡◌};
-    ghost use Rattle.wasm_module.specs.Types.{float};
+    ghost use Rattle.wasm_module.specs.ValueTypes.{float};
 
     /// The type of the values that are such floats.
     pub fn value_type(self) -> ValueType

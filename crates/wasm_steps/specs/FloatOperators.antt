@@ -16,7 +16,7 @@ use Rattle.wasm_module.specs.declared.instruction.FloatBinaryOperator.{FloatBina
 use Rattle.wasm_module.specs.declared.instruction.FloatBinaryOperator.TheVariants.{Add, Sub, Mul, Div, Min, Max, Copysign}
 use Rattle.wasm_module.specs.declared.instruction.FloatOperator.{FloatOperator}
 use Rattle.wasm_module.specs.declared.instruction.FloatOperator.TheVariants as float_op
-use Rattle.wasm_module.specs.Types.{integer}
+use Rattle.wasm_module.specs.ValueTypes.{integer}
 use Rattle.wasm_num.specs.declared.trap.Trap.{Trap}
 use Rattle.wasm_num.specs.declared.trap.Trap.TheVariants.{InvalidConversion, IntegerOverflow}
 use Rattle.wasm_num.specs.Numbers.{signed, wrapped, bool_number}

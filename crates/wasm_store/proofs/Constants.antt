@@ -10,7 +10,8 @@ use Rattle.wasm_module.specs.declared.module.GlobalType.{GlobalType}
 use Rattle.wasm_module.specs.declared.module.GlobalEntry.{GlobalEntry}
 use Rattle.wasm_module.specs.declared.module.Import.{Import}
 use Rattle.wasm_module.specs.declared.module.Module.{Module}
-use Rattle.wasm_valid.specs.Validity.{IsValid, imported_global, kinds_of, IsConstant}
+use Rattle.wasm_valid.specs.Spaces.{imported_global, kinds_of}
+use Rattle.wasm_valid.specs.Validity.{IsValid, IsConstant}
 use Rattle.wasm_store.specs.Values.{Val, val, number_of, numbers, IsInType}
 use Rattle.wasm_store.specs.Instantiation.{constant_value, segment_start, AreFirst}
 use Rattle.wasm_store.specs.internal.Finding.{IsNarrow, IsFunction, ImportsFunctions, HaveFirst}

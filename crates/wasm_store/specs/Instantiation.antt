@@ -17,8 +17,8 @@ use Rattle.wasm_module.specs.declared.module.ElementSegment.{ElementSegment}
 use Rattle.wasm_module.specs.declared.module.Body.{Body}
 use Rattle.wasm_module.specs.declared.module.DataSegment.{DataSegment}
 use Rattle.wasm_module.specs.declared.module.Module.{Module}
-use Rattle.wasm_module.specs.Instructions.{Instructions, Nests}
-use Rattle.wasm_valid.specs.Validity.{functions_of, local_types}
+use Rattle.wasm_module.specs.Nested.{Instructions, Nests}
+use Rattle.wasm_valid.specs.Spaces.{functions_of, local_types}
 use Rattle.wasm_store.specs.declared.call.HostCall.{HostCall}
 use Rattle.wasm_store.specs.declared.fault.InstanceFault.{InstanceFault}
 use Rattle.wasm_store.specs.declared.fault.InstanceFault.TheVariants as faults

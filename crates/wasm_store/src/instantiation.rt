@@ -2,7 +2,8 @@
 
 ghost use Rattle.std.specs.Prelude.{◌≡◌, ◌⊎◌, ℕ, List, ◌∷◌, ◌+◌, ◌*◌, ◌^◌, ◌<◌, ◌≤◌, Some, None, length, replicate, slice_get, IfOk, IfErr, IfSome, IfNone};
 ghost use Rattle.std.specs.Bool.{OnTrue, OnFalse};
-ghost use Rattle.wasm_valid.specs.Validity.{IsValid, functions_of, ExportFits};
+ghost use Rattle.wasm_valid.specs.Spaces.{functions_of};
+ghost use Rattle.wasm_valid.specs.Validity.{IsValid, ExportFits};
 ghost use Rattle.wasm_store.specs.Values.{Val, numbers};
 ghost use Rattle.std.specs.Option.{option_map};
 ghost use Rattle.wasm_store.specs.Instantiation.{IsExportedAs, AreFirst, minimum, page_limit as limit_of, segment_start, ElementsInside, ElementsOutside, DataInside, DataOutside, with_elements, with_data, RefusedFor};

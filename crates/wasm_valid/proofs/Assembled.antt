@@ -16,7 +16,8 @@ use Rattle.wasm_module.specs.declared.module.DataSegment.{DataSegment}
 use Rattle.wasm_module.specs.declared.module.Module.{Module}
 use Rattle.wasm_valid.specs.declared.module_context.ModuleContext.{ModuleContext}
 use Rattle.wasm_valid.specs.Typing.{Context}
-use Rattle.wasm_valid.specs.Validity.{imported_global, kinds_of, functions_of, tables_of, memories_of, globals_of, has_any, AreTypesAt, IsContext, IsConstant, FunctionsTyped, ExportFits, DataFits, LimitsFit, ElementsFit, IsValid}
+use Rattle.wasm_valid.specs.Spaces.{imported_global, kinds_of, functions_of, tables_of, memories_of, globals_of}
+use Rattle.wasm_valid.specs.Validity.{has_any, AreTypesAt, IsContext, IsConstant, FunctionsTyped, ExportFits, DataFits, LimitsFit, ElementsFit, IsValid}
 use Rattle.wasm_valid.specs.internal.Answers.{Decides}
 use Rattle.wasm_valid.specs.internal.Rules.{IsConstantInstruction, TypesFit, LimitsHold, GlobalsHold, ListsFit, StartFits, IsWithin, ElementsHold, DataHolds, counts_of}
 use Rattle.wasm_valid.specs.internal.Contexts.{IsModuleContext, IsModuleContextOf}

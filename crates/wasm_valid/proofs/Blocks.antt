@@ -8,10 +8,11 @@ use Rattle.wasm_module.specs.declared.instruction.BlockType.{BlockType}
 use Rattle.wasm_module.specs.declared.instruction.BlockType.TheVariants.{Empty, Value}
 use Rattle.wasm_module.specs.declared.instruction.Instruction.{Instruction}
 use Rattle.wasm_module.specs.declared.instruction.Instruction.TheVariants as op
-use Rattle.wasm_module.specs.Instructions.{Instructions, done, plain, block, loop, if_then, if_else, invoke, IsPlain, IsWritten, flatten}
+use Rattle.wasm_module.specs.Nested.{Instructions, done, plain, block, loop, if_then, if_else, invoke, IsPlain, IsWritten, flatten}
 use Rattle.wasm_valid.specs.declared.control_frames.BlockKind.{BlockKind}
 use Rattle.wasm_valid.specs.declared.control_frames.BlockKind.TheVariants.{Block, Loop, If}
-use Rattle.wasm_valid.specs.Typing.{Context, Labels, OpTyped, Typed, results_of}
+use Rattle.wasm_valid.specs.Arities.{results_of}
+use Rattle.wasm_valid.specs.Typing.{Context, Labels, OpTyped, Typed}
 use Rattle.wasm_valid.specs.internal.Stack.{Stack, nothing, if_true, pop, push, can_be}
 use Rattle.wasm_valid.specs.internal.Effects.{after}
 use Rattle.wasm_valid.specs.internal.Blocks.{OpenBlock, label_of, labels_of, new_block, with_stack, may_end, ends, is_if, ended, elsed, on_stack, opened_in, stepped, is_finished}

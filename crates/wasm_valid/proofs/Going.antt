@@ -9,11 +9,13 @@ use Rattle.wasm_module.specs.declared.instruction.Instruction.{Instruction}
 use Rattle.wasm_module.specs.declared.instruction.Instruction.TheVariants as op
 use Rattle.wasm_module.specs.declared.module.FuncType.{FuncType}
 use Rattle.wasm_module.specs.declared.module.Body.{Body}
-use Rattle.wasm_module.specs.Instructions.{Instructions, done, plain, block, loop, if_then, if_else, invoke, flatten}
+use Rattle.wasm_module.specs.Nested.{Instructions, done, plain, block, loop, if_then, if_else, invoke, flatten}
 use Rattle.wasm_valid.specs.declared.control_frames.BlockKind.TheVariants.{Block}
 use Rattle.wasm_valid.specs.declared.function_context.FunctionContext.{FunctionContext}
-use Rattle.wasm_valid.specs.Typing.{Context, Typed, results_of}
-use Rattle.wasm_valid.specs.Validity.{FunctionTyped, local_types}
+use Rattle.wasm_valid.specs.Arities.{results_of}
+use Rattle.wasm_valid.specs.Typing.{Context, Typed}
+use Rattle.wasm_valid.specs.Spaces.{local_types}
+use Rattle.wasm_valid.specs.Validity.{FunctionTyped}
 use Rattle.wasm_valid.specs.internal.Blocks.{OpenBlock, new_block, stepped, is_finished}
 use Rattle.wasm_valid.specs.internal.Bodies.{Going, BodyTyped}
 use Rattle.wasm_valid.specs.internal.Operands.{StepsTo}

@@ -25,8 +25,9 @@ use Rattle.wasm_module.specs.declared.module.GlobalType.{GlobalType}
 use Rattle.wasm_valid.specs.declared.effects.Takes.{Takes}
 use Rattle.wasm_valid.specs.declared.effects.Takes.TheVariants.{Nothing, One, Two, Three}
 use Rattle.wasm_valid.specs.declared.effects.MemoryEffect.{MemoryEffect}
-use Rattle.wasm_module.specs.Types.{integer, float}
-use Rattle.wasm_valid.specs.Typing.{Context, Labels, Moves, Leaves, Loads, Stores, IsOperator, as_wide, float_takes, float_gives, OpTyped, results_of}
+use Rattle.wasm_module.specs.ValueTypes.{integer, float}
+use Rattle.wasm_valid.specs.Arities.{as_wide, float_takes, float_gives, results_of}
+use Rattle.wasm_valid.specs.Typing.{Context, Labels, Moves, Leaves, Loads, Stores, IsOperator, OpTyped}
 use Rattle.wasm_valid.specs.internal.Stack.{Stack, if_true, when, is_same, pop, pops, push, moved, left}
 use Rattle.wasm_valid.specs.internal.Effects.{taken, effect, access, load, store, access_of, is_operator, float_operands, numeric_effect, accessed, variable_effect, applied, are_same, keeps, all_keep, table_label, called, called_indirect, after}
 use Rattle.wasm_valid.proofs.Fitting.{ComputesTyping, ComputesTyping-same, ComputesTyping-is, ComputesTyping-with, ComputesTyping-when, ComputesTyping-never, moved_walks, left_walks, unreachable_walks, dropped_walks, selected_walks, is_same_true, is_same_same, and_then_some, if_true_some}

@@ -10,7 +10,7 @@ use Rattle.std.proofs.lemmas.Bool.{false≢true}
 use Rattle.wasm_module.specs.declared.instruction.ValueType.{ValueType}
 use Rattle.wasm_module.specs.declared.instruction.BlockType.{BlockType}
 use Rattle.wasm_valid.specs.declared.control_frames.ControlFrame.{ControlFrame}
-use Rattle.wasm_valid.specs.Typing.{results_of}
+use Rattle.wasm_valid.specs.Arities.{results_of}
 use Rattle.wasm_valid.specs.internal.Stack.{is_nil}
 use Rattle.wasm_valid.specs.internal.Blocks.{label_of}
 

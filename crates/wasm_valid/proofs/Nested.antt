@@ -10,7 +10,8 @@ use Rattle.wasm_module.specs.declared.instruction.Instruction.{Instruction}
 use Rattle.wasm_valid.specs.declared.control_frames.ControlFrame.{ControlFrame}
 use Rattle.wasm_valid.specs.declared.control_frames.BlockKind.{BlockKind}
 use Rattle.wasm_valid.specs.declared.control_frames.BlockKind.TheVariants.{Block}
-use Rattle.wasm_valid.specs.Typing.{Context, Labels, results_of}
+use Rattle.wasm_valid.specs.Arities.{results_of}
+use Rattle.wasm_valid.specs.Typing.{Context, Labels}
 use Rattle.wasm_valid.specs.internal.Stack.{Stack, nothing, pop, push, can_be, if_true}
 use Rattle.wasm_valid.specs.internal.Effects.{after}
 use Rattle.wasm_valid.specs.internal.Blocks.{OpenBlock, label_of, labels_of, new_block, with_stack, may_end, ends, is_if, on_stack, opened_in, popped_in, ended_in, elsed_in, plain_in, is_finished}

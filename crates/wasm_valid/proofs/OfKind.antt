@@ -3,7 +3,7 @@ use Rattle.std.proofs.Common.{◌≡◌, List, [], ◌∷◌, Option, refl, ap}
 use Rattle.std.specs.List.{filter_map, cons_option}
 use Rattle.wasm_module.specs.declared.module.Import.{Import}
 use Rattle.wasm_module.specs.declared.module.ImportKind.{ImportKind}
-use Rattle.wasm_valid.specs.Validity.{kinds_of}
+use Rattle.wasm_valid.specs.Spaces.{kinds_of}
 
 -- told by the kinds, or by the imports
 pub of_kind : {X : Type 0} (f : ImportKind → Option X) (is : List Import) → filter_map (λ i. f i.kind) is ≡ filter_map f (kinds_of is)

@@ -1,19 +1,14 @@
 -- Which instructions take which types from the stack, and leave which (section 3.3). The type on top comes first.
-use Rattle.std.specs.Prelude.{◌≡◌, ℕ, ◌^◌, ◌≤◌, List, [], ◌∷◌, ◌++◌, Some, Bool, true, slice_get, reverse, length}
+use Rattle.std.specs.Prelude.{◌≡◌, ◌^◌, ◌≤◌, List, [], ◌∷◌, ◌++◌, Some, Bool, true, slice_get, reverse}
 use Rattle.std.specs.List.{AllByRecursion}
 use Rattle.wasm_module.specs.declared.instruction.ValueType.{ValueType}
 use Rattle.wasm_module.specs.declared.instruction.ValueType.TheVariants.{I32, I64, F32, F64}
 use Rattle.wasm_module.specs.declared.instruction.IntegerType.{IntegerType}
 use Rattle.wasm_module.specs.declared.instruction.IntegerType.TheVariants as int
-use Rattle.wasm_module.specs.declared.instruction.FloatType.{FloatType}
-use Rattle.wasm_module.specs.declared.instruction.FloatType.TheVariants as float_type
-use Rattle.wasm_module.specs.declared.instruction.FloatOperator.{FloatOperator}
-use Rattle.wasm_module.specs.declared.instruction.FloatOperator.TheVariants as float_op
-use Rattle.wasm_module.specs.declared.instruction.BlockType.{BlockType}
-use Rattle.wasm_module.specs.declared.instruction.BlockType.TheVariants.{Empty, Value}
+use Rattle.wasm_module.specs.declared.instruction.BlockType.TheVariants.{Empty}
 use Rattle.wasm_module.specs.declared.instruction.MemArg.{MemArg}
 use Rattle.wasm_module.specs.declared.accesses.Access.{Access}
-use Rattle.wasm_module.specs.Types.{integer, float}
+use Rattle.wasm_module.specs.ValueTypes.{integer}
 use Rattle.wasm_module.specs.Accesses.{load_access, store_access}
 use Rattle.wasm_module.specs.declared.instruction.UnaryOperator.{UnaryOperator}
 use Rattle.wasm_module.specs.declared.instruction.UnaryOperator.TheVariants.{Extend32S}
@@ -21,7 +16,8 @@ use Rattle.wasm_module.specs.declared.instruction.Instruction.{Instruction}
 use Rattle.wasm_module.specs.declared.instruction.Instruction.TheVariants as op
 use Rattle.wasm_module.specs.declared.module.FuncType.{FuncType}
 use Rattle.wasm_module.specs.declared.module.GlobalType.{GlobalType}
-use Rattle.wasm_module.specs.Instructions.{Instructions, done, plain, block, loop, if_then, if_else, invoke}
+use Rattle.wasm_module.specs.Nested.{Instructions, done, plain, block, loop, if_then, if_else, invoke}
+pub use Rattle.wasm_valid.specs.Arities.{results_of, arity, as_wide, float_takes, float_gives}
 
 -- what instructions are typed in (section 3.1.1): functions and globals with the imported ones first
 pub record Context : Type 0 where
@@ -37,15 +33,6 @@ pub record Context : Type 0 where
 -- the labels around, the innermost first, each by the types that a branch to it keeps
 abbrev pub Labels : Type 0
 Labels = List (List ValueType)
-
--- what a block leaves
-abbrev pub results_of : BlockType → List ValueType
-results_of Empty = []
-results_of (Value t) = t ∷ []
-
--- how many values a block leaves
-abbrev pub arity : BlockType → ℕ
-arity t = length (results_of t)
 
 -- takes and leaves these types, above any others
 abbrev pub Moves : List ValueType → List ValueType → List ValueType → List ValueType → Type 0
@@ -66,36 +53,6 @@ Stores c n m a b = (c.has_memory ≡ true) × (2 ^ m.align ≤ 2 ^ n.width) × M
 abbrev pub IsOperator : IntegerType → UnaryOperator → Type 0
 IsOperator int.I32 Extend32S = ⊥
 IsOperator t o = Unit {0}
-
--- the integers that have as many bits as these floats
-abbrev pub as_wide : FloatType → IntegerType
-as_wide float_type.F32 = int.I32
-as_wide float_type.F64 = int.I64
-
--- what an operator on floats takes, the one on top first, and what it gives
-abbrev pub float_takes : FloatOperator → List ValueType
-float_takes (float_op.Compare f o) = float f ∷ float f ∷ []
-float_takes (float_op.Unary f o) = float f ∷ []
-float_takes (float_op.Binary f o) = float f ∷ float f ∷ []
-float_takes (float_op.Truncate t f s) = float f ∷ []
-float_takes (float_op.Saturate t f s) = float f ∷ []
-float_takes (float_op.Convert f t s) = integer t ∷ []
-float_takes float_op.Demote = F64 ∷ []
-float_takes float_op.Promote = F32 ∷ []
-float_takes (float_op.ToBits f) = float f ∷ []
-float_takes (float_op.FromBits f) = integer (as_wide f) ∷ []
-
-abbrev pub float_gives : FloatOperator → ValueType
-float_gives (float_op.Compare f o) = I32
-float_gives (float_op.Unary f o) = float f
-float_gives (float_op.Binary f o) = float f
-float_gives (float_op.Truncate t f s) = integer t
-float_gives (float_op.Saturate t f s) = integer t
-float_gives (float_op.Convert f t s) = float f
-float_gives float_op.Demote = F32
-float_gives float_op.Promote = F64
-float_gives (float_op.ToBits f) = integer (as_wide f)
-float_gives (float_op.FromBits f) = float f
 
 -- an instruction of type [a] -> [b] (sections 3.3.1 to 3.3.5)
 abbrev pub OpTyped : Context → Labels → Instruction → List ValueType → List ValueType → Type 0

@@ -1,7 +1,7 @@
 -- Which modules are valid (section 3.4), cut to the profile. `IsValid` is the whole; the invariant of `Valid` carries
 -- it, so no later crate asks again.
-use Rattle.std.specs.Prelude.{◌≡◌, ◌≢◌, ℕ, ◌<◌, ◌≤◌, ◌^◌, ◌⊎◌, List, [], ◌∷◌, ◌++◌, Option, Some, None, Bool, true, false, slice_get, length, map, replicate, IfSome}
-use Rattle.std.specs.List.{AllByRecursion, flat_map, filter_map}
+use Rattle.std.specs.Prelude.{◌≡◌, ◌≢◌, ℕ, ◌<◌, ◌≤◌, ◌^◌, ◌⊎◌, List, [], ◌∷◌, ◌++◌, Some, Bool, true, false, slice_get, length, map, IfSome}
+use Rattle.std.specs.List.{AllByRecursion, filter_map}
 use Rattle.wasm_module.specs.declared.instruction.ValueType.{ValueType}
 use Rattle.wasm_module.specs.declared.instruction.ValueType.TheVariants.{I32, I64, F32, F64}
 use Rattle.wasm_module.specs.declared.instruction.Instruction.{Instruction}
@@ -9,53 +9,17 @@ use Rattle.wasm_module.specs.declared.instruction.Instruction.TheVariants as op
 use Rattle.wasm_module.specs.declared.module.FuncType.{FuncType}
 use Rattle.wasm_module.specs.declared.module.Limits.{Limits}
 use Rattle.wasm_module.specs.declared.module.GlobalType.{GlobalType}
-use Rattle.wasm_module.specs.declared.module.ImportKind.{ImportKind}
-use Rattle.wasm_module.specs.declared.module.ImportKind.TheVariants as imported
-use Rattle.wasm_module.specs.declared.module.Import.{Import}
 use Rattle.wasm_module.specs.declared.module.ExportKind.{ExportKind}
 use Rattle.wasm_module.specs.declared.module.ExportKind.TheVariants as exported
 use Rattle.wasm_module.specs.declared.module.ElementSegment.{ElementSegment}
-use Rattle.wasm_module.specs.declared.module.Locals.{Locals}
 use Rattle.wasm_module.specs.declared.module.Body.{Body}
 use Rattle.wasm_module.specs.declared.module.DataSegment.{DataSegment}
 use Rattle.wasm_module.specs.declared.module.Module.{Module}
-use Rattle.wasm_module.specs.Instructions.{Instructions, Nests}
+use Rattle.wasm_module.specs.Nested.{Instructions, Nests}
 use Rattle.wasm_valid.specs.Typing.{Context, Typed}
+pub use Rattle.wasm_valid.specs.Spaces.{imported_function, imported_table, imported_memory, imported_global, kinds_of, functions_of, tables_of, memories_of, globals_of, local_types}
 
 -- ---- what the module's parts are typed in
-
--- of the imports, those of one kind
-abbrev pub imported_function : ImportKind → Option ℕ
-imported_function (imported.Function x) = Some x
-imported_function k = None
-
-abbrev pub imported_table : ImportKind → Option Limits
-imported_table (imported.Table l) = Some l
-imported_table k = None
-
-abbrev pub imported_memory : ImportKind → Option Limits
-imported_memory (imported.Memory l) = Some l
-imported_memory k = None
-
-abbrev pub imported_global : ImportKind → Option GlobalType
-imported_global (imported.Global g) = Some g
-imported_global k = None
-
-abbrev pub kinds_of : List Import → List ImportKind
-kinds_of is = map (λ i. i.kind) is
-
--- all of one kind, the imported ones first
-abbrev pub functions_of : Module → List ℕ
-functions_of m = filter_map imported_function (kinds_of m.imports) ++ m.functions
-
-abbrev pub tables_of : Module → List Limits
-tables_of m = filter_map imported_table (kinds_of m.imports) ++ m.tables
-
-abbrev pub memories_of : Module → List Limits
-memories_of m = filter_map imported_memory (kinds_of m.imports) ++ m.memories
-
-abbrev pub globals_of : Module → List GlobalType
-globals_of m = filter_map imported_global (kinds_of m.imports) ++ map (λ g. g.global_type) m.globals
 
 -- whether there is one
 abbrev pub has_any : {A : Type 0} → List A → Bool
@@ -79,10 +43,6 @@ pub record IsContext (m : Module) (c : Context) : Type 0 where
   pub returns : c.returns ≡ []
 
 -- ---- the rules
-
--- the locals of a body, group by group
-abbrev pub local_types : List Locals → List ValueType
-local_types ls = flat_map (λ l. replicate l.count l.value_type) ls
 
 -- a function (section 3.4.1): its body's instructions nest, and have the type of the function's results
 abbrev pub FunctionTyped : Context → FuncType → Body → Type 0

@@ -1,7 +1,7 @@
 //! The blocks that are open while a body is walked.
 
 ghost use Rattle.std.specs.Prelude.{◌≡◌};
-ghost use Rattle.wasm_valid.specs.Typing.{results_of};
+ghost use Rattle.wasm_valid.specs.Arities.{results_of};
 ghost use Rattle.wasm_valid.specs.internal.Blocks.{label_of};
 
 use std::alloc::{AllocError, Global};
@@ -64,7 +64,7 @@ impl Model for ControlFrames {
 impl ControlFrames {
     ghost use Rattle.std.specs.Prelude.{◌≡◌, ◌<◌, [], ◌∷◌, length, drop, slice_get, MatchOption, IfOk, OnErr};
     ghost use Rattle.std.specs.Option.{option_map};
-    ghost use Rattle.wasm_valid.specs.Typing.{results_of};
+    ghost use Rattle.wasm_valid.specs.Arities.{results_of};
     ghost use Rattle.wasm_valid.specs.internal.Operands.{control_frame_labels};
 
     pub fn new(alloc: Global) -> ControlFrames

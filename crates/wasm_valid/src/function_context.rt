@@ -2,7 +2,8 @@
 
 ghost use Rattle.std.specs.Prelude.{◌≡◌, ◌≤◌, ◌&&◌, length, nat_le, slice_get, IfSome};
 ghost use Rattle.std.specs.Option.{option_copied};
-ghost use Rattle.wasm_valid.specs.Typing.{Context, results_of};
+ghost use Rattle.wasm_valid.specs.Arities.{results_of};
+ghost use Rattle.wasm_valid.specs.Typing.{Context};
 ghost use Rattle.wasm_valid.specs.internal.Stack.{if_true};
 ghost use Rattle.wasm_valid.specs.internal.Effects.{variable_effect};
 

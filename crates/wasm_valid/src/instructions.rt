@@ -3,7 +3,8 @@
 ghost use Rattle.std.specs.Prelude.{◌≡◌, slice_get, IfOk, ◌∷◌, []};
 ghost use Rattle.std.specs.Option.{option_map, option_and_then};
 ghost use Rattle.wasm_module.specs.declared.instruction.ValueType.TheVariants.{I32};
-ghost use Rattle.wasm_valid.specs.Typing.{Context, results_of};
+ghost use Rattle.wasm_valid.specs.Arities.{results_of};
+ghost use Rattle.wasm_valid.specs.Typing.{Context};
 ghost use Rattle.wasm_valid.specs.internal.Stack.{when, left, moved};
 ghost use Rattle.wasm_valid.specs.internal.Effects.{taken, keeps, table_label, called, called_indirect, variable_effect, applied, after};
 ghost use Rattle.wasm_valid.specs.internal.Operands.{control_frame_labels, StepsTo};

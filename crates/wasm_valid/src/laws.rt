@@ -2,7 +2,7 @@
 
 ghost use Rattle.std.specs.Prelude.{◌↔◌, List};
 ghost use Rattle.wasm_module.specs.declared.instruction.ValueType.{ValueType};
-ghost use Rattle.wasm_module.specs.Instructions.{Instructions};
+ghost use Rattle.wasm_module.specs.Nested.{Instructions};
 ghost use Rattle.wasm_valid.specs.Typing.{Context, Labels, Typed};
 ghost use Rattle.wasm_valid.specs.Standard.{HasType};
 

@@ -19,7 +19,7 @@ pub struct LocalTypes<'m> {
 impl<'m> Model for LocalTypes<'m> {
     ghost use Rattle.std.specs.Prelude.{◌≡◌, List, ◌++◌, length};
     ghost use Rattle.wasm_module.specs.declared.instruction.ValueType.{ValueType as ValueTypeValue};
-    ghost use Rattle.wasm_valid.specs.Validity.{local_types};
+    ghost use Rattle.wasm_valid.specs.Spaces.{local_types};
     ghost use Rattle.wasm_valid.specs.internal.Ends.{ends_from};
 
     ghost Value = { List ValueTypeValue };
@@ -31,7 +31,7 @@ impl<'m> Model for LocalTypes<'m> {
 
 impl<'m> LocalTypes<'m> {
     ghost use Rattle.std.specs.Prelude.{◌++◌};
-    ghost use Rattle.wasm_valid.specs.Validity.{local_types};
+    ghost use Rattle.wasm_valid.specs.Spaces.{local_types};
 
     /// The locals of a function with these parameters.
     pub fn new(

@@ -43,7 +43,7 @@ fn meet(first: Option<ValueType>, second: Option<ValueType>) -> Option<Option<Va
 
 impl OperandStack {
     ghost use Rattle.std.specs.Prelude.{◌≡◌, ◌≤◌, List, [], ◌∷◌, ◌++◌, length, reverse, take, MatchOption, IfOk, Some, None};
-    ghost use Rattle.wasm_valid.specs.Typing.{results_of};
+    ghost use Rattle.wasm_valid.specs.Arities.{results_of};
     ghost use Rattle.wasm_valid.specs.internal.Stack.{nothing, anything, pop_any, pop, pops, push_any, push, moved, left, selected, dropped, is_nil, can_be};
     ghost use Rattle.wasm_valid.specs.internal.Effects.{taken};
     ghost use Rattle.wasm_valid.specs.internal.Operands.{operands, split_at, StepsTo};

@@ -2,7 +2,8 @@
 
 ghost use Rattle.std.specs.Prelude.{◌≡◌, ◌≢◌, IfOk, IfErr, IsTrue, length};
 ghost use Rattle.wasm_valid.specs.Typing.{Context};
-ghost use Rattle.wasm_valid.specs.Validity.{IsValid, FunctionsTyped, has_any, tables_of, memories_of};
+ghost use Rattle.wasm_valid.specs.Spaces.{tables_of, memories_of};
+ghost use Rattle.wasm_valid.specs.Validity.{IsValid, FunctionsTyped, has_any};
 ghost use Rattle.wasm_valid.specs.Refusal.{IsRefusal};
 ghost use Rattle.wasm_valid.specs.internal.Answers.{Decides};
 ghost use Rattle.wasm_valid.specs.internal.Bodies.{BodyTyped};

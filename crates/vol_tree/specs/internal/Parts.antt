@@ -16,7 +16,7 @@ use Rattle.vol_tree.specs.declared.parts.Parts.{Parts}
 use Rattle.vol_tree.specs.Superblock.{superblock, HasRanges}
 use Rattle.vol_tree.specs.Space.{space}
 use Rattle.vol_tree.specs.Stands.{Slots, IsVolume}
-use Rattle.vol_tree.specs.Opened.{slots_in, tree_in}
+use Rattle.vol_tree.specs.Clauses.{slots_in, tree_in}
 use Rattle.vol_log.specs.declared.layout.TheConstants.{FIRST_AFTER_LOG}
 
 -- the content is that of a volume, but for its first sector

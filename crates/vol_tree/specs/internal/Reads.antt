@@ -19,7 +19,8 @@ use Rattle.vol_tree.specs.declared.reading.Entries.{Entries}
 use Rattle.vol_tree.specs.Superblock.{HasRanges}
 use Rattle.vol_tree.specs.Stands.{slot}
 use Rattle.vol_tree.specs.Space.{space}
-use Rattle.vol_tree.specs.Opened.{slots_in, tree_in, data_sectors}
+use Rattle.vol_tree.specs.Clauses.{slots_in, tree_in}
+use Rattle.vol_tree.specs.Opened.{data_sectors}
 use Rattle.vol_tree.specs.internal.Parts.{IsContent, AreTaken}
 use Rattle.vol_tree.specs.internal.Climbs.{AllLeadUp, AllLeadUpSoon, StandInDirectories}
 use Rattle.vol_tree.specs.internal.Replacing.{kind_is_directory}

@@ -10,7 +10,8 @@ use Rattle.vol_tree.specs.declared.superblock.Superblock.{Superblock}
 use Rattle.vol_tree.specs.declared.parts.Parts.{Parts}
 use Rattle.vol_tree.specs.Tree as tree
 use Rattle.vol_tree.specs.Tree.{changed}
-use Rattle.vol_tree.specs.Opened.{slots_in, tree_in, ReflectsOr, Keeps, GoesOn}
+use Rattle.vol_tree.specs.Clauses.{slots_in, tree_in}
+use Rattle.vol_tree.specs.Opened.{ReflectsOr, Keeps, GoesOn}
 use Rattle.vol_tree.specs.internal.Slots.{slot_of}
 use Rattle.vol_tree.specs.Parts.{opened}
 use Rattle.vol_tree.specs.internal.Parts.{IsOpen}

@@ -4,7 +4,7 @@ use Rattle.std.specs.Prelude.{◌-◌, ℕ, Option, None, get_or}
 use Rattle.vol_sector.specs.Disk.{Image}
 use Rattle.vol_inode.specs.declared.entry.Entry.{Entry}
 use Rattle.vol_tree.specs.declared.superblock.Superblock.{Superblock}
-use Rattle.vol_tree.specs.Opened.{slots_in}
+use Rattle.vol_tree.specs.Clauses.{slots_in}
 
 -- the entry of a serial
 abbrev pub slot_of : Image → Superblock → ℕ → Option Entry

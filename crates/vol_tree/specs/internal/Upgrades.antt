@@ -8,7 +8,8 @@ use Rattle.vol_log.specs.Log.{device_of, has_failed}
 use Rattle.vol_inode.specs.declared.version.Version.{Version}
 use Rattle.vol_tree.specs.declared.parts.Parts.{Parts}
 use Rattle.vol_tree.specs.Stands.{StandsAs}
-use Rattle.vol_tree.specs.Opened.{raised, MayUpgrade, GoesOn}
+use Rattle.vol_tree.specs.Clauses.{raised, MayUpgrade}
+use Rattle.vol_tree.specs.Opened.{GoesOn}
 use Rattle.vol_tree.specs.Parts.{opened}
 use Rattle.vol_tree.specs.internal.Parts.{IsOpen}
 

@@ -8,7 +8,8 @@ use Rattle.vol_tree.specs.declared.errno.Errno.TheVariants as errno
 use Rattle.vol_tree.specs.Tree.{Tree, Name, IsDirectory, is_empty}
 use Rattle.vol_tree.specs.PathLaws.{IsBelow}
 use Rattle.vol_tree.specs.Calls.{with_unit}
-use Rattle.vol_tree.specs.Opened.{Opened, Answers, Keeps, GoesOn, ReflectsOr, is_io}
+use Rattle.vol_tree.specs.Clauses.{Answers, is_io}
+use Rattle.vol_tree.specs.Opened.{Opened, Keeps, GoesOn, ReflectsOr}
 use Rattle.path_walk.specs.Paths.{Reached, Missing}
 use Rattle.volume_tasks.specs.Tasks.{ReflectsAny}
 

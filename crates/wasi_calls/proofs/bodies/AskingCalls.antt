@@ -7,7 +7,8 @@ use Rattle.vol_tree.specs.declared.errno.Errno.TheVariants as errno
 use Rattle.vol_tree.specs.Numbers.{number_of}
 use Rattle.vol_tree.specs.Tree.{Tree, entry}
 use Rattle.vol_tree.specs.Calls.{with_unit}
-use Rattle.vol_tree.specs.Opened.{Opened, Keeps, IsSerial, is_io}
+use Rattle.vol_tree.specs.Clauses.{is_io}
+use Rattle.vol_tree.specs.Opened.{Opened, Keeps, IsSerial}
 use Rattle.vol_tree.proofs.GoingOn.{goes_then}
 use Rattle.vol_tree.specs.declared.superblock.Superblock.{Superblock}
 use Rattle.path_walk.specs.Walk.{IsEntryOf}

@@ -10,7 +10,8 @@ use Rattle.vol_tree.specs.declared.superblock.Superblock.{Superblock}
 use Rattle.std.specs.Option.{option_map_or}
 use Rattle.wasi_calls.specs.internal.paths.Walks.{StillWorks}
 use Rattle.vol_tree.specs.Numbers.{number_of}
-use Rattle.vol_tree.specs.Opened.{Opened, Keeps, GoesOn, ReflectsOr, geometry, is_io}
+use Rattle.vol_tree.specs.Clauses.{is_io}
+use Rattle.vol_tree.specs.Opened.{Opened, Keeps, GoesOn, ReflectsOr, geometry}
 use Rattle.vol_tree.proofs.GoingOn.{goes_then}
 use Rattle.vol_tree.specs.Space.{Geometry}
 use Rattle.vol_tree.specs.Calls.{with_unit, created, if_it_fits, resized, directory_removed}

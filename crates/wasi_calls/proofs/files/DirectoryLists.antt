@@ -11,7 +11,8 @@ use Rattle.vol_tree.specs.declared.stat.Stat.{Stat}
 use Rattle.vol_tree.specs.Stat.{IsStat, kind_of}
 use Rattle.vol_tree.specs.Tree.{Tree, Node, Directory, File, Entry as TreeEntry, entry}
 use Rattle.vol_tree.specs.Calls.{next_child}
-use Rattle.vol_tree.specs.Opened.{Opened, TellsBytes}
+use Rattle.vol_tree.specs.Clauses.{TellsBytes}
+use Rattle.vol_tree.specs.Opened.{Opened}
 use Rattle.wasm_store.specs.Bytes.{written}
 use Rattle.wasi_fd.specs.declared.descriptor.Opened.{Opened as OpenedEntry}
 use Rattle.wasi_calls.specs.World.{World, with_volume_failed}

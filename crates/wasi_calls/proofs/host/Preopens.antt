@@ -11,7 +11,8 @@ use Rattle.vol_tree.specs.declared.errno.Errno.TheVariants as errno
 use Rattle.vol_tree.specs.Tree.{Tree, Name, IsTree, Entry as TreeEntry, entry}
 use Rattle.vol_tree.specs.Calls.{directory_at, is_directory}
 use Rattle.vol_tree.specs.declared.superblock.Superblock.{Superblock}
-use Rattle.vol_tree.specs.Opened.{Opened, IsSerial, is_io}
+use Rattle.vol_tree.specs.Clauses.{is_io}
+use Rattle.vol_tree.specs.Opened.{Opened, IsSerial}
 use Rattle.vol_tree.proofs.GoingOn.{goes_then}
 use Rattle.path_walk.specs.Paths.{Reached, Found, Missing, slash, path_read, wants_directory, resolved, ◌>>=◌}
 use Rattle.path_walk.specs.Rooted.{reached_from_root}

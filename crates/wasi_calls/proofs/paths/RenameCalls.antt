@@ -7,7 +7,8 @@ use Rattle.vol_tree.specs.declared.errno.Errno.TheVariants as errno
 use Rattle.vol_tree.specs.Tree.{Tree, Name, Entry as TreeEntry, entry, IsTree, is_empty, lookup}
 use Rattle.vol_tree.specs.Calls.{directory_at, is_within, renamed, moved, moved_onto, with_unit, parent_at, name_at}
 use Rattle.vol_tree.specs.Numbers.{number_of}
-use Rattle.vol_tree.specs.Opened.{Opened, Answers, Keeps, geometry, is_io}
+use Rattle.vol_tree.specs.Clauses.{Answers, is_io}
+use Rattle.vol_tree.specs.Opened.{Opened, Keeps, geometry}
 use Rattle.vol_tree.proofs.Trees.{empty_childless, is_directory_at}
 use Rattle.wasm_store.specs.declared.call.Errno.{Errno as Number}
 use Rattle.path_walk.specs.Paths.{Reached, Found, Missing}

@@ -8,7 +8,8 @@ use Rattle.vol_tree.specs.declared.errno.Errno.TheVariants as errno
 use Rattle.vol_tree.specs.Numbers.{number_of}
 use Rattle.vol_tree.specs.Tree.{Tree, Node, Directory, File, Entry as TreeEntry, entry, Name, IsDirectory, same_name, lookup}
 use Rattle.vol_tree.specs.Calls.{is_directory, directory_at}
-use Rattle.vol_tree.specs.Opened.{Opened, Keeps, GoesOn, is_io}
+use Rattle.vol_tree.specs.Clauses.{is_io}
+use Rattle.vol_tree.specs.Opened.{Opened, Keeps, GoesOn}
 use Rattle.path_walk.specs.declared.walking.Reached.{Reached as ReachedValue}
 use Rattle.path_walk.specs.declared.walking.Reached.TheVariants as values
 use Rattle.path_walk.proofs.Walks.{missing_free}

@@ -3,7 +3,8 @@
 ghost use Rattle.std.specs.Prelude.{true, ◌≡◌, ◌<◌, ◌≤◌, length, ℕ, ◌^◌, ◌==◌, ◌&&◌, ◌||◌, Ok, Err, MatchResult, IfOk, IfErr, OnOk, ◌+◌, IsTrue, nat_lt};
 ghost use Rattle.vol_sector.specs.Disk.{Leaves};
 ghost use Rattle.vol_tree.specs.Calls.{bytes_at};
-ghost use Rattle.vol_tree.specs.Opened.{Tells, Keeps, GoesOn, is_io};
+ghost use Rattle.vol_tree.specs.Clauses.{Tells, is_io};
+ghost use Rattle.vol_tree.specs.Opened.{Keeps, GoesOn};
 ghost use Rattle.wasi_fd.specs.Table.{table_of, with_at};
 ghost use Rattle.wasi_calls.specs.World.{World, moved_to};
 ghost use Rattle.wasi_calls.specs.Checks.{guard, has};

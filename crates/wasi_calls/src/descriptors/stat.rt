@@ -3,7 +3,8 @@
 ghost use Rattle.std.specs.Prelude.{true, ◌≡◌, ◌≤◌, IsSome, IsTrue};
 ghost use Rattle.vol_sector.specs.Disk.{Leaves};
 ghost use Rattle.vol_tree.specs.Tree.{entry};
-ghost use Rattle.vol_tree.specs.Opened.{Tells, Keeps, GoesOn, is_io};
+ghost use Rattle.vol_tree.specs.Clauses.{Tells, is_io};
+ghost use Rattle.vol_tree.specs.Opened.{Keeps, GoesOn};
 ghost use Rattle.wasi_calls.specs.descriptors.Rows.{filestat, entry_stat, type_of_stream, fd_filestat_get as stat_row};
 ghost use Rattle.wasi_fd.specs.Table.{table_of};
 ghost use Rattle.wasi_calls.specs.World.{World};

@@ -4,7 +4,7 @@ ghost use Rattle.std.specs.Prelude.{◌≡◌, ◌≤◌, ◌+◌, ◌-◌, ◌^
 ghost use Rattle.vol_tree.specs.declared.errno.Errno.TheVariants as vol_errno;
 ghost use Rattle.vol_tree.specs.Tree.{Entry};
 ghost use Rattle.vol_tree.specs.Stat.{IsStat};
-ghost use Rattle.vol_tree.specs.Opened.{TellsBytes, is_io};
+ghost use Rattle.vol_tree.specs.Clauses.{TellsBytes, is_io};
 ghost use Rattle.wasm_store.specs.Bytes.{written};
 ghost use Rattle.wasi_fd.specs.Table.{table_of};
 ghost use Rattle.wasi_calls.specs.World.{World};

@@ -3,7 +3,7 @@
 ghost use Rattle.std.specs.Prelude.{◌≡◌, ◌<◌, ◌≤◌, ◌+◌, ◌-◌, ◌^◌, min, true, false, length, take, drop, Ok, Err, Some, IfOk, IfErr, OnOk, MatchResult};
 ghost use Rattle.std.specs.List.{list_all};
 ghost use Rattle.vol_tree.specs.declared.errno.Errno.TheVariants as vol_errno;
-ghost use Rattle.vol_tree.specs.Opened.{is_io};
+ghost use Rattle.vol_tree.specs.Clauses.{is_io};
 ghost use Rattle.vol_tree.specs.Calls.{bytes_at, read_bytes};
 ghost use Rattle.wasm_store.specs.Bytes.{written};
 ghost use Rattle.wasi_fd.specs.Table.{table_of};

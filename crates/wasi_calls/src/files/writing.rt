@@ -4,7 +4,8 @@ ghost use Rattle.std.specs.Prelude.{◌≡◌, ◌⊎◌, ◌≤◌, ◌+◌, �
 ghost use Rattle.std.specs.List.{list_all};
 ghost use Rattle.vol_sector.specs.Disk.{Leaves};
 ghost use Rattle.vol_tree.specs.declared.errno.Errno.TheVariants as vol_errno;
-ghost use Rattle.vol_tree.specs.Opened.{Tells, Keeps, GoesOn, ReflectsOr, geometry, is_io};
+ghost use Rattle.vol_tree.specs.Clauses.{Tells, is_io};
+ghost use Rattle.vol_tree.specs.Opened.{Keeps, GoesOn, ReflectsOr, geometry};
 ghost use Rattle.vol_tree.specs.Calls.{bytes_at, written as tree_with};
 ghost use Rattle.wasi_fd.specs.Table.{table_of};
 ghost use Rattle.wasi_calls.specs.World.{World};

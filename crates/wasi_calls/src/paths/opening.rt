@@ -4,7 +4,8 @@ ghost use Rattle.std.specs.Prelude.{◌≡◌, ◌≤◌, ◌+◌, List, true, f
 ghost use Rattle.vol_sector.specs.Disk.{Leaves};
 ghost use Rattle.vol_tree.specs.Tree.{Tree, Name};
 ghost use Rattle.vol_tree.specs.Calls.{directory_at};
-ghost use Rattle.vol_tree.specs.Opened.{Answers as TreeAnswers, Keeps, GoesOn, ReflectsOr, IsSerial, geometry, is_io};
+ghost use Rattle.vol_tree.specs.Clauses.{Answers as TreeAnswers, is_io};
+ghost use Rattle.vol_tree.specs.Opened.{Keeps, GoesOn, ReflectsOr, IsSerial, geometry};
 ghost use Rattle.path_walk.specs.Paths.{Found, path_read, wants_directory};
 ghost use Rattle.path_walk.specs.Walk.{IsEntryOf, IsReached, reached_as};
 ghost use Rattle.wasm_store.specs.Bytes.{bytes_at};

@@ -3,7 +3,8 @@
 ghost use Rattle.std.specs.Prelude.{◌≡◌, true, Ok, Err, IfOk, OnOk, MatchResult};
 ghost use Rattle.vol_sector.specs.Disk.{Leaves};
 ghost use Rattle.vol_tree.specs.Calls.{directory_at, with_unit};
-ghost use Rattle.vol_tree.specs.Opened.{Answers, Keeps, GoesOn, ReflectsOr, is_io};
+ghost use Rattle.vol_tree.specs.Clauses.{Answers, is_io};
+ghost use Rattle.vol_tree.specs.Opened.{Keeps, GoesOn, ReflectsOr};
 ghost use Rattle.path_walk.specs.Walk.{IsEntryOf};
 ghost use Rattle.wasi_fd.specs.Table.{table_of};
 ghost use Rattle.wasi_fd.specs.Rights.{bits_of};

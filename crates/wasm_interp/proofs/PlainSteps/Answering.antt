@@ -7,7 +7,7 @@ use Rattle.wasm_module.specs.declared.instruction.ValueType.{ValueType}
 use Rattle.wasm_module.specs.declared.instruction.ValueType.TheVariants.{I32, I64, F32, F64}
 use Rattle.wasm_module.specs.declared.instruction.Instruction.TheVariants as op
 use Rattle.wasm_module.specs.declared.module.FuncType.{FuncType}
-use Rattle.wasm_module.specs.Instructions.{Instructions, invoke}
+use Rattle.wasm_module.specs.Nested.{Instructions, invoke}
 use Rattle.wasm_store.specs.Values.{IsInType}
 use Rattle.wasm_store.specs.Instances.{outside}
 use Rattle.wasm_steps.specs.Configuration.{Val, val, numbers, types, signature_of, Instance, Store, Code, code, Configuration, at, store_of, code_of, used_by}

@@ -1,11 +1,6 @@
 -- Functions that are entered from outside.
-use Rattle.std.specs.Prelude.{ℕ, List, [], ◌∷◌, Option, None}
-
-pub record Awaited : Type 0 where
-  -- those that are still to be entered, the next one first
-  pub functions : List ℕ
-  -- the exported function that was invoked with arguments, if one was; else each has neither parameters nor results
-  pub invoked : Option ℕ
+use Rattle.std.specs.Prelude.{ℕ, [], ◌∷◌, None}
+pub use Rattle.wasm_interp.specs.Snapshots.{Awaited}
 
 -- and this one before them
 abbrev pub and_before : ℕ → Awaited → Awaited

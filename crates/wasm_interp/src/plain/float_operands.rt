@@ -1,12 +1,12 @@
 //! Operators on floats, with their operands on top.
 
 ghost use Rattle.std.specs.Prelude.{◌≡◌, ℕ, ◌<◌, ◌^◌, length, reverse, slice_index, vec_capacity, OnOk, IfOk, IfErr, Ok, Err};
-ghost use Rattle.wasm_valid.specs.Typing.{float_takes, float_gives};
+ghost use Rattle.wasm_valid.specs.Arities.{float_takes, float_gives};
 ghost use Rattle.wasm_steps.specs.Operators.{width};
 ghost use Rattle.wasm_steps.specs.FloatOperators.{float_binary, float_number, float_test, format};
 ghost use Rattle.wasm_num.specs.Numbers.{bool_number};
 ghost use Rattle.wasm_float.specs.Floats.{test};
-ghost use Rattle.wasm_module.specs.Types.{float};
+ghost use Rattle.wasm_module.specs.ValueTypes.{float};
 ghost use Rattle.wasm_interp.specs.internal.Plain.Performing.{AreOnTop, Gives, HasTwo};
 
 use crate::plain::floats::{binary, compare, convert, saturate, unary, whole_part};

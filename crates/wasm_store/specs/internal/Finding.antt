@@ -11,7 +11,7 @@ use Rattle.wasm_module.specs.declared.module.ImportKind.TheVariants as imports
 use Rattle.wasm_module.specs.declared.module.Export.{Export}
 use Rattle.wasm_module.specs.declared.module.ExportKind.TheVariants as exports
 use Rattle.wasm_module.specs.declared.module.Module.{Module}
-use Rattle.wasm_valid.specs.Validity.{functions_of}
+use Rattle.wasm_valid.specs.Spaces.{functions_of}
 use Rattle.wasm_store.specs.declared.linked.Linked.{Linked}
 use Rattle.wasm_store.specs.declared.fault.InstanceFault.{InstanceFault}
 use Rattle.wasm_store.specs.declared.fault.InstanceFault.TheVariants as faults

@@ -11,7 +11,8 @@ use Rattle.wasm_module.specs.declared.instruction.Instruction.{Instruction}
 use Rattle.wasm_module.specs.declared.instruction.Instruction.TheVariants as op
 use Rattle.wasm_valid.specs.declared.control_frames.BlockKind.{BlockKind}
 use Rattle.wasm_valid.specs.declared.control_frames.BlockKind.TheVariants.{Block, Loop, If}
-use Rattle.wasm_valid.specs.Typing.{Context, Labels, results_of}
+use Rattle.wasm_valid.specs.Arities.{results_of}
+use Rattle.wasm_valid.specs.Typing.{Context, Labels}
 use Rattle.wasm_valid.specs.internal.Stack.{Stack, nothing, if_true, pop, push, can_be}
 use Rattle.wasm_valid.specs.internal.Effects.{after}
 

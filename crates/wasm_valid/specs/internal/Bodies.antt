@@ -8,10 +8,11 @@ use Rattle.wasm_module.specs.declared.instruction.Instruction.{Instruction}
 use Rattle.wasm_module.specs.declared.instruction.Instruction.TheVariants as op
 use Rattle.wasm_module.specs.declared.module.FuncType.{FuncType}
 use Rattle.wasm_module.specs.declared.module.Body.{Body}
-use Rattle.wasm_module.specs.Instructions.{Instructions, IsWritten, flatten}
+use Rattle.wasm_module.specs.Nested.{Instructions, IsWritten, flatten}
 use Rattle.wasm_valid.specs.declared.control_frames.BlockKind.{BlockKind}
 use Rattle.wasm_valid.specs.declared.control_frames.BlockKind.TheVariants.{Block, Loop, If}
-use Rattle.wasm_valid.specs.Typing.{Context, Labels, Typed, results_of}
+use Rattle.wasm_valid.specs.Arities.{results_of}
+use Rattle.wasm_valid.specs.Typing.{Context, Labels, Typed}
 use Rattle.wasm_valid.specs.Validity.{FunctionTyped}
 use Rattle.wasm_valid.specs.internal.Stack.{Stack, nothing, push}
 use Rattle.wasm_valid.specs.internal.Blocks.{OpenBlock, labels_of}

@@ -4,8 +4,10 @@ use Rattle.std.specs.Prelude.{◌≡◌}
 use Rattle.wasm_module.specs.declared.module.Module.{Module}
 use Rattle.wasm_valid.specs.declared.module_context.ModuleContext.{ModuleContext}
 use Rattle.wasm_valid.specs.declared.function_context.FunctionContext.{FunctionContext}
-use Rattle.wasm_valid.specs.Typing.{Context, results_of}
-use Rattle.wasm_valid.specs.Validity.{AreTypesAt, functions_of, tables_of, memories_of, globals_of, has_any}
+use Rattle.wasm_valid.specs.Arities.{results_of}
+use Rattle.wasm_valid.specs.Typing.{Context}
+use Rattle.wasm_valid.specs.Spaces.{functions_of, tables_of, memories_of, globals_of}
+use Rattle.wasm_valid.specs.Validity.{AreTypesAt, has_any}
 
 pub record IsModuleContext (module_context : ModuleContext) (c : Context) : Type 0 where
   pub types : c.types ≡ module_context.types.now

@@ -19,13 +19,14 @@ use Rattle.wasm_module.specs.declared.instruction.UnaryOperator.TheVariants.{Ext
 use Rattle.wasm_module.specs.declared.instruction.Instruction.{Instruction}
 use Rattle.wasm_module.specs.declared.instruction.Instruction.TheVariants as op
 use Rattle.wasm_module.specs.declared.module.FuncType.{FuncType}
-use Rattle.wasm_module.specs.Types.{integer, float}
+use Rattle.wasm_module.specs.ValueTypes.{integer, float}
 use Rattle.wasm_module.specs.Accesses.{load_access, store_access}
 use Rattle.wasm_valid.specs.declared.effects.Takes.{Takes}
 use Rattle.wasm_valid.specs.declared.effects.Takes.TheVariants.{Nothing, One, Two, Three}
 use Rattle.wasm_valid.specs.declared.effects.Effect.{Effect}
 use Rattle.wasm_valid.specs.declared.effects.MemoryEffect.{MemoryEffect}
-use Rattle.wasm_valid.specs.Typing.{Context, Labels, results_of, as_wide, float_gives}
+use Rattle.wasm_valid.specs.Arities.{results_of, as_wide, float_gives}
+use Rattle.wasm_valid.specs.Typing.{Context, Labels}
 use Rattle.wasm_valid.specs.internal.Stack.{Stack, anything, if_true, when, is_same, moved, left, dropped, selected}
 
 -- ---- instructions of one type

@@ -14,7 +14,8 @@ use Rattle.wasm_module.specs.declared.module.DataSegment.{DataSegment}
 use Rattle.wasm_module.specs.declared.module.Module.{Module}
 use Rattle.wasm_valid.specs.declared.module_rules.Counts.{Counts}
 use Rattle.wasm_valid.specs.Typing.{Context}
-use Rattle.wasm_valid.specs.Validity.{functions_of, tables_of, memories_of, globals_of, imported_global, kinds_of, LimitsFit, AreApart, IsConstant}
+use Rattle.wasm_valid.specs.Spaces.{functions_of, tables_of, memories_of, globals_of, imported_global, kinds_of}
+use Rattle.wasm_valid.specs.Validity.{LimitsFit, AreApart, IsConstant}
 
 -- a constant of this type, or that of one of these globals
 abbrev pub IsConstantInstruction : List GlobalType → ValueType → Instruction → Type 0

@@ -1,7 +1,7 @@
 use Rattle.std.proofs.Common.{◌≡◌, ◌∙◌, ◌++◌, List, ℕ, Option, Result, Ok, Err, OnOk, ap, append_assoc}
 use Rattle.std.specs.List.{list_any}
 use Rattle.wasm_module.specs.declared.module.Limits.{Limits}
-use Rattle.wasm_valid.specs.Validity.{functions_of}
+use Rattle.wasm_valid.specs.Spaces.{functions_of}
 use Rattle.module_survey.specs.Survey.{counts_text, entry_text, is_entry, sizes_text}
 use Rattle.module_survey.proofs.listing.add_parts.Goals as goal
 

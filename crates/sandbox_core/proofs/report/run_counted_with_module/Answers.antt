@@ -1,3 +1,4 @@
+use Rattle.wasm_interp.specs.Machine.{Represents}
 use Rattle.std.proofs.Common.{arith, ◌∙◌}
 use Rattle.vol_tree.proofs.GoingOn.{goes_then}
 use Rattle.sandbox_core.specs.Devices.{Calls, devices, disk_of, numbers_of, tree_of}
@@ -19,7 +20,7 @@ returns-clause-counted g c =
       within = omega (arith, c.used-used.ensures, c.run_out-outcome.ensures.within);
       pages = c.pages-pages.ensures;
       broken = c.has_failed_stream-broken.ensures;
-      heard = heard_follow on ran.followed.0 c.args.session last ran.followed.1;
+      heard = heard_follow on Represents ran.followed.0 c.args.session last ran.followed.1;
       resumes = ran.followed.0;
       follow = ran.followed.1;
       run = ran.run;

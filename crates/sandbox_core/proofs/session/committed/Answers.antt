@@ -3,7 +3,8 @@ use Rattle.std.proofs.lemmas.Bool.{false≢true}
 use Rattle.vol_tree.specs.declared.errno.Errno.{Errno}
 use Rattle.vol_tree.specs.Tree.{Tree}
 use Rattle.vol_tree.specs.Calls.{with_unit}
-use Rattle.vol_tree.specs.Opened.{Answers, Keeps, is_io}
+use Rattle.vol_tree.specs.Clauses.{Answers, is_io}
+use Rattle.vol_tree.specs.Opened.{Keeps}
 use Rattle.vol_tree.specs.Stands.{StandsAs}
 use Rattle.vol_tree.specs.declared.superblock.Superblock.{Superblock}
 use Rattle.sandbox_core.proofs.session.committed.Goals as goal

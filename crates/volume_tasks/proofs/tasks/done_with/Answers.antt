@@ -3,7 +3,7 @@ use Rattle.std.proofs.KnownBytes.{Keeps-refl}
 use Rattle.std.proofs.lemmas.Grind.{common_steps}
 use Rattle.vol_sector.specs.Disk.{Leaves, counted}
 use Rattle.vol_inode.specs.declared.version.Version.{Version}
-use Rattle.vol_tree.specs.Opened.{MayUpgrade}
+use Rattle.vol_tree.specs.Clauses.{MayUpgrade}
 use Rattle.sandbox_words.specs.declared.request.Task.{Task}
 use Rattle.volume_tasks.specs.Tasks.{ReflectsAny, IsPartOfPut}
 use Rattle.volume_tasks.specs.Changes.{IsPartOfChange}

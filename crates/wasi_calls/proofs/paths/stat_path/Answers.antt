@@ -1,6 +1,6 @@
 use Rattle.std.proofs.Common.{◌≡◌, ◌≢◌, ◌^◌, ℕ, List, false, Ok, Err, refl, sym, ap, ◌∙◌, subst, arith}
 use Rattle.vol_tree.specs.Numbers.{number_of}
-use Rattle.vol_tree.specs.Opened.{is_io}
+use Rattle.vol_tree.specs.Clauses.{is_io}
 use Rattle.path_walk.specs.declared.walking.Reached.{Reached as ReachedValue}
 use Rattle.path_walk.specs.Walk.{Asked, reached_as, IsReached}
 use Rattle.path_walk.specs.Paths.{Reached}

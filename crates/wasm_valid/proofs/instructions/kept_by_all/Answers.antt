@@ -6,7 +6,8 @@ use Rattle.std.proofs.lemmas.Iterator.{YieldsList-from_slice}
 use Rattle.std.proofs.lemmas.Iterator.Search.{all_from_yields_List}
 use Rattle.wasm_module.specs.declared.instruction.ValueType.{ValueType}
 use Rattle.wasm_module.specs.declared.instruction.BlockType.{BlockType}
-use Rattle.wasm_valid.specs.Typing.{Labels, results_of}
+use Rattle.wasm_valid.specs.Arities.{results_of}
+use Rattle.wasm_valid.specs.Typing.{Labels}
 use Rattle.wasm_valid.specs.internal.Stack.{if_true}
 use Rattle.wasm_valid.specs.internal.Effects.{keeps, all_keep, table_label}
 use Rattle.wasm_valid.specs.internal.Operands.{control_frame_labels}

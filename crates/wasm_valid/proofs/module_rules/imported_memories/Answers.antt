@@ -1,7 +1,7 @@
 use Rattle.std.proofs.Common.{rules, tests}
 use Rattle.std.proofs.lemmas.Iterator.{items_from_collect, YieldsList-from_slice}
 use Rattle.std.proofs.lemmas.Iterator.Consumers.{YieldsList-from_filter_map}
-use Rattle.wasm_valid.specs.Validity.{imported_memory}
+use Rattle.wasm_valid.specs.Spaces.{imported_memory}
 use Rattle.wasm_valid.proofs.OfKind.{of_kind}
 use Rattle.wasm_valid.proofs.module_rules.imported_memories.Goals as goal
 

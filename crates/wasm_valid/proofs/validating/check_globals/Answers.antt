@@ -3,7 +3,8 @@ use Rattle.std.specs.List.{filter_map}
 use Rattle.wasm_module.specs.declared.module.Import.{Import}
 use Rattle.wasm_module.specs.declared.module.GlobalType.{GlobalType}
 use Rattle.wasm_module.specs.declared.module.GlobalEntry.{GlobalEntry}
-use Rattle.wasm_valid.specs.Validity.{imported_global, kinds_of, IsConstant}
+use Rattle.wasm_valid.specs.Spaces.{imported_global, kinds_of}
+use Rattle.wasm_valid.specs.Validity.{IsConstant}
 use Rattle.wasm_valid.specs.internal.Rules.{GlobalsHold}
 use Rattle.wasm_valid.proofs.Refusals.{settles_same}
 use Rattle.wasm_valid.proofs.validating.check_globals.Goals as goal

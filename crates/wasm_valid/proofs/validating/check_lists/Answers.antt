@@ -2,7 +2,8 @@ use Rattle.std.proofs.Common.{List, map, All, IsTrue, ◌↔◌, ◌∙◌, subs
 use Rattle.wasm_module.specs.declared.module.GlobalType.{GlobalType}
 use Rattle.wasm_module.specs.declared.module.Export.{Export}
 use Rattle.wasm_valid.specs.declared.module_rules.Counts.{Counts}
-use Rattle.wasm_valid.specs.Validity.{AreApart, globals_of}
+use Rattle.wasm_valid.specs.Spaces.{globals_of}
+use Rattle.wasm_valid.specs.Validity.{AreApart}
 use Rattle.wasm_valid.specs.internal.Rules.{ListsFit, IsWithin, ElementsHold, DataHolds, counts_of}
 use Rattle.wasm_valid.proofs.Refusals.{refused, unsettled}
 use Rattle.wasm_valid.proofs.validating.check_lists.Goals as goal

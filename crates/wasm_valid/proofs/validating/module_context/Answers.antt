@@ -4,7 +4,7 @@ use Rattle.wasm_module.specs.declared.module.Import.{Import}
 use Rattle.std.proofs.lemmas.List.Elements.{All-append}
 use Rattle.std.proofs.lemmas.Result.{IfOk-from_err}
 use Rattle.std.specs.List.{filter_map}
-use Rattle.wasm_valid.specs.Validity.{imported_function, kinds_of}
+use Rattle.wasm_valid.specs.Spaces.{imported_function, kinds_of}
 use Rattle.wasm_valid.specs.internal.Rules.{TypesFit}
 use Rattle.wasm_valid.proofs.Refusals.{refused, unsettled}
 use Rattle.wasm_valid.proofs.Parts.{All-front, All-back}

@@ -4,7 +4,7 @@ use Rattle.vol_log.specs.Log.{view}
 use Rattle.vol_tree.specs.Tree.{entry}
 use Rattle.vol_tree.specs.declared.superblock.Superblock.{Superblock}
 use Rattle.vol_tree.specs.Stands.{entry_of}
-use Rattle.vol_tree.specs.Opened.{tree_in}
+use Rattle.vol_tree.specs.Clauses.{tree_in}
 use Rattle.vol_tree.proofs.Finding.{tree_entry, length_tree}
 use Rattle.vol_tree.proofs.Entries.{used_within}
 use Rattle.vol_tree.proofs.parts.Parts.above.Goals as goal

@@ -8,7 +8,7 @@ use Rattle.vol_tree.specs.declared.errno.Errno.TheVariants as errno
 use Rattle.vol_tree.specs.Tree.{Tree, IsDirectory, lookup, least_from, is_unused}
 use Rattle.vol_tree.specs.Calls.{created}
 use Rattle.vol_tree.specs.Stands.{node_by}
-use Rattle.vol_tree.specs.Opened.{tree_in}
+use Rattle.vol_tree.specs.Clauses.{tree_in}
 use Rattle.vol_tree.proofs.Committing.{no_commit}
 use Rattle.vol_tree.proofs.Finding.{looks_up, least_unused}
 use Rattle.vol_tree.proofs.Changing.{no_reads, refused, refused_io, done, stages}

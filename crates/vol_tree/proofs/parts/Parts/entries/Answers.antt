@@ -4,7 +4,7 @@ use Rattle.std.proofs.lemmas.List.Sums.{count_by_more_yes, count_by_more_no}
 use Rattle.vol_log.specs.Log.{view}
 use Rattle.vol_dirs.specs.Names.{IsFree}
 use Rattle.vol_tree.specs.Tree.{Entry}
-use Rattle.vol_tree.specs.Opened.{tree_in}
+use Rattle.vol_tree.specs.Clauses.{tree_in}
 use Rattle.vol_tree.specs.Stats.{entries_of}
 use Rattle.vol_tree.proofs.Finding.{length_tree}
 use Rattle.vol_tree.proofs.Used.{used_there, free_there}

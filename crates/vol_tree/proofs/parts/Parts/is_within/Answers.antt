@@ -4,7 +4,7 @@ use Rattle.vol_dirs.proofs.Lookups.{equal, different}
 use Rattle.vol_tree.specs.declared.superblock.Superblock.{Superblock}
 use Rattle.vol_tree.specs.Tree.{Tree, entry}
 use Rattle.vol_tree.specs.Calls.{is_within}
-use Rattle.vol_tree.specs.Opened.{tree_in}
+use Rattle.vol_tree.specs.Clauses.{tree_in}
 use Rattle.vol_tree.specs.internal.Moves.{IsAbove}
 use Rattle.vol_tree.proofs.Climbing.{within_here, within_root, within_step, above_used}
 use Rattle.vol_tree.proofs.Changing.{no_reads, reads_then}

@@ -9,7 +9,7 @@ use Rattle.vol_tree.specs.declared.superblock.Superblock.{Superblock}
 use Rattle.vol_tree.specs.Tree.{Tree, changed}
 use Rattle.vol_tree.specs.Calls.{moved, with_unit}
 use Rattle.vol_tree.specs.Stands.{Slots}
-use Rattle.vol_tree.specs.Opened.{tree_in, slots_in}
+use Rattle.vol_tree.specs.Clauses.{tree_in, slots_in}
 use Rattle.vol_tree.specs.internal.Slots.{slot_of}
 use Rattle.vol_tree.specs.internal.Commits.{ReadsOnly}
 use Rattle.vol_tree.specs.internal.Moves.{MovesToName}
@@ -19,7 +19,7 @@ use Rattle.vol_tree.proofs.Changing.{reads_then, refused_io, done_open, stages_t
 use Rattle.vol_tree.proofs.Climbing.{onto_refused, onto_done, moves_after}
 use Rattle.vol_tree.proofs.Filling.{fails_io}
 use Rattle.vol_tree.proofs.Taking.{commits_fail, refused_by}
-use Rattle.vol_tree.specs.Opened.{is_io}
+use Rattle.vol_tree.specs.Clauses.{is_io}
 use Rattle.vol_tree.proofs.Trees.{Childless}
 use Rattle.vol_tree.proofs.Targets.{are_read, never_io, target_there}
 use Rattle.vol_tree.proofs.parts.Parts.move_onto.Goals as goal

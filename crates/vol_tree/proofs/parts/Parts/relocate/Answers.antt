@@ -5,7 +5,7 @@ use Rattle.vol_log.specs.Log.{view, device_of}
 use Rattle.vol_dirs.specs.Names.{Shows, slots_of}
 use Rattle.vol_inode.specs.Spelling.{spelling}
 use Rattle.vol_tree.specs.Calls.{moved}
-use Rattle.vol_tree.specs.Opened.{tree_in}
+use Rattle.vol_tree.specs.Clauses.{tree_in}
 use Rattle.vol_tree.specs.internal.Moves.{MovesToName}
 use Rattle.vol_tree.proofs.Changing.{stages, staged_open}
 use Rattle.vol_tree.proofs.Relocating.{relocated_tree, relocated_space, relocated_content, relocated_is_tree, relocated_taken, relocated_front}

@@ -7,7 +7,7 @@ use Rattle.vol_tree.specs.declared.superblock.Superblock.{Superblock}
 use Rattle.vol_tree.specs.declared.errno.Errno.TheVariants as errno
 use Rattle.vol_tree.specs.Tree.{Tree, lookup}
 use Rattle.vol_tree.specs.Calls.{moved, moved_onto, with_unit, is_within}
-use Rattle.vol_tree.specs.Opened.{tree_in}
+use Rattle.vol_tree.specs.Clauses.{tree_in}
 use Rattle.vol_tree.specs.internal.Moves.{MovesToName, MovesIn}
 use Rattle.vol_tree.proofs.Committing.{no_commit}
 use Rattle.vol_tree.proofs.Changing.{no_reads, refused, refused_io}

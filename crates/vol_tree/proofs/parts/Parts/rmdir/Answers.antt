@@ -3,7 +3,7 @@ use Rattle.vol_log.specs.Log.{view, has_failed}
 use Rattle.vol_dirs.proofs.Lookups.{equal, different}
 use Rattle.vol_tree.specs.declared.errno.Errno.TheVariants as errno
 use Rattle.vol_tree.specs.Calls.{with_unit}
-use Rattle.vol_tree.specs.Opened.{tree_in}
+use Rattle.vol_tree.specs.Clauses.{tree_in}
 use Rattle.vol_tree.proofs.Committing.{no_commit}
 use Rattle.vol_tree.proofs.Changing.{no_reads, refused, refused_io}
 use Rattle.vol_tree.proofs.Children.{none_in, some_in, childless_empty, removed_root, removed_full, removed_is}

@@ -3,7 +3,7 @@ use Rattle.vol_log.specs.Log.{view}
 use Rattle.vol_inode.specs.declared.entry.Entry.{Entry}
 use Rattle.vol_body.specs.Body.{bytes_of}
 use Rattle.vol_body.specs.Bytes.{resized_bytes}
-use Rattle.vol_tree.specs.Opened.{tree_in}
+use Rattle.vol_tree.specs.Clauses.{tree_in}
 use Rattle.vol_tree.proofs.Committing.{commits_then}
 use Rattle.vol_tree.proofs.Changing.{refused_io}
 use Rattle.vol_tree.proofs.WriteCalls.{file_used, long_resized}

@@ -11,7 +11,7 @@ use Rattle.vol_inode.specs.Space.{need_of}
 use Rattle.vol_body.specs.Change.{OthersStay}
 use Rattle.vol_tree.specs.Tree.{Tree, IsTree, changed}
 use Rattle.vol_tree.specs.Space.{space}
-use Rattle.vol_tree.specs.Opened.{tree_in}
+use Rattle.vol_tree.specs.Clauses.{tree_in}
 use Rattle.vol_tree.proofs.Committing.{no_commit}
 use Rattle.vol_tree.proofs.Changing.{stages, stages_then, staged_open}
 use Rattle.vol_tree.proofs.Filling.{fails_after, file_stages}

@@ -1,5 +1,5 @@
 use Rattle.vol_log.specs.Log.{view}
-use Rattle.vol_tree.specs.Opened.{tree_in}
+use Rattle.vol_tree.specs.Clauses.{tree_in}
 use Rattle.vol_tree.proofs.Children.{file_bare}
 use Rattle.vol_tree.proofs.parts.Parts.unlink.Goals as goal
 

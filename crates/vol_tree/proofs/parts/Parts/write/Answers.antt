@@ -7,7 +7,8 @@ use Rattle.vol_body.specs.Body.{bytes_of}
 use Rattle.vol_body.specs.Bytes.{written_bytes}
 use Rattle.vol_body.specs.Change.{EntryBecomes, used_of}
 use Rattle.vol_tree.specs.Calls.{with_unit}
-use Rattle.vol_tree.specs.Opened.{tree_in, geometry}
+use Rattle.vol_tree.specs.Clauses.{tree_in}
+use Rattle.vol_tree.specs.Opened.{geometry}
 use Rattle.vol_tree.proofs.Committing.{commits_then}
 use Rattle.vol_tree.proofs.Changing.{refused_io}
 use Rattle.vol_tree.proofs.WriteCalls.{file_used, long_written}

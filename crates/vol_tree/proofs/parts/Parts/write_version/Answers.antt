@@ -2,7 +2,7 @@ use Rattle.std.proofs.Common.{◌≡◌, ◌∙◌, ℕ, List, Bool, true, false
 use Rattle.vol_sector.specs.Disk.{Leaves, put}
 use Rattle.vol_log.specs.Log.{device_of}
 use Rattle.vol_tree.specs.Superblock.{superblock}
-use Rattle.vol_tree.specs.Opened.{raised}
+use Rattle.vol_tree.specs.Clauses.{raised}
 use Rattle.vol_tree.specs.internal.Upgrades.{Upgrades}
 use Rattle.vol_tree.proofs.Raising.{LogFronts, not_upgraded, is_upgraded}
 use Rattle.vol_tree.proofs.Taking.{err_is}

@@ -11,7 +11,7 @@ use Rattle.vol_tree.specs.internal.Reads.{HasParts}
 use Rattle.vol_tree.proofs.Openings.{leaves_nothing, crash_over, kept_over, none_over, volume_over, held_log, held_again, held_over, none_held, settled_has, log_finds, finds_stands, finds_lasting, finds_working}
 use Rattle.vol_tree.proofs.Fronts.{or_memory_last, not_the_front, stands_unrefused, past_front}
 use Rattle.vol_tree.proofs.OneTree.{one_volume}
-use Rattle.vol_tree.specs.Opened.{tree_in}
+use Rattle.vol_tree.specs.Clauses.{tree_in}
 use Rattle.vol_tree.proofs.volume.Volume.open.Goals as goal
 
 -- ---- no volume begins here

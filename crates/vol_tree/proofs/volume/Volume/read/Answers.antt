@@ -4,7 +4,8 @@ use Rattle.vol_log.proofs.Moments.{leaves_quiet}
 use Rattle.vol_inode.specs.declared.entry.Entry.{Entry}
 use Rattle.vol_body.specs.Body.{bytes_of}
 use Rattle.vol_tree.specs.Calls.{is_file_at}
-use Rattle.vol_tree.specs.Opened.{Opened, Keeps, tree_in}
+use Rattle.vol_tree.specs.Clauses.{tree_in}
+use Rattle.vol_tree.specs.Opened.{Opened, Keeps}
 use Rattle.vol_tree.specs.Parts.{opened}
 use Rattle.vol_tree.specs.declared.errno.Errno.{Errno}
 use Rattle.vol_tree.specs.declared.errno.Errno.TheVariants as errno

@@ -1,6 +1,7 @@
 use Rattle.std.proofs.Common.{OnOk, subst}
 use Rattle.vol_sector.specs.Disk.{Image, Leaves}
-use Rattle.vol_tree.specs.Opened.{Opened, MayUpgrade, GoesOn}
+use Rattle.vol_tree.specs.Clauses.{MayUpgrade}
+use Rattle.vol_tree.specs.Opened.{Opened, GoesOn}
 use Rattle.vol_tree.specs.Stands.{StandsAs}
 use Rattle.vol_tree.specs.Parts.{opened}
 use Rattle.vol_tree.proofs.Raising.{upgrade_open, upgrade_crash, upgrade_lasts, upgrade_goes_on}

@@ -1,6 +1,6 @@
 use Rattle.std.proofs.Common.{◌≡◌, ℕ, false, Ok, Err, refl, sym, ap, ◌∙◌, arith, length, []}
 use Rattle.vol_tree.specs.declared.errno.Errno.{Errno}
-use Rattle.vol_tree.specs.Opened.{is_io}
+use Rattle.vol_tree.specs.Clauses.{is_io}
 use Rattle.vol_tree.specs.Calls.{bytes_at}
 use Rattle.std.proofs.lemmas.Bool.{false≢true, lt-ltb}
 use Rattle.wasi_calls.specs.World.{World, with_volume_failed}

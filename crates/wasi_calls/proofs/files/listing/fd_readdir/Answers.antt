@@ -3,7 +3,7 @@ use Rattle.byteorder.specs.Endian.{little_bytes}
 use Rattle.wasm_store.specs.Bytes.{written}
 use Rattle.vol_tree.specs.declared.errno.Errno.{Errno}
 use Rattle.vol_tree.specs.Numbers.{number_of}
-use Rattle.vol_tree.specs.Opened.{is_io}
+use Rattle.vol_tree.specs.Clauses.{is_io}
 use Rattle.wasi_fd.specs.Table.{table_of}
 use Rattle.wasi_calls.specs.internal.files.Listing.{listable}
 use Rattle.wasi_calls.proofs.checks.CausesOf29.{asked_29, check_not_29, no_29_at_0}

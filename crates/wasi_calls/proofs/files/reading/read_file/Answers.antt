@@ -4,7 +4,7 @@ use Rattle.wasm_store.specs.Bytes.{written}
 use Rattle.vol_tree.specs.declared.errno.Errno.{Errno}
 use Rattle.vol_tree.specs.Numbers.{number_of}
 use Rattle.vol_tree.specs.Tree.{Tree}
-use Rattle.vol_tree.specs.Opened.{is_io}
+use Rattle.vol_tree.specs.Clauses.{is_io}
 use Rattle.wasi_fd.specs.Table.{table_of, with_at}
 use Rattle.wasi_calls.proofs.checks.CausesOf29.{asked_29, no_29_at_0}
 use Rattle.wasi_calls.specs.World.{World, moved_to}

@@ -2,7 +2,7 @@ use Rattle.std.proofs.Common.{ℕ, Bool, true, Err, refl, sym, ◌∙◌, ap, su
 use Rattle.std.proofs.lemmas.Grind.{common_steps}
 use Rattle.vol_tree.specs.Calls.{directory_at}
 use Rattle.vol_tree.specs.Numbers.{number_of}
-use Rattle.vol_tree.specs.Opened.{is_io}
+use Rattle.vol_tree.specs.Clauses.{is_io}
 use Rattle.path_walk.specs.Paths.{Found}
 use Rattle.wasi_calls.specs.internal.paths.Opening.{found_checked}
 use Rattle.wasi_calls.proofs.checks.CausesOf29.{asked_29, not_29}

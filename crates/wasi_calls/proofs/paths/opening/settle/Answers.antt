@@ -1,6 +1,7 @@
 use Rattle.std.proofs.Common.{subst, sym, arith}
 use Rattle.std.proofs.lemmas.Grind.{common_steps}
-use Rattle.vol_tree.specs.Opened.{Answers, geometry}
+use Rattle.vol_tree.specs.Clauses.{Answers}
+use Rattle.vol_tree.specs.Opened.{geometry}
 use Rattle.wasi_calls.specs.declared.paths.opening.Target.{Target}
 use Rattle.wasi_calls.specs.internal.paths.Opening.{made}
 use Rattle.wasi_calls.proofs.bodies.AskingCalls.{still_works}

@@ -3,7 +3,7 @@ use Rattle.vol_inode.specs.declared.entry.Kind.{Kind}
 use Rattle.vol_inode.specs.declared.entry.Kind.TheVariants as nodes
 use Rattle.vol_tree.specs.Calls.{directory_at}
 use Rattle.vol_tree.specs.Numbers.{number_of}
-use Rattle.vol_tree.specs.Opened.{is_io}
+use Rattle.vol_tree.specs.Clauses.{is_io}
 use Rattle.wasi_fd.specs.Rights.{bits_of}
 use Rattle.wasi_calls.proofs.checks.CausesOf29.{asked_29, not_29}
 use Rattle.wasi_calls.specs.World.{World, held_open}

@@ -1,6 +1,6 @@
 use Rattle.std.proofs.Common.{◌≡◌, ℕ, true, Err, refl, sym, ◌∙◌, ap, subst, inr}
 use Rattle.vol_tree.specs.Numbers.{number_of}
-use Rattle.vol_tree.specs.Opened.{is_io}
+use Rattle.vol_tree.specs.Clauses.{is_io}
 use Rattle.wasi_calls.proofs.checks.CausesOf29.{asked_29, result_not_29}
 use Rattle.wasi_calls.specs.World.{World, held_open}
 use Rattle.wasi_calls.specs.declared.paths.renaming.Facts.{Facts}

@@ -2,7 +2,7 @@ use Rattle.std.proofs.Common.{◌≡◌, ◌||◌, not, ℕ, Bool, true, Err, re
 use Rattle.vol_tree.specs.Tree.{Tree, IsDirectory}
 use Rattle.vol_tree.specs.Calls.{renamed, directory_at}
 use Rattle.vol_tree.specs.Numbers.{number_of}
-use Rattle.vol_tree.specs.Opened.{is_io}
+use Rattle.vol_tree.specs.Clauses.{is_io}
 use Rattle.path_walk.specs.Paths.{Missing}
 use Rattle.wasi_calls.proofs.checks.CausesOf29.{asked_29}
 use Rattle.wasi_calls.specs.World.{World}

@@ -1,6 +1,6 @@
 use Rattle.std.proofs.Common.{ℕ, List, length, reverse, sym, subst, arith}
 use Rattle.std.proofs.lemmas.List.{length-reverse}
-use Rattle.wasm_valid.specs.Typing.{float_takes}
+use Rattle.wasm_valid.specs.Arities.{float_takes}
 use Rattle.wasm_interp.specs.internal.Plain.Performing.{AreOnTop}
 use Rattle.wasm_interp.proofs.PlainSteps.FloatOperands.{are_there, some_taken}
 use Rattle.wasm_interp.proofs.plain.float_operands.float_top.Goals as goal

@@ -6,7 +6,7 @@ use Rattle.std.proofs.lemmas.Grind.{common_steps}
 use Rattle.wasm_module.specs.declared.instruction.Instruction.{Instruction}
 use Rattle.wasm_num.specs.declared.trap.Trap.{Trap}
 use Rattle.wasm_num.specs.declared.trap.Trap.TheVariants as traps
-use Rattle.wasm_valid.specs.Typing.{float_takes}
+use Rattle.wasm_valid.specs.Arities.{float_takes}
 use Rattle.wasm_interp.specs.internal.Plain.Performing.{IsReady, Performs, Traps}
 use Rattle.wasm_interp.proofs.PlainSteps.FloatOperands.{are_there, some_taken}
 use Rattle.wasm_interp.proofs.plain.work.work.Goals as goal

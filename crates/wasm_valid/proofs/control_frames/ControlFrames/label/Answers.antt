@@ -1,7 +1,7 @@
 use Rattle.std.proofs.Common.{◌≡◌, ◌-◌, ◌<◌, length, ap, ◌∙◌, arith, get_or, map, subst, List, Some}
 use Rattle.std.specs.List.{slice_get}
 use Rattle.wasm_valid.specs.declared.control_frames.ControlFrame.{ControlFrame}
-use Rattle.wasm_valid.specs.Typing.{results_of}
+use Rattle.wasm_valid.specs.Arities.{results_of}
 use Rattle.wasm_valid.specs.internal.Blocks.{label_of}
 use Rattle.wasm_valid.proofs.Kept.{label_at}
 use Rattle.wasm_valid.proofs.control_frames.ControlFrames.label.Goals as goal

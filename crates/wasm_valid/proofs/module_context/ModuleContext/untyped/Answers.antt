@@ -5,7 +5,8 @@ use Rattle.wasm_module.specs.declared.module.Locals.{Locals}
 use Rattle.wasm_valid.specs.declared.control_frames.BlockKind.TheVariants.{Block}
 use Rattle.wasm_valid.specs.declared.function_context.FunctionContext.{FunctionContext}
 use Rattle.wasm_valid.specs.Typing.{Context}
-use Rattle.wasm_valid.specs.Validity.{FunctionTyped, local_types}
+use Rattle.wasm_valid.specs.Spaces.{local_types}
+use Rattle.wasm_valid.specs.Validity.{FunctionTyped}
 use Rattle.wasm_valid.specs.internal.Blocks.{new_block}
 use Rattle.wasm_valid.specs.internal.Bodies.{Going}
 use Rattle.wasm_valid.specs.internal.Contexts.{IsModuleContext, IsFunctionContext}
