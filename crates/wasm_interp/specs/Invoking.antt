@@ -14,7 +14,15 @@ use Rattle.wasm_store.specs.Allocating.{AllLinks, Allocates, HasInitializer}
 use Rattle.wasm_store.specs.Instances.{outside}
 use Rattle.plugin_steps.specs.Serving.{Exchange, ServeStep, with_memory}
 use Rattle.plugin_steps.specs.Asking.{Asks}
-use Rattle.wasm_interp.specs.declared.phase.Phase.TheVariants.{Asking}
+use Rattle.wasm_interp.specs.declared.invoking.NotAnswered.{NotAnswered}
+use Rattle.wasm_interp.specs.declared.invoking.NotAnswered.TheVariants.{NotAsked}
+use Rattle.wasm_interp.specs.declared.invoking.NotAnswered.TheVariants as notAnswered
+use Rattle.wasm_interp.specs.declared.invoking.NotInvoked.{NotInvoked}
+use Rattle.wasm_interp.specs.declared.invoking.NotInvoked.TheVariants.{Absent}
+use Rattle.wasm_interp.specs.declared.invoking.NotInvoked.TheVariants as notInvoked
+use Rattle.wasm_interp.specs.declared.invoking.NotWritten.{NotWritten}
+use Rattle.wasm_interp.specs.declared.invoking.NotWritten.TheVariants.{AtWork, PastEnd}
+use Rattle.wasm_interp.specs.declared.phase.Phase.TheVariants.{Asking, Between}
 use Rattle.wasm_interp.specs.Machine.{Snapshot, outcome_of, Represents}
 
 -- one of the module's own functions has this type
@@ -36,6 +44,11 @@ pub record IsImportType (m : Module) (x : ℕ) (f : FuncType) : Type 0 where
 pub record Fit (ts : List ValueType) (ns : List ℕ) : Type 0 where
   pub count : length ns ≡ length ts
   pub each : (k : ℕ) (t : ValueType) (n : ℕ) → slice_get ts k ≡ Some t → slice_get ns k ≡ Some n → n < 2 ^ width t
+
+-- Why a function isn't invoked: none of the module's own has this number and at most 16 arguments; or these aren't of its types.
+abbrev pub IsNotInvoked : Module → ℕ → List ℕ → NotInvoked → Type 0
+IsNotInvoked m x args Absent = (f : FuncType) → IsOwnType m x f → length f.params ≤ 16 → ⊥
+IsNotInvoked m x args notInvoked.Mistyped = (f : FuncType) × IsOwnType m x f × (Fit f.params args → ⊥)
 
 -- numbers as values of these types
 abbrev pub values_of : List ValueType → List ℕ → List Val
@@ -91,6 +104,24 @@ pub record IsAskedFor (s : Snapshot) (x : ℕ) (f : FuncType) (arguments : List 
   pub asks : s.state.phase ≡ Asking (record { function = x; above = above })
   pub is_import : IsImportType s.valid x f
   pub arguments_are : arguments ≡ take (length f.params) (drop above s.state.values)
+
+-- the embedder is asked
+abbrev pub IsAsking : Snapshot → Type 0
+IsAsking s = (x : ℕ) × (f : FuncType) × (arguments : List ℕ) × IsAskedFor s x f arguments
+
+-- Why an answer isn't taken: the embedder isn't asked, or this is no result of the function.
+abbrev pub IsNotAnswered : Snapshot → List ℕ → NotAnswered → Type 0
+IsNotAnswered s results NotAsked = IsAsking s → ⊥
+IsNotAnswered s results notAnswered.Mistyped = (x : ℕ) × (f : FuncType) × (arguments : List ℕ) × IsAskedFor s x f arguments × (Fit f.results results → ⊥)
+
+-- nothing is at work and nothing is entered next
+abbrev pub IsIdle : Snapshot → Type 0
+IsIdle s = (s.state.phase ≡ Between) × (s.state.pending.functions ≡ [])
+
+-- Why so many bytes aren't written there: it neither rests nor asks, or they would pass the end of memory.
+abbrev pub IsNotWritten : Snapshot → ℕ → ℕ → NotWritten → Type 0
+IsNotWritten s address count AtWork = (IsIdle s → ⊥) × (IsAsking s → ⊥)
+IsNotWritten s address count PastEnd = length s.memory < address + count
 
 -- How an answer of the embedder leads from one configuration to another: the call of import x takes its unit, and then its function, which
 -- is the embedder's and got these arguments, gives these results and leaves memory as it is.
