@@ -24,7 +24,7 @@ pub answer-requires : goal.answer-requires
 answer-requires c =
     let r : Prepared = arc_value c.self.inside.prepared in
     let f : FuncType = c.in-Some.func_type.now in
-    let is_import : IsImportType r.valid c.in-Asking.ask.function f = subst (λ (m : Module). IsImportType m c.in-Asking.ask.function f) (c.module.ensures.value ∙ ap (λ (p : Prepared). p.valid) c.deref-prepared.ensures) c.in-Some.ensures in
+    let is_import : IsImportType r.valid c.in-Asking.ask.function f = subst (λ (m : Module). IsImportType m c.in-Asking.ask.function f) (c.module.ensures.value ∙ ap (λ (p : Prepared). p.valid) c.deref-prepared.ensures) c.in-Some.ensures.found in
     let can = c.self.invariant.answers c.in-Asking.ask c.in-Asking.is in
     record {
       arguments = omega (arith, arguments_asked r c.self.inside.state c.in-Asking.ask c.in-Asking.is f is_import c.self.invariant.live, ap length c.as_slice-params.ensures);
@@ -38,8 +38,8 @@ invariant_of-self c =
     let r : Prepared = arc_value c.self.inside.prepared in
     let f : FuncType = c.in-Some.func_type.now in
     let ns : List ℕ = option_to_list c.args.value in
-    let is_import : IsImportType r.valid c.in-Asking.ask.function f = subst (λ (m : Module). IsImportType m c.in-Asking.ask.function f) (c.module.ensures.value ∙ ap (λ (p : Prepared). p.valid) c.deref-prepared.ensures) c.in-Some.ensures in
-    let fits : Fit f.results ns = subst (λ (xs : List ℕ). Fit f.results xs) (listed c.args.value _ c.as_slice-given.ensures) (subst (λ (ts : List ValueType). Fit ts c.as_slice-given.result.now) c.as_slice-results.ensures c.if-not-fit.ensures) in
+    let is_import : IsImportType r.valid c.in-Asking.ask.function f = subst (λ (m : Module). IsImportType m c.in-Asking.ask.function f) (c.module.ensures.value ∙ ap (λ (p : Prepared). p.valid) c.deref-prepared.ensures) c.in-Some.ensures.found in
+    let fits : Fit f.results ns = subst (λ (xs : List ℕ). Fit f.results xs) (listed c.args.value _ c.as_slice-given.ensures) (subst (λ (ts : List ValueType). Fit ts c.as_slice-given.result.now) c.as_slice-results.ensures c.if-not-fit.ensures.yes) in
     let count : length c.as_slice-params.result.now ≡ length f.params = ap length c.as_slice-params.ensures in
     let e : IsAnswered c.self.inside.state c.answer.new.self c.in-Asking.ask.above (length f.params) ns = subst (λ (n : ℕ). IsAnswered c.self.inside.state c.answer.new.self c.in-Asking.ask.above n ns) count c.answer.ensures in
     answered_invocable r c.self.inside.state c.answer.new.self c.in-Asking.ask c.in-Asking.is f is_import ns fits e c.self.invariant (at_most_one c.args.value)
@@ -49,8 +49,8 @@ returns-clause-answered c =
     let r : Prepared = arc_value c.self.inside.prepared in
     let f : FuncType = c.in-Some.func_type.now in
     let ns : List ℕ = option_to_list c.args.value in
-    let is_import : IsImportType r.valid c.in-Asking.ask.function f = subst (λ (m : Module). IsImportType m c.in-Asking.ask.function f) (c.module.ensures.value ∙ ap (λ (p : Prepared). p.valid) c.deref-prepared.ensures) c.in-Some.ensures in
-    let fits : Fit f.results ns = subst (λ (xs : List ℕ). Fit f.results xs) (listed c.args.value _ c.as_slice-given.ensures) (subst (λ (ts : List ValueType). Fit ts c.as_slice-given.result.now) c.as_slice-results.ensures c.if-not-fit.ensures) in
+    let is_import : IsImportType r.valid c.in-Asking.ask.function f = subst (λ (m : Module). IsImportType m c.in-Asking.ask.function f) (c.module.ensures.value ∙ ap (λ (p : Prepared). p.valid) c.deref-prepared.ensures) c.in-Some.ensures.found in
+    let fits : Fit f.results ns = subst (λ (xs : List ℕ). Fit f.results xs) (listed c.args.value _ c.as_slice-given.ensures) (subst (λ (ts : List ValueType). Fit ts c.as_slice-given.result.now) c.as_slice-results.ensures c.if-not-fit.ensures.yes) in
     let count : length c.as_slice-params.result.now ≡ length f.params = ap length c.as_slice-params.ensures in
     let e : IsAnswered c.self.inside.state c.answer.new.self c.in-Asking.ask.above (length f.params) ns = subst (λ (n : ℕ). IsAnswered c.self.inside.state c.answer.new.self c.in-Asking.ask.above n ns) count c.answer.ensures in
     rw (← c.self.view_is) (answers_of r c.self.inside.state c.answer.new.self c.in-Asking.ask c.in-Asking.is f is_import ns fits e c.self.invariant (at_most_one c.args.value))
