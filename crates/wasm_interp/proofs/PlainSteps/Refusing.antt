@@ -7,10 +7,16 @@ use Rattle.wasm_module.specs.declared.module.Import.{Import}
 use Rattle.wasm_module.specs.declared.module.ImportKind.{ImportKind}
 use Rattle.wasm_module.specs.declared.module.ImportKind.TheVariants as imports
 use Rattle.wasm_module.specs.declared.module.Module.{Module}
+use Rattle.wasm_interp.specs.declared.phase.Ask.{Ask}
+use Rattle.wasm_interp.specs.declared.phase.Phase.TheVariants.{Asking}
 use Rattle.wasm_interp.specs.Invoking.{IsImportType, IsOwnType}
 
 same_some : {X : Type 0} {u v : X} → Some u ≡ Some v → u ≡ v
 same_some h = cc
+
+-- one call is asked for
+pub ask_once : (a b : Ask) → Asking a ≡ Asking b → a ≡ b
+ask_once a b e = cc
 
 module _ (m : Module) (x : ℕ) where
   -- ---- no imported function

@@ -1,10 +1,12 @@
-use Rattle.std.proofs.Common.{◌∙◌, ℕ, List, length, reverse, take, drop, ap, subst, arith}
+use Rattle.std.proofs.Common.{◌∙◌, ℕ, List, length, reverse, take, drop, ap, sym, subst, arith}
 use Rattle.std.specs.Arc.{arc_value}
 use Rattle.wasm_module.specs.declared.module.FuncType.{FuncType}
 use Rattle.wasm_module.specs.declared.module.Module.{Module}
 use Rattle.wasm_interp.specs.declared.tables.Prepared.{Prepared}
 use Rattle.wasm_interp.specs.Invoking.{IsImportType}
 use Rattle.wasm_interp.proofs.PlainSteps.Invoking.{arguments_asked}
+use Rattle.wasm_interp.specs.declared.phase.Ask.{Ask}
+use Rattle.wasm_interp.proofs.PlainSteps.Refusing.{ask_once}
 use Rattle.wasm_interp.proofs.invoking.InvokedMachine.asked.Goals as goal
 
 pub below-requires : goal.below-requires
@@ -35,3 +37,15 @@ returns-clause-asked c =
         arguments_are = c.below.ensures ∙ ap (λ (xs : List ℕ). take (length c.as_slice-params.result.now) (drop above (reverse xs))) c.as_slice-values.ensures.value ∙ ap (λ (n : ℕ). take n (drop above (reverse c.self.inside.state.values.items))) (ap length c.as_slice-params.ensures);
       },
     )
+
+-- nobody is asked
+pub returns-in_default-clause-not : goal.returns-in_default-clause-not
+returns-in_default-clause-not c = rw (← c.self.view_is) (λ k. c.in_default.not-Asking _ k.3.asks)
+
+pub returns-in-None-clause-not : goal.returns-in-None-clause-not
+returns-in-None-clause-not c =
+    let r : Prepared = arc_value c.self.inside.prepared in
+    let same = c.module.ensures.value ∙ ap (λ (p : Prepared). p.valid) c.deref-prepared.ensures in
+    rw (← c.self.view_is) (λ k.
+      let here : IsImportType r.valid c.in-Asking.ask.function k.1 = subst (λ (a : Ask). IsImportType r.valid a.function k.1) (ask_once _ c.in-Asking.ask (sym k.3.asks ∙ c.in-Asking.is)) k.3.is_import in
+      c.in-None.ensures.missing k.1 (subst (λ (m : Module). IsImportType m c.in-Asking.ask.function k.1) (sym same) here))
