@@ -1,5 +1,5 @@
 -- One slice more of a run in slices, and its end.
-use Rattle.std.proofs.Common.{◌≡◌, ◌≤◌, ◌+◌, ◌-◌, ℕ, zero, suc, Bool, List, [], ◌∷◌, ◌++◌, length, max, sum, slice_index, append_assoc, append-nil, if◌then◌else◌, refl, sym, ap, subst, ◌∙◌, true≢false, inl, inr, arith}
+use Rattle.std.proofs.Common.{◌≡◌, ◌≤◌, ◌+◌, ◌-◌, ℕ, zero, suc, Bool, List, [], ◌∷◌, ◌++◌, length, max, sum, slice_index, append_assoc, append-nil, length-append, if◌then◌else◌, refl, sym, ap, subst, ◌∙◌, true≢false, inl, inr, arith}
 use Rattle.std.specs.List.{All}
 use Rattle.std.proofs.lemmas.List.Elements.{All-nil, All-append}
 use Rattle.std.proofs.lemmas.Bool.Decides.{eqb_tells}
@@ -63,6 +63,7 @@ module _ {D R W1 W2 : Type 0} where
       charges = λ k. refl;
       rises = omega arith;
       in_all = omega arith;
+      within = omega arith;
     }
 
     -- stacks were added
@@ -82,6 +83,7 @@ module _ {D R W1 W2 : Type 0} where
           (charges_kept a b grows.added grows.calls grows.whole goes.slices (slice_index old.units) (slice_index a.units) goes.charges);
       rises = goes.rises;
       in_all = ap sum grows.units ∙ same_sum a.units (length grows.added) ∙ goes.in_all;
+      within = omega (arith, goes.within, grows.within, length-append goes.added grows.added);
     }
 
     module _ (now new : SessionState D R W1 W2) (until : ℕ) (before after : Tally) (c b : Stacks) (so_far : GoesInSlices on every first now before old c) (charges : ChargesSlice now new c b)
@@ -144,6 +146,7 @@ module _ {D R W1 W2 : Type 0} where
         charges = charges_with_it Spent ran;
         rises = let within = slice_rises on now new until before after Spent ran in omega (arith, goes.rises, within.0);
         in_all = sum_with_it Spent ran;
+        within = omega (arith, goes.within, adds.room);
       }
 
       -- the run ended in it
@@ -161,6 +164,7 @@ module _ {D R W1 W2 : Type 0} where
               short = subst (All (λ (s : Slice D R W1 W2). s.units ≤ max every 1)) (sym all) (short_with_it (Ended o) ran);
               charges = subst (λ (slices : List (Slice D R W1 W2)). Charges b slices (slice_index old.units) (slice_index b.units)) (sym all) (charges_with_it (Ended o) ran);
               in_all = sum_with_it (Ended o) ran;
+              within = omega (arith, goes.within, adds.room);
             };
           }
 
@@ -185,6 +189,7 @@ module _ {D R W1 W2 : Type 0} where
                   (charges_more b with_it last 0 (slice_index old.units) (slice_index b.units) (slice_index b.units) (charges_with_it Spent ran)
                   (λ some. absurd (omega (arith, some, none))) (λ k. nothing_there k last.units none));
               in_all = sum_with_it Spent ran;
+              within = omega (arith, goes.within, adds.room);
             };
           }
         where

@@ -1,6 +1,6 @@
 -- Where the units of a run went that was made in slices: each slice is charged as a whole to the functions that were at work
 -- where it began.
-use Rattle.std.specs.Prelude.{◌≡◌, ℕ, ◌+◌, ◌-◌, ◌<◌, ◌≤◌, ◌==◌, List, [], ◌∷◌, ◌++◌, if◌then◌else◌, map, max, sum, slice_index}
+use Rattle.std.specs.Prelude.{◌≡◌, ℕ, ◌+◌, ◌-◌, ◌<◌, ◌≤◌, ◌==◌, List, [], ◌∷◌, ◌++◌, if◌then◌else◌, map, max, sum, length, slice_index}
 use Rattle.std.specs.List.{All}
 use Rattle.wasm_steps.specs.declared.pause.Pause.TheVariants.{Called, Spent, Ended}
 use Rattle.wasm_interp.specs.declared.frames.Frame.{Frame}
@@ -48,7 +48,7 @@ module _ {D R W1 W2 : Type 0} where
       × Charges stacks rest (charged before node s.units) now
 
   -- The slices of these resumes have at most so many units each, and were charged to the stacks; those that were there kept
-  -- their nodes. So the sum of all rose by the units that were used.
+  -- their nodes. So the sum of all rose by the units that were used. No more nodes came than there was room for.
   pub record ChargesRun (every : ℕ) (first : SessionState D R W1 W2) (resumes : History (SessionState D R W1 W2)) (used : ℕ)
       (old new : Stacks) : Type 0 where
     pub added : List Call
@@ -56,6 +56,7 @@ module _ {D R W1 W2 : Type 0} where
     pub short : All (λ (s : Slice D R W1 W2). s.units ≤ max every 1) (slices_from first first resumes)
     pub charges : Charges new (slices_from first first resumes) (slice_index old.units) (slice_index new.units)
     pub in_all : sum new.units ≡ sum old.units + used
+    pub within : length added + new.room ≤ old.room
 
 module _ {D R W1 W2 : Type 0} (on : Devices D R W1 W2) where
   -- what is told of a run that isn't profiled, and where the units of its report went

@@ -48,8 +48,8 @@ still_stack added bottom = bottom
 still_stack {calls} added (above k call below at rest) = above k call below (front calls added k call at) (still_stack added rest)
 
 -- one node more, with no units yet
-pub grown : (old new : Stacks) (call : Call) → new.calls ≡ old.calls ++ call ∷ [] → new.units ≡ old.units ++ 0 ∷ [] → new.is_cut ≡ old.is_cut → Grows old new
-grown old new call calls units cut = record { added = call ∷ []; calls = calls; units = units; whole = λ whole. sym cut ∙ whole }
+pub grown : (old new : Stacks) (call : Call) (depth : ℕ) → new.calls ≡ old.calls ++ call ∷ [] → new.units ≡ old.units ++ 0 ∷ [] → new.is_cut ≡ old.is_cut → 0 < depth → new.room + depth ≤ old.room → Grows old new
+grown old new call depth calls units cut some room = record { added = call ∷ []; calls = calls; units = units; whole = λ whole. sym cut ∙ whole; within = omega (arith, some, room) }
 
 -- units of so many nodes that have none yet
 abbrev zeros : ℕ → List ℕ
@@ -67,6 +67,7 @@ grows_on a b c first next = record {
   units = next.units ∙ ap (λ (units : List ℕ). units ++ zeros (length next.added)) first.units ∙ append_assoc a.units (zeros (length first.added)) (zeros (length next.added))
       ∙ ap (λ (rest : List ℕ). a.units ++ rest) (more_zeros first.added next.added);
   whole = λ whole. first.whole (next.whole whole);
+  within = omega (arith, first.within, next.within, length-append first.added next.added);
 }
 
 -- a stack keeps its node while the tree grows
@@ -91,7 +92,7 @@ goes_last false old new x is absent = is
 
 -- nothing was added
 pub grows_none : (s : Stacks) → Grows s s
-grows_none s = record { added = []; calls = sym (append-nil s.calls); units = sym (append-nil s.units); whole = λ whole. whole }
+grows_none s = record { added = []; calls = sym (append-nil s.calls); units = sym (append-nil s.units); whole = λ whole. whole; within = omega arith }
 
 -- no function is at work at the bottom
 pub at_bottom : (s : Stacks) (functions : List ℕ) (node : ℕ) → node ≡ 0 → IsStack s.calls node (drop (length functions - 0) functions)
@@ -119,7 +120,7 @@ further old new functions depth node up call grows small caller function (k, is,
 
 -- what is left out is said, and nothing else changes
 pub cut_grows : (old grown cut : Stacks) → Grows old grown → cut ≡ record grown { is_cut = true } → Grows old cut
-cut_grows old grown cut grows is = subst (Grows old) (sym is) (record { added = grows.added; calls = grows.calls; units = grows.units; whole = λ whole. absurd (true≢false whole) })
+cut_grows old grown cut grows is = subst (Grows old) (sym is) (record { added = grows.added; calls = grows.calls; units = grows.units; whole = λ whole. absurd (true≢false whole); within = grows.within })
 
 pub cut_node : (grown cut : Stacks) (functions : List ℕ) (node left_out : ℕ) → cut ≡ record grown { is_cut = true } → IsStack grown.calls node (drop left_out functions) → IsNodeOf cut functions node
 cut_node grown cut functions node left_out is stack =
@@ -149,13 +150,14 @@ any_or [] node found small is = elim small [ ]
 any_or (u ∷ units) zero found small is = is
 any_or (u ∷ units) (suc node) found small is = any_or units node found (omega (arith, small)) is
 
-pub adds : (calls : List Call) (units : List ℕ) (cut : Bool) (node found more : ℕ) → node < length units → found ≡ slice_index_or units node found
-    → AddsUnits (record { calls = calls; units = units; is_cut = cut }) (record { calls = calls; units = slice_set units node (found + more); is_cut = cut }) node more
-adds calls units cut node found more small is =
+pub adds : (calls : List Call) (units : List ℕ) (cut : Bool) (room node found more : ℕ) → node < length units → found ≡ slice_index_or units node found
+    → AddsUnits (record { calls = calls; units = units; is_cut = cut; room = room }) (record { calls = calls; units = slice_set units node (found + more); is_cut = cut; room = room }) node more
+adds calls units cut room node found more small is =
     let was : found ≡ slice_index units node = any_or units node found small is in
     record {
       calls = refl;
       is_cut = refl;
+      room = refl;
       nodes = length-set units node (found + more);
       there = get_or-set_same units node (found + more) 0 small ∙ ap (λ n. n + more) was;
       elsewhere = λ k other. get_or-set_other units node k (found + more) 0 other;

@@ -33,7 +33,7 @@ impl Model for Profile {
 
     ghost Value = { Stacks };
 
-    ghost view = { λ p. record { calls = p.calls.keys; units = p.units.items; is_cut = p.is_cut } };
+    ghost view = { λ p. record { calls = p.calls.keys; units = p.units.items; is_cut = p.is_cut; room = p.room } };
 
     ghost invariant = { λ p. (length p.units.items ≡ suc (length p.calls.keys))
         × ((k : ℕ) (call : Call) → slice_get p.calls.keys k ≡ Some call → call.caller ≤ k) };
@@ -42,7 +42,7 @@ impl Model for Profile {
 impl Profile {
     /// No stack yet, and room for stacks with so many functions, all together.
     pub fn new(alloc: Global, room: u64) -> Result<Profile, AllocError>
-        ensures { IfOk result (λ p. (p.calls ≡ []) × (p.units ≡ 0 ∷ []) × (p.is_cut ≡ false)) }
+        ensures { IfOk result (λ p. (p.calls ≡ []) × (p.units ≡ 0 ∷ []) × (p.is_cut ≡ false) × (p.room ≡ room)) }
     {
         let mut units = Vec::new(alloc);
         units.push(0)?;
@@ -63,10 +63,11 @@ impl Profile {
         self.units[node] += units;
     }
 
-    /// The node of a function that a node's function called, where there is one or can be one.
+    /// The node of a function that a node's function called, where there is one or can be one. So many functions are at work there.
     #[tactic(auto, using(crate::proofs::Trees::callers_below))]
     fn called(&mut self, call: Call, depth: u64) -> Option<usize>
-        requires { call.caller < length self.old.units }
+        requires called { call.caller < length self.old.units }
+        requires some { 0 < depth }
         ensures grows { Grows self.old self.new }
         ensures found { IfSome result (λ node. (k : ℕ) × (node ≡ suc k) × (slice_get self.new.calls k ≡ Some call)) }
         ensures there { IfSome result (λ node. node < length self.new.units) }

@@ -21,9 +21,9 @@ use Rattle.sandbox_command.specs.declared.stopping.Stopped.{Stopped}
 
 -- ---- its stacks
 
--- no stack yet
+-- no stack yet, and room for stacks of 4,194,304 functions, all together: so many nodes are the most that a profile has
 abbrev pub no_stacks : Stacks
-no_stacks = record { calls = []; units = 0 ∷ []; is_cut = false }
+no_stacks = record { calls = []; units = 0 ∷ []; is_cut = false; room = 4194304 }
 
 -- the units of a slice at most
 abbrev pub slice_of : Run → ℕ

@@ -1,5 +1,5 @@
 -- A run in slices on its way.
-use Rattle.std.specs.Prelude.{◌≡◌, ℕ, ◌+◌, ◌-◌, ◌≤◌, List, ◌++◌, None, max, sum, slice_index}
+use Rattle.std.specs.Prelude.{◌≡◌, ℕ, ◌+◌, ◌-◌, ◌≤◌, List, ◌++◌, None, length, max, sum, slice_index}
 use Rattle.std.specs.List.{All}
 use Rattle.wasm_steps.specs.declared.pause.Outcome.{Outcome}
 use Rattle.wasm_interp.specs.Machine.{outcome_of}
@@ -36,6 +36,7 @@ module _ {D R W1 W2 : Type 0} (on : Devices D R W1 W2) where
     pub charges : Charges stacks slices (slice_index old.units) (slice_index stacks.units)
     pub rises : used_by first ≤ used_by now
     pub in_all : sum stacks.units ≡ sum old.units + (used_by now - used_by first)
+    pub within : length added + stacks.room ≤ old.room
 
   -- All slices are over and charged.
   pub record RunsInSlices (first : SessionState D R W1 W2) (fuel every : ℕ) (last : SessionState D R W1 W2) (outcome : Outcome)

@@ -14,6 +14,6 @@ pub returns : goal.returns
 returns c =
     let units = c.self.inside.units.items in
     let small = subst (λ (s : Stacks). c.args.node < length s.units) (sym c.self.view_is) c.requires.there in
-    let new : Stacks = record { calls = c.self.inside.calls.keys; units = slice_set units c.args.node (c.index_mut.result.now + c.args.units); is_cut = c.self.inside.is_cut } in
+    let new : Stacks = record { calls = c.self.inside.calls.keys; units = slice_set units c.args.node (c.index_mut.result.now + c.args.units); is_cut = c.self.inside.is_cut; room = c.self.inside.room } in
     subst (λ (old : Stacks). AddsUnits old new c.args.node c.args.units) c.self.view_is
-    (adds c.self.inside.calls.keys units c.self.inside.is_cut c.args.node c.index_mut.result.now c.args.units small c.index_mut.ensures.value)
+    (adds c.self.inside.calls.keys units c.self.inside.is_cut c.self.inside.room c.args.node c.index_mut.result.now c.args.units small c.index_mut.ensures.value)
