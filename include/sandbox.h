@@ -267,8 +267,8 @@ uint32_t sandbox_full(sandbox_session **session, uint32_t descriptor);
 uint32_t sandbox_frame_at(sandbox_session **session, size_t number, sandbox_frame *frame);
 
 /* Copies what a function of a module is called, as far as there is room; answers how long it is: its name in the section `name`,
- * else that of its first export, else `function[3]` with its index. A name has any bytes, also none, line ends and no UTF-8. The
- * bytes are borrowed, and needn't be a module's. */
+ * else that of its first export, else `function[3]` with its index. An empty name is none; else it has any bytes, also line ends and
+ * no UTF-8. The bytes are borrowed, and needn't be a module's. */
 size_t sandbox_function_name(const uint8_t *module, size_t module_length, uint32_t function, uint8_t *room, size_t length);
 
 /* Commits the guest's calls to its volume, and ends the session's run. Its output and volume can be read until it is closed.

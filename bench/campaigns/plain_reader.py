@@ -218,10 +218,9 @@ def name_of_export(data, function):
 
 
 def name_of(data, function):
-    """What a function of a valid module is called: by its section `name`, else by its exports, else by its number."""
+    """What a function of a valid module is called: by its section `name`, else by its first export, else by its number; an empty name is none."""
     try:
         name = name_in_section(data, function)
     except Odd:
         name = None
-    name = name_of_export(data, function) if name is None else name
-    return b"function[%d]" % function if name is None else name
+    return name or name_of_export(data, function) or b"function[%d]" % function

@@ -1,7 +1,7 @@
 -- Where in a module's bytes functions stand, and what they are called. Sections are found by their ids and sizes, the
 -- custom section `name` by its name too, so this speaks also of bytes that spell no module. Only the bytes up to the
 -- end of the imports have to be a module, so that imported functions can be counted.
-use Rattle.std.specs.Prelude.{◌≡◌, ℕ, zero, suc, ◌+◌, ◌-◌, ◌==◌, ◌&&◌, nat_le, nat_lt, Bool, false, List, ◌++◌, length, take, drop, Option, Some, None, if◌then◌else◌, codes, bytes_eq}
+use Rattle.std.specs.Prelude.{◌≡◌, ℕ, zero, suc, ◌+◌, ◌-◌, ◌==◌, ◌&&◌, nat_le, nat_lt, Bool, false, List, [], ◌∷◌, ◌++◌, length, take, drop, Option, Some, None, if◌then◌else◌, codes, bytes_eq}
 use Rattle.std.specs.List.{filter_map}
 use Rattle.std.specs.Option.{option_map_or}
 use Rattle.wasm_module.specs.declared.module.Body.{Body}
@@ -133,6 +133,12 @@ exported_among (suc n) index bytes = exported_of bytes >>= λ e. if exports_func
 abbrev pub exported_name : List ℕ → ℕ → Option (List ℕ)
 exported_name bytes index = module_section Exports bytes >>= λ s. u32_at s.content >>= λ count. exported_among count.0 index count.1
 
+-- an empty name is none
+abbrev pub named : Option (List ℕ) → Option (List ℕ)
+named None = None
+named (Some []) = None
+named (Some (b ∷ name)) = Some (b ∷ name)
+
 -- what a function is called: its name in the section `name`, or else that of its first export
 abbrev pub called : List ℕ → ℕ → Option (List ℕ)
-called bytes index = option_map_or (λ name. Some name) (function_name bytes index) (exported_name bytes index)
+called bytes index = option_map_or (λ name. Some name) (named (function_name bytes index)) (named (exported_name bytes index))

@@ -2,7 +2,7 @@
 
 ghost use Rattle.std.specs.Prelude.{◌≡◌, ◌++◌, OnOk};
 ghost use Rattle.std.specs.Option.{option_map};
-ghost use Rattle.module_survey.specs.Places.{called, exported_among, exported_name, exported_of, exports_function};
+ghost use Rattle.module_survey.specs.Places.{called, exported_among, exported_name, exported_of, exports_function, named};
 ghost use Rattle.module_survey.specs.Words.{called_text};
 ghost use Rattle.module_survey.specs.internal.Views.{found_export};
 
@@ -67,14 +67,24 @@ fn exported_name(bytes: &[u8], index: u64) -> Option<&[u8]>
     exported_among(count, index, exports)
 }
 
+/// A name, but for an empty one.
+fn named(name: Option<&[u8]>) -> Option<&[u8]>
+    ensures { option_map (λ name. name.now) result ≡ named (option_map (λ name. name.now) name) }
+{
+    match name {
+        Some(name) if !name.is_empty() => Some(name),
+        _ => None,
+    }
+}
+
 /// What the function of this index is called in a module's bytes, the imported ones counted first: its name in the custom section
-/// `name`, or else the name that it is exported by first. Bytes that spell no module have names, too.
+/// `name`, or else the name that it is exported by first. An empty name is none. Bytes that spell no module have names, too.
 pub fn called(bytes: &[u8], index: u64) -> Option<&[u8]>
     ensures { option_map (λ name. name.now) result ≡ called bytes.now index }
 {
-    match function_name(bytes, index) {
+    match named(function_name(bytes, index)) {
         Some(name) => Some(name),
-        None => exported_name(bytes, index),
+        None => named(exported_name(bytes, index)),
     }
 }
 

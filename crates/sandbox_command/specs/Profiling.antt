@@ -1,6 +1,6 @@
 -- Where the fuel of a run went, and the text of its profile (`docs/USING.md`, "Where the fuel went"). What is charged to which stack
 -- says `ChargesRun` (`crates/observed_run/specs`), what the lines of stacks are `IsFolded` (`crates/run_profile/specs`).
-use Rattle.std.specs.Prelude.{◌≡◌, ◌+◌, ◌-◌, ◌^◌, ◌==◌, ℕ, List, [], ◌∷◌, ◌++◌, Option, Some, None, false, codes, decimal, if◌then◌else◌, length, min, take, unwrap_or}
+use Rattle.std.specs.Prelude.{◌≡◌, ◌+◌, ◌-◌, ◌^◌, ◌==◌, ℕ, List, [], ◌∷◌, ◌++◌, Option, Some, None, false, if◌then◌else◌, length, min, take, unwrap_or}
 use Rattle.std.specs.List.{flat_map}
 use Rattle.wasm_module.specs.declared.module.Module.{Module}
 use Rattle.module_survey.specs.Places.{called}
@@ -67,16 +67,11 @@ TellsUse (Some given) (Some stopped) = IsThere stopped.fuel_use
 abbrev pub stack_byte : ℕ → Text
 stack_byte b = if b == 59 then 92 ∷ 51 ∷ 98 ∷ [] else (if b == 35 then 92 ∷ 50 ∷ 51 ∷ [] else b ∷ [])
 
--- what a function is called, by its index where that is nothing
-abbrev pub called_or_index : ℕ → Text → Text
-called_or_index index [] = codes "function[" ++ (decimal index ++ codes "]")
-called_or_index index (b ∷ name) = b ∷ name
-
 -- What the module's own function of this index is called in a stack: what it is called in other lines, up to 255 bytes of it.
 abbrev pub stack_name : List ℕ → (imported : ℕ) → ℕ → Text
 stack_name bytes imported own =
     let index = min (imported + own) (2 ^ 64 - 1) in
-    flat_map stack_byte (take 255 (called_or_index index (called_text index (called bytes index))))
+    flat_map stack_byte (take 255 (called_text index (called bytes index)))
 
 -- how the functions of a module are called: by its bytes, and by how many it imports
 pub record Naming : Type 0 where

@@ -3,9 +3,7 @@
 ghost use Rattle.std.specs.Prelude.{◌≡◌, ◌++◌, IfOk, OnOk};
 ghost use Rattle.std.specs.List.{flat_map};
 ghost use Rattle.run_profile.specs.Stacks.{Stacks};
-ghost use Rattle.sandbox_command.specs.Profiling.{called_or_index, no_stacks, slice_of, stack_byte, stack_name};
-ghost use Rattle.module_survey.specs.Places.{called};
-ghost use Rattle.module_survey.specs.Words.{called_text};
+ghost use Rattle.sandbox_command.specs.Profiling.{no_stacks, slice_of, stack_byte, stack_name};
 
 use indexmap::IndexMap;
 use module_survey::add_called;
@@ -13,7 +11,6 @@ use run_profile::{Names, Profile};
 use sandbox_words::Run;
 use std::alloc::{AllocError, Global};
 use std::io;
-use std::io::Write;
 use std::marker::Model;
 
 /// Where the fuel of a run went.
@@ -71,18 +68,6 @@ fn add_bytes(line: &mut Vec<u8>, name: &[u8]) -> io::Result<()>
     Ok(())
 }
 
-/// What a function is called, or its index where that is nothing.
-fn called_or_index(alloc: Global, bytes: &[u8], index: u64) -> io::Result<Vec<u8>>
-    ensures { IfOk result (λ name. name.items ≡ called_or_index index (called_text index (called bytes.now index))) }
-{
-    let mut name = Vec::new(alloc);
-    add_called(&mut name, bytes, index)?;
-    if name.is_empty() {
-        write!(name, "function[{index}]")?;
-    }
-    Ok(name)
-}
-
 /// How the functions of a module of these bytes are called in stacks.
 #[derive(Drop)]
 pub(crate) struct StackNames<'a> {
@@ -138,7 +123,8 @@ impl<'a> StackNames<'a> {
         ensures { IfOk result (λ name. name.items ≡ stack_name self.now.bytes self.now.imported own) }
     {
         let index = (self.imported as u64).saturating_add(own as u64);
-        let mut called = called_or_index(self.alloc, self.bytes, index)?;
+        let mut called = Vec::new(self.alloc);
+        add_called(&mut called, self.bytes, index)?;
         called.truncate(NAME);
         let mut name = Vec::new(self.alloc);
         add_bytes(&mut name, called.as_slice())?;
