@@ -1,14 +1,10 @@
--- What the system gave for a name, took, or refused: nothing is known of it (`specs/Places.antt`).
-use Rattle.std.proofs.Common.{Result, Ok, Err, None, IfErr, IfOk, OnOk}
+-- What the system took, or refused: nothing is known of it (`specs/Places.antt`).
+use Rattle.std.proofs.Common.{Result, Ok, Err, None, IfErr, OnOk}
 use Rattle.std.specs.Io.KnownBytes.{Appends}
 use Rattle.std.specs.IoError.{error_kind}
 use Rattle.std.specs.declared.io.Error.{Error}
 use Rattle.sandbox_words.specs.Request.{Text}
-use Rattle.sandbox_command.specs.Places.{Access, Gave, Took, WasRefused, gave, took, was_refused}
-
-pub given : {X Y : Type 0} (name : Text) (f : X → Y) (r : Result X Error) → IfOk r (λ x. Gave name (f x))
-given name f (Ok x) = gave name (f x)
-given name f (Err e) = tt
+use Rattle.sandbox_command.specs.Places.{Access, Took, WasRefused, took, was_refused}
 
 pub taken : {X : Type 0} (name text : Text) (r : Result X Error) → OnOk r (Took name text)
 taken name text (Ok x) = took name text

@@ -2,6 +2,7 @@ mod Chains
 mod Both
 mod Given
 mod OfName
+mod Wholly
 mod Words
 mod Lines
 mod Began

@@ -22,6 +22,7 @@ pub mod Archive
 pub mod Alone
 pub mod Testing
 pub mod Formatting
+pub mod Reading
 pub mod System
 pub mod Files
 pub mod internal

@@ -1,7 +1,7 @@
 -- What the files of the system were to a command, by the evidence of those that asked for them (`crates/sandbox_device`): a file that was
 -- opened under a name, sectors that were read of it, bytes that it got. `HostPlaces` has this of the files that it gives.
 use Rattle.std.specs.declared.rt.LibcRuntime.{LibcRuntime}
-use Rattle.std.specs.Prelude.{◌⊎◌, string_bytes}
+use Rattle.std.specs.Prelude.{◌⊎◌, ℕ, string_bytes}
 use Rattle.sandbox_device.specs.declared.opening.Output.{Output}
 use Rattle.sandbox_device.specs.declared.ram_device.RamDevice.{RamDevice}
 use Rattle.sandbox_device.specs.declared.replacing.Replacement.{Replacement}
@@ -10,7 +10,9 @@ use Rattle.sandbox_device.specs.FileEvidence.{AreRead, WasLocked, WasRead}
 use Rattle.sandbox_device.specs.Named.{IsForName, IsGiven, WasOpened}
 use Rattle.sandbox_device.specs.Written.{CutsOnce, WasCut}
 use Rattle.sandbox_words.specs.Request.{Text}
+use Rattle.stream_answers.specs.System.{WasGiven as Gave}
 use Rattle.sandbox_command.specs.declared.host_volume.HostVolume.{HostVolume}
+use Rattle.sandbox_command.specs.Reading.{IsWhole}
 
 -- It was opened or made under this name, and at the most cut since.
 abbrev pub IsOutput : Text → Output → Type 0
@@ -27,3 +29,7 @@ IsImageOfName name it = (file : File) × WasOpened name file × AreRead WasRead 
 -- The file of this name got these bytes.
 abbrev pub WasGiven : (name bytes : Text) → Type 0
 WasGiven name bytes = (it : Replacement) × IsForName name it × IsGiven LibcRuntime (string_bytes it.path) it.old bytes
+
+-- A file that was opened under this name gave these bytes: all that it had, or as many as were wanted.
+abbrev pub IsRead : Text → ℕ → Text → Type 0
+IsRead name most bytes = (file : File) × WasOpened name file × (last : File) × IsWhole Gave most file bytes last

@@ -1,6 +1,6 @@
 //! The files of the system, as a command holds them.
 
-ghost use Rattle.std.specs.Prelude.{◌≡◌, ◌≤◌, IfOk, Ok, OnOk, false, length, min};
+ghost use Rattle.std.specs.Prelude.{◌≡◌, ◌≤◌, IfOk, Ok, OnOk, false, length, min, string_bytes};
 ghost use Rattle.sandbox_device.specs.Contents.{bytes_of};
 ghost use Rattle.sandbox_device.specs.FileEvidence.{WasLocked};
 ghost use Rattle.sandbox_device.specs.Named.{WasOpened};
@@ -8,13 +8,14 @@ ghost use Rattle.sandbox_device.specs.Ram.{joined_sectors};
 ghost use Rattle.sandbox_words.specs.Request.{Text};
 ghost use Rattle.sandbox_command.specs.Files.{file_disk};
 ghost use Rattle.sandbox_command.specs.Profiling.{IsProfile};
-ghost use Rattle.sandbox_command.specs.Places.{Gave, HasRoom, Took, WasEnded, WasRefused};
-ghost use Rattle.sandbox_command.specs.System.{IsImageOfName, IsOutput, IsVolume, WasGiven};
+ghost use Rattle.sandbox_command.specs.Places.{HasRoom, Took, WasEnded, WasRefused};
+ghost use Rattle.sandbox_command.specs.System.{IsImageOfName, IsOutput, IsRead, IsVolume, WasGiven};
 
 use crate::clashing::clashes;
 use crate::host_volume::HostVolume;
 use crate::places::Places;
 use crate::possession::{Held, refuse_errors, refuse_errors_of};
+use crate::reading::read_whole;
 use crate::receiver::Receiver;
 use run_profile::{Names, Profile};
 use run_report::{Printed, Summary};
@@ -24,7 +25,7 @@ use sandbox_device::{
 use sandbox_words::{Invocation, Run};
 use std::alloc::Global;
 use std::fs::File;
-use std::io::{ErrorKind, Read, Write};
+use std::io::{ErrorKind, Write};
 use std::{fs, io};
 use volume_tasks::MAGIC;
 
@@ -262,7 +263,9 @@ impl<'a> HostPlaces<'a> {
     }
 
     /// A file that is read whole. It has a part in what is done, even where all is refused.
-    fn source(&mut self, name: &str) -> io::Result<File> {
+    fn source(&mut self, name: &str) -> io::Result<File>
+        ensures { IfOk result (WasOpened name.now) }
+    {
         let file = open_to_read(self.rt, name);
         let taken = match &file {
             Ok(file) => self.held.take_source(file),
@@ -274,19 +277,24 @@ impl<'a> HostPlaces<'a> {
     }
 
     /// The text of a file. One that has too many bytes is refused.
-    fn text_of(&mut self, name: &str) -> io::Result<String> {
-        let file = self.source(name)?.take(LIST_READ + 1);
-        let text = io::read_to_string(self.rt.alloc(), file)?;
-        if text.len() as u64 > LIST_READ {
+    fn text_of(&mut self, name: &str) -> io::Result<String>
+        ensures { IfOk result (λ text. IsRead name.now 67108865 (string_bytes text)) }
+    {
+        let bytes = self.bytes_of(name, LIST_READ + 1)?;
+        if bytes.len() as u64 > LIST_READ {
             return Err(io::Error::from(ErrorKind::FileTooLarge));
         }
-        Ok(text)
+        match String::from_utf8(bytes) {
+            Ok(text) => Ok(text),
+            Err(_) => Err(io::Error::from(ErrorKind::InvalidData)),
+        }
     }
 
-    fn bytes_of(&mut self, name: &str, most: u64) -> io::Result<Vec<u8>> {
-        let mut bytes = Vec::new(self.rt.alloc());
-        self.source(name)?.take(most).read_to_end(&mut bytes)?;
-        Ok(bytes)
+    fn bytes_of(&mut self, name: &str, most: u64) -> io::Result<Vec<u8>>
+        ensures { IfOk result (λ bytes. IsRead name.now most bytes.items) }
+    {
+        let mut file = self.source(name)?;
+        read_whole(self.rt.alloc(), &mut file, most)
     }
 
     /// Prints a report into a file that has no other part in its line, and ends the line.
@@ -341,9 +349,9 @@ impl<'a> Places for HostPlaces<'a> {
 
     ghost is_image = { IsImageOfName };
 
-    ghost is_text = { λ name text. Gave name text };
+    ghost is_text = { λ name text. IsRead name 67108865 text };
 
-    ghost is_beginning = { λ name most bytes. Gave name bytes };
+    ghost is_beginning = { IsRead };
 
     ghost printed = { λ name text before after. Took name text };
 

@@ -22,6 +22,7 @@ mod places;
 mod possession;
 mod profiling;
 mod program;
+mod reading;
 mod receiver;
 mod refusals;
 mod reporting;

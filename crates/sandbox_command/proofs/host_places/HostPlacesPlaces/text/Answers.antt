@@ -1,7 +1,6 @@
-use Rattle.std.proofs.Common.{string_bytes}
 use Rattle.sandbox_command.specs.Places.{Reads}
-use Rattle.sandbox_command.proofs.Given.{given, refused}
+use Rattle.sandbox_command.proofs.Given.{refused}
 use Rattle.sandbox_command.proofs.host_places.HostPlacesPlaces.text.Goals as goal
 
 pub returns : goal.returns
-returns c = record { asked = tt; refused = refused (Reads c.args.name.now) c.text_of-done.result; text = given c.args.name.now string_bytes c.text_of-done.result }
+returns c = record { asked = tt; refused = refused (Reads c.args.name.now) c.text_of-done.result; text = c.text_of-done.ensures }

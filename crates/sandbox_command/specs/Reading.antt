@@ -1,0 +1,12 @@
+-- What a stream gave that was read whole, by the evidence of each read (`crates/stream_answers`).
+use Rattle.std.specs.Prelude.{◌≡◌, ◌⊎◌, ◌++◌, ℕ, List, [], length}
+
+-- pieces, one after another
+pub data Gives {S : Type 0} (gave : S → List ℕ → S → Type 0) : S → List ℕ → S → Type 0 where
+  nothing : {s : S} → Gives gave s [] s
+  gives : {a b c : S} {all : List ℕ} (before more : List ℕ) → Gives gave a before b → gave b more c → all ≡ before ++ more → Gives gave a all c
+
+-- as many bytes as are wanted, or all to its end, at which it gave none
+abbrev pub IsWhole : {S : Type 0} → (gave : S → List ℕ → S → Type 0) → (most : ℕ) → S → List ℕ → S → Type 0
+IsWhole gave most first bytes last =
+    (Gives gave first bytes last × (length bytes ≡ most)) ⊎ ((before : _) × Gives gave first bytes before × gave before [] last)
