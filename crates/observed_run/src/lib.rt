@@ -5,4 +5,4 @@ mod slices;
 mod telling;
 
 pub use slices::run_profiled;
-pub use telling::{Told, run_told};
+pub use telling::{ToldRun, run_told};

@@ -9,8 +9,8 @@ ghost use Rattle.run_profile.specs.Stacks.{Grows, IsNodeOf};
 ghost use Rattle.observed_run.specs.Charging.{ReportsProfiled, functions_of};
 ghost use Rattle.observed_run.specs.internal.Going.{ChargesSlice, RunsInSlices};
 
-use crate::telling::{Told, tell_frames};
-use run_profile::Profile;
+use crate::telling::{ToldRun, tell_frames};
+use run_profile::FuelProfile;
 use sandbox_core::{Frame, Outcome, Resumable, Tally, finish_run, run_slice};
 use std::alloc::Global;
 use stream_answers::{Inlet, Outlet};
@@ -44,7 +44,11 @@ where
 }
 
 /// The node of the functions at work. Where they can't be read it is the bottom, and the profile says that it is cut.
-fn enter<S, D, R, W1, W2>(session: &S, profile: &mut Profile, functions: &mut Vec<usize>) -> usize
+fn enter<S, D, R, W1, W2>(
+    session: &S,
+    profile: &mut FuelProfile,
+    functions: &mut Vec<usize>,
+) -> usize
 where
     S: Resumable<D, R, W1, W2>,
     D: Device,
@@ -67,7 +71,7 @@ fn run_charged<S, D, R, W1, W2>(
     session: &mut S,
     until: u64,
     earlier: Tally,
-    profile: &mut Profile,
+    profile: &mut FuelProfile,
     functions: &mut Vec<usize>,
 ) -> (Option<Outcome>, Tally)
 where
@@ -96,7 +100,7 @@ fn run_in_slices<S, D, R, W1, W2>(
     session: &mut S,
     fuel: u64,
     every: u64,
-    profile: &mut Profile,
+    profile: &mut FuelProfile,
 ) -> (Outcome, Tally)
 where
     S: Resumable<D, R, W1, W2>,
@@ -136,9 +140,9 @@ pub fn run_profiled<S, D, R, W1, W2>(
     session: S,
     fuel: u64,
     every: u64,
-    profile: &mut Profile,
+    profile: &mut FuelProfile,
     room: &mut [Frame],
-) -> Told<S::Kept, D, R, W1, W2>
+) -> ToldRun<S::Kept, D, R, W1, W2>
 where
     S: Resumable<D, R, W1, W2>,
     D: Device + Drop,
@@ -155,7 +159,7 @@ where
     let (outcome, tally) = run_in_slices(alloc, &mut session, fuel, every, profile);
     let depth = tell_frames(&session, room);
     let (kept, report) = finish_run(session, outcome);
-    Told {
+    ToldRun {
         kept,
         report,
         tally,

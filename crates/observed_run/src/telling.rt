@@ -13,7 +13,7 @@ use vol_sector::Device;
 
 /// What is told of a run.
 #[derive(Drop)]
-pub struct Told<K, D: Device, R, W1, W2> {
+pub struct ToldRun<K, D: Device, R, W1, W2> {
     /// What is given back of the module: all of it, or nothing where others may own it too.
     pub kept: K,
     pub report: Report<D, R, W1, W2>,
@@ -68,7 +68,7 @@ pub fn run_told<S, D, R, W1, W2>(
     session: S,
     fuel: u64,
     room: &mut [Frame],
-) -> Told<S::Kept, D, R, W1, W2>
+) -> ToldRun<S::Kept, D, R, W1, W2>
 where
     S: Resumable<D, R, W1, W2>,
     D: Device + Drop,
@@ -84,7 +84,7 @@ where
     let (end, tally) = run_slice(&mut session, fuel, Tally::none());
     let depth = tell_frames(&session, room);
     let (kept, report) = finish_run(session, outcome_of(end));
-    Told {
+    ToldRun {
         kept,
         report,
         tally,

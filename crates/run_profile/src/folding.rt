@@ -5,7 +5,7 @@ ghost use Rattle.std.specs.Io.KnownBytes.{Appends};
 ghost use Rattle.run_profile.specs.Folded.{IsFolded, cut_text, line_text, stack_text};
 ghost use Rattle.run_profile.specs.Stacks.{IsStack};
 
-use crate::stacks::Profile;
+use crate::stacks::FuelProfile;
 use std::alloc::Global;
 use std::io;
 use std::io::Write;
@@ -40,7 +40,7 @@ fn cut_line(is_cut: bool) -> &'static [u8]
     if is_cut { b"[cut] 0\n" } else { b"" }
 }
 
-impl Profile {
+impl FuelProfile {
     /// Prints the line of a node with units.
     fn print_node<N: Names, W: Write>(
         &self,

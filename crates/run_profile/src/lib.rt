@@ -5,4 +5,4 @@ mod folding;
 mod stacks;
 
 pub use folding::Names;
-pub use stacks::Profile;
+pub use stacks::FuelProfile;

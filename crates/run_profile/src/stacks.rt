@@ -18,7 +18,7 @@ pub struct Call {
 ///
 /// It grows by a node for each stack that is new, up to a bound; what would be more is added to the function that called.
 #[derive(Drop)]
-pub struct Profile {
+pub struct FuelProfile {
     calls: IndexSet<Call>,
     units: Vec<u64>,
     /// How many functions the stacks of further nodes may have, all together.
@@ -26,7 +26,7 @@ pub struct Profile {
     is_cut: bool,
 }
 
-impl Model for Profile {
+impl Model for FuelProfile {
     ghost use Rattle.std.specs.Prelude.{◌≡◌, ◌≤◌, ℕ, suc, Some, length, slice_get};
     ghost use Rattle.run_profile.specs.Stacks.{Stacks};
     ghost use Rattle.run_profile.specs.declared.stacks.Call.{Call};
@@ -39,14 +39,14 @@ impl Model for Profile {
         × ((k : ℕ) (call : Call) → slice_get p.calls.keys k ≡ Some call → call.caller ≤ k) };
 }
 
-impl Profile {
+impl FuelProfile {
     /// No stack yet, and room for stacks with so many functions, all together.
-    pub fn new(alloc: Global, room: u64) -> Result<Profile, AllocError>
+    pub fn new(alloc: Global, room: u64) -> Result<FuelProfile, AllocError>
         ensures { IfOk result (λ p. (p.calls ≡ []) × (p.units ≡ 0 ∷ []) × (p.is_cut ≡ false) × (p.room ≡ room)) }
     {
         let mut units = Vec::new(alloc);
         units.push(0)?;
-        Ok(Profile {
+        Ok(FuelProfile {
             calls: IndexSet::new(alloc),
             units,
             room,

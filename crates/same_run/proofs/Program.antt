@@ -5,8 +5,8 @@ use Rattle.vol_sector.specs.Disk.{Disk}
 use Rattle.wasi_calls.specs.declared.host.settings.Settings.{Settings}
 use Rattle.wasi_calls.specs.host.Worlds.{Hearing, given_of}
 use Rattle.sandbox_core.specs.Session.{given}
-use Rattle.sandbox_words.specs.declared.request.Run.{Run}
-use Rattle.sandbox_words.specs.Request.{Text}
+use Rattle.sandbox_args.specs.declared.request.Run.{Run}
+use Rattle.sandbox_args.specs.Request.{Text}
 use Rattle.sandbox_command.specs.Reporting.{counting}
 use Rattle.sandbox_command.specs.Running.{counted_devices}
 use Rattle.sandbox_command.specs.Supplies.{AreSettings, names_of as named, split_at_equals, terminals_of}

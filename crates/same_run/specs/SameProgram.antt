@@ -8,8 +8,8 @@ use Rattle.wasm_valid.specs.Validity.{IsValid}
 use Rattle.wasi_calls.specs.declared.host.settings.Settings.{Settings}
 use Rattle.wasi_calls.specs.host.Worlds.{Hearing}
 use Rattle.sandbox_core.specs.Session.{given}
-use Rattle.sandbox_words.specs.declared.request.Run.{Run}
-use Rattle.sandbox_words.specs.Request.{Text, texts, arguments_of}
+use Rattle.sandbox_args.specs.declared.request.Run.{Run}
+use Rattle.sandbox_args.specs.Request.{Text, texts, arguments_of}
 use Rattle.sandbox_command.specs.declared.program.Executed.{Executed}
 use Rattle.sandbox_command.specs.Supplies.{AreSettings, directories_of, terminals_of}
 use Rattle.sandbox_command.specs.Running.{Ran, counted_devices}

@@ -26,7 +26,7 @@ ghost use Rattle.plugin_session.specs.Instance.{Does};
 ghost use Rattle.wasm_store.specs.Bytes.{written};
 
 use sandbox_host::{
-    FunctionFrame, Handle, Limits, Supplies, Told, VolumeOperation, VolumeSource, Why,
+    FunctionFrame, Handle, SessionLimits, Supplies, Told, VolumeOperation, VolumeSource, Why,
 };
 use std::alloc::Global;
 
@@ -141,7 +141,7 @@ pub extern "C" fn sandbox_prepare(
     alloc: Global,
     module: &mut Handle,
     bytes: &'static [u8],
-    limits: &Limits,
+    limits: &SessionLimits,
     why: &mut Why,
 ) -> u32
     ensures misuse { is_none «module».old.held ≡ false
@@ -163,7 +163,7 @@ pub extern "C" fn sandbox_prepare_with(
     alloc: Global,
     module: &mut Handle,
     bytes: &'static [u8],
-    limits: &Limits,
+    limits: &SessionLimits,
     floats: u32,
     why: &mut Why,
 ) -> u32
@@ -401,7 +401,7 @@ pub extern "C" fn sandbox_plugin_load(
     alloc: Global,
     plugin: &mut Handle,
     bytes: &'static [u8],
-    limits: &Limits,
+    limits: &SessionLimits,
     floats: u32,
     why: &mut Why,
 ) -> u32

@@ -9,13 +9,13 @@ use Rattle.vol_tree.specs.Tree.{Tree}
 use Rattle.wasm_module.specs.declared.fault.LoadFault.{LoadFault}
 use Rattle.wasm_module.specs.declared.profile.Profile.{Profile}
 use Rattle.wasm_store.specs.Instantiation.{LinksOf}
-use Rattle.module_survey.specs.Printing.{PrintsBeginning, Tells}
+use Rattle.sandbox_inspect.specs.Printing.{PrintsBeginning, Tells}
 use Rattle.wasi_calls.specs.host.Links.{link}
 use Rattle.sandbox_command.specs.Inspecting.{Inspects, refused_status, survey_status}
-use Rattle.sandbox_words.specs.Request.{Text}
-use Rattle.volume_tasks.specs.declared.exporting.ExportFailure.{ExportFailure}
-use Rattle.volume_tasks.specs.declared.exporting.ExportFailure.TheVariants.{Volume, Path, Stopped}
-use Rattle.volume_tasks.specs.Exporting.{PerformsExport, PrintsDirectory, WasExported, ExportsNothing}
+use Rattle.sandbox_args.specs.Request.{Text}
+use Rattle.vol_commands.specs.declared.exporting.ExportFailure.{ExportFailure}
+use Rattle.vol_commands.specs.declared.exporting.ExportFailure.TheVariants.{Volume, Path, Stopped}
+use Rattle.vol_commands.specs.Exporting.{PerformsExport, PrintsDirectory, WasExported, ExportsNothing}
 
 -- ---- an export
 

@@ -1,7 +1,7 @@
 -- The lines that tell how the calls of a run were answered.
 use Rattle.std.proofs.Common.{◌≡◌, ◌<◌, ◌≤◌, ◌+◌, ◌∷◌, ◌++◌, ℕ, zero, suc, List, [], length, drop, get_or, append_assoc, append-nil, refl, sym, ◌∙◌, ap, arith}
 use Rattle.std.proofs.lemmas.List.{drop_more}
-use Rattle.sandbox_words.specs.Request.{Text}
+use Rattle.sandbox_args.specs.Request.{Text}
 use Rattle.sandbox_command.specs.Stopping.{answer_line, answers_from}
 
 none_left : (counts : List ℕ) (errno : ℕ) → length counts ≤ errno → drop errno counts ≡ []

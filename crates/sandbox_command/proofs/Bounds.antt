@@ -10,15 +10,15 @@ use Rattle.wasm_steps.specs.declared.pause.Outcome.{Outcome}
 use Rattle.wasm_steps.specs.declared.pause.Outcome.TheVariants.{Exited, Trapped, OutOfFuel, OutOfMemory}
 use Rattle.sandbox_core.specs.declared.fault.SessionFault.{SessionFault}
 use Rattle.sandbox_core.specs.declared.fault.SessionFault.TheVariants as opening
-use Rattle.volume_archive.specs.declared.reasons.Why.{Why}
-use Rattle.volume_archive.specs.declared.reasons.Why.TheVariants as archive
-use Rattle.volume_tasks.specs.declared.failure.Failure.TheVariants as failure
-use Rattle.volume_tasks.specs.declared.importing.ImportFailure.{ImportFailure}
-use Rattle.volume_tasks.specs.declared.importing.ImportFailure.TheVariants as importing
-use Rattle.volume_tasks.specs.declared.exporting.ExportFailure.{ExportFailure}
-use Rattle.volume_tasks.specs.declared.exporting.ExportFailure.TheVariants as exporting
-use Rattle.sandbox_words.specs.Request.{Text}
-use Rattle.sandbox_words.specs.declared.request.Run.{Run}
+use Rattle.vol_tar.specs.declared.reasons.TarReason.{TarReason}
+use Rattle.vol_tar.specs.declared.reasons.TarReason.TheVariants as archive
+use Rattle.vol_commands.specs.declared.failure.Failure.TheVariants as failure
+use Rattle.vol_commands.specs.declared.importing.ImportFailure.{ImportFailure}
+use Rattle.vol_commands.specs.declared.importing.ImportFailure.TheVariants as importing
+use Rattle.vol_commands.specs.declared.exporting.ExportFailure.{ExportFailure}
+use Rattle.vol_commands.specs.declared.exporting.ExportFailure.TheVariants as exporting
+use Rattle.sandbox_args.specs.Request.{Text}
+use Rattle.sandbox_args.specs.declared.request.Run.{Run}
 use Rattle.wasi_calls.specs.host.Worlds.{Hearing}
 use Rattle.sandbox_command.specs.declared.program.Executed.{Executed}
 use Rattle.sandbox_command.specs.Execution.{Runs}
@@ -31,7 +31,7 @@ of_session (opening.Instance f) n is = omega (arith, is)
 of_session opening.Device n is = omega (arith, is)
 of_session opening.Preopen n is = omega (arith, is)
 
-of_why : (w : Why) → why_status w ≤ 124
+of_why : (w : TarReason) → why_status w ≤ 124
 of_why archive.Memory = omega arith
 of_why w = omega arith
 

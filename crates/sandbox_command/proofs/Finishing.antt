@@ -6,23 +6,23 @@ use Rattle.std.specs.declared.io.ErrorKind.TheVariants.{OutOfMemory}
 use Rattle.std.specs.declared.io.Read.{Ghosts as Reader}
 use Rattle.std.specs.declared.io.Write.{Ghosts as Writer}
 use Rattle.vol_sector.specs.declared.device.Device.{Ghosts as Known}
-use Rattle.run_report.specs.declared.summary.Summary.{Summary}
+use Rattle.sandbox_report.specs.declared.summary.Summary.{Summary}
 use Rattle.sandbox_device.specs.declared.ram_device.RamDevice.{RamDevice}
-use Rattle.volume_tasks.specs.declared.exporting.ExportFailure.{ExportFailure}
-use Rattle.sandbox_words.specs.declared.request.Run.{Run}
-use Rattle.sandbox_words.specs.declared.request.Invocation.{Invocation}
-use Rattle.sandbox_words.specs.declared.request.Invocation.TheVariants as asked
-use Rattle.sandbox_words.specs.Request.{Text}
+use Rattle.vol_commands.specs.declared.exporting.ExportFailure.{ExportFailure}
+use Rattle.sandbox_args.specs.declared.request.Run.{Run}
+use Rattle.sandbox_args.specs.declared.request.Invocation.{Invocation}
+use Rattle.sandbox_args.specs.declared.request.Invocation.TheVariants as asked
+use Rattle.sandbox_args.specs.Request.{Text}
 use Rattle.wasi_calls.specs.host.Worlds.{StreamCalls}
 use Rattle.sandbox_command.specs.declared.places.Places.{Ghosts}
 use Rattle.sandbox_command.specs.declared.program.Executed.{Executed}
-use Rattle.sandbox_command.specs.declared.closing.Left.{Left}
-use Rattle.sandbox_command.specs.declared.opening.Opened.{Opened}
+use Rattle.sandbox_command.specs.declared.closing.RunLeft.{RunLeft}
+use Rattle.sandbox_command.specs.declared.opening.RunFiles.{RunFiles}
 use Rattle.sandbox_command.specs.declared.opening.Medium.{Medium}
 use Rattle.sandbox_command.specs.declared.opening.Medium.TheVariants as medium
-use Rattle.sandbox_command.specs.declared.streams.Source.{Source}
+use Rattle.sandbox_command.specs.declared.streams.InputSource.{InputSource}
 use Rattle.sandbox_command.specs.declared.streams.Sink.{Sink}
-use Rattle.sandbox_command.specs.declared.streams.Spare.{Spare}
+use Rattle.sandbox_command.specs.declared.streams.SpareStreams.{SpareStreams}
 use Rattle.sandbox_command.specs.declared.streams.Streams.{Streams}
 use Rattle.sandbox_command.specs.declared.profiling.FuelUse.{FuelUse}
 use Rattle.sandbox_command.specs.declared.stopping.Stopped.{Stopped}
@@ -44,8 +44,8 @@ use Rattle.sandbox_command.proofs.Lines.{lines_then}
 
 module _ {P I O V R W1 W2 : Type 0} (on : Around P I O V R W1 W2) {D : Type 0} (known : Known D)
     (HandsIt : D → (before : ℕ) → Option Summary → P → P → (status : ℕ) → Option Summary → D → Type 0)
-    (run : Run) (device : D) (streams : Streams (Source I R) (Sink O W1) (Sink O W2)) (spare : Spare R W1 W2) (profile report : Option O) where
-  abbrev Ended : (bytes random : List ℕ) → Executed D (Source I R) (Sink O W1) (Sink O W2) → Type 0
+    (run : Run) (device : D) (streams : Streams (InputSource I R) (Sink O W1) (Sink O W2)) (spare : SpareStreams R W1 W2) (profile report : Option O) where
+  abbrev Ended : (bytes random : List ℕ) → Executed D (InputSource I R) (Sink O W1) (Sink O W2) → Type 0
   Ended bytes random left = Runs known.honest known.disk known.size known.failures known.goes_on (source_remaining on.read.remaining on.input.remaining)
       (sink_contents on.written.contents on.out.contents) (sink_contents on.written.contents on.err.contents)
       (calls_of_run on.calls.reads on.calls.writes on.calls.given)
@@ -54,12 +54,12 @@ module _ {P I O V R W1 W2 : Type 0} (on : Around P I O V R W1 W2) {D : Type 0} (
   abbrev told_in : Sink O W2 → Option (List ℕ)
   told_in own = sink_contents on.written.contents on.err.contents own
 
-  abbrev Answered : Executed D (Source I R) (Sink O W1) (Sink O W2) → Type 0
+  abbrev Answered : Executed D (InputSource I R) (Sink O W1) (Sink O W2) → Type 0
   Answered left = RunAnswered (sink_answered on.flushes.file_flushed on.flushes.out_flushed) (sink_answered on.flushes.file_refuses on.flushes.out_refuses)
       (sink_answered on.flushes.file_flushed on.flushes.err_flushed) (sink_answered on.flushes.file_refuses on.flushes.err_refuses) left
 
-  pub runs_with : (bytes items random rest : List ℕ) → bytes ≡ items → random ≡ rest → (left : Executed D (Source I R) (Sink O W1) (Sink O W2)) → Ended bytes random left → Answered left
-      → (own : Sink O W2) → AppendsSome (told_in (own_of left.err spare.err)) (told_in own) → (all : Left D I O R W1 W2) → all ≡ left_of left spare own
+  pub runs_with : (bytes items random rest : List ℕ) → bytes ≡ items → random ≡ rest → (left : Executed D (InputSource I R) (Sink O W1) (Sink O W2)) → Ended bytes random left → Answered left
+      → (own : Sink O W2) → AppendsSome (told_in (own_of left.err spare.err)) (told_in own) → (all : RunLeft D I O R W1 W2) → all ≡ left_of left spare own
       → (last : Sink O W2) → AppendsSome (told_in all.own) (told_in last)
       → (frames : Text) → TellsLines (profile_for run.floats) bytes run.frames left.stopped frames
       → (settled : D) (handing : ℕ) (said : Option Summary) (before : ℕ) (summary : Option Summary) (p handed profiled told q : P) (status : ℕ) → HandsIt left.device left.status left.summary p handed handing said settled
@@ -84,12 +84,12 @@ module _ {P I O V R W1 W2 : Type 0} (on : Around P I O V R W1 W2) {D : Type 0} (
     told = told;
     tells = tells;
     own = last;
-    lines = lines_then (told_in (own_of left.err spare.err)) (told_in own) (told_in last) lines (subst (λ (l : Left D I O R W1 W2). AppendsSome (told_in l.own) (told_in last)) same more);
-    ended = subst (λ (l : Left D I O R W1 W2). on.places.ended (record l { device = settled; own = last }) told q) same ended;
+    lines = lines_then (told_in (own_of left.err spare.err)) (told_in own) (told_in last) lines (subst (λ (l : RunLeft D I O R W1 W2). AppendsSome (told_in l.own) (told_in last)) same more);
+    ended = subst (λ (l : RunLeft D I O R W1 W2). on.places.ended (record l { device = settled; own = last }) told q) same ended;
   }
 
 -- its streams
-pub rewired : {A B C R W1 W2 : Type 0} (X : Streams A B C → Spare R W1 W2 → Type 0) (a x : A) → a ≡ x → (b y : B) → b ≡ y → (c z : C) → c ≡ z
+pub rewired : {A B C R W1 W2 : Type 0} (X : Streams A B C → SpareStreams R W1 W2 → Type 0) (a x : A) → a ≡ x → (b y : B) → b ≡ y → (c z : C) → c ≡ z
     → (i j : Option R) → i ≡ j → (k l : Option W1) → k ≡ l → (m n : Option W2) → m ≡ n
     → X (record { input = a; out = b; err = c }) (record { input = i; out = k; err = m }) → X (record { input = x; out = y; err = z }) (record { input = j; out = l; err = n })
 rewired {A = A} {B = B} {C = C} {R = R} {W1 = W1} {W2 = W2} X a x ax b y by c z cz i j ij k l kl m n mn holds =
@@ -156,7 +156,7 @@ module _ {P I O V : Type 0} (places : Ghosts P I O V) where
 module _ {P I O V R W1 W2 : Type 0} (on : Around P I O V R W1 W2) where
   with_within : {D : Type 0} (known : Known D) (HandsIt : D → (before : ℕ) → Option Summary → P → P → (status : ℕ) → Option Summary → D → Type 0)
       → ((device : D) (before : ℕ) (said : Option Summary) (p q : P) (status : ℕ) (summary : Option Summary) (after : D) → HandsIt device before said p q status summary after → before ≤ 124 → status ≤ 124)
-      → (run : Run) (bytes : List ℕ) (random : Text) (device : D) (streams : Streams (Source I R) (Sink O W1) (Sink O W2)) (spare : Spare R W1 W2) (profile report : Option O) (p q : P) (status : ℕ)
+      → (run : Run) (bytes : List ℕ) (random : Text) (device : D) (streams : Streams (InputSource I R) (Sink O W1) (Sink O W2)) (spare : SpareStreams R W1 W2) (profile report : Option O) (p q : P) (status : ℕ)
       → RunsWith on known HandsIt run bytes random device streams spare profile report p q status → status ≤ 124
   with_within known HandsIt keeps run bytes random device streams spare profile report p q status it =
       told_within on.places on.written run.report report it.summary it.lines_of_frames it.before it.profiled it.told status it.tells
@@ -166,14 +166,14 @@ module _ {P I O V R W1 W2 : Type 0} (on : Around P I O V R W1 W2) where
       (sink_contents on.written.contents on.out.contents) (sink_contents on.written.contents on.err.contents)
       (calls_of_run on.calls.reads on.calls.writes on.calls.given) run bytes random device streams.input streams.out streams.err it.left it.runs)))
 
-  memory_within : (run : Run) (bytes : List ℕ) (random : Text) (device : RamDevice) (streams : Streams (Source I R) (Sink O W1) (Sink O W2)) (spare : Spare R W1 W2) (profile report : Option O) (p q : P) (status : ℕ)
+  memory_within : (run : Run) (bytes : List ℕ) (random : Text) (device : RamDevice) (streams : Streams (InputSource I R) (Sink O W1) (Sink O W2)) (spare : SpareStreams R W1 W2) (profile report : Option O) (p q : P) (status : ℕ)
       → RunsInMemory on run bytes random device streams spare profile report p q status → status ≤ 124
   memory_within run bytes random device streams spare profile report p q status it =
       with_within in_memory (λ left before said p q status summary after. HandsAll on.places run left before said p q status summary after)
       (λ left before said p q status summary after is most. all_within on.places run left before said p q status summary after is most)
       run bytes random device streams spare profile report p q status it
 
-  medium_within : (m : Medium V) (run : Run) (opened : Opened I O V) (given : Streams R W1 W2) (report : Option O) (p q : P) (status : ℕ) → RunsOnMedium on m run opened given report p q status → status ≤ 124
+  medium_within : (m : Medium V) (run : Run) (opened : RunFiles I O V) (given : Streams R W1 W2) (report : Option O) (p q : P) (status : ℕ) → RunsOnMedium on m run opened given report p q status → status ≤ 124
   medium_within (medium.File device) run opened given report p q status it =
       with_within on.volume (λ left before said p q status summary after. KeepsIt on.places left before said p q status summary after) (λ left before said p q status summary after is most. within status before is.0.1 most)
       run _ _ device _ _ _ report p q status it

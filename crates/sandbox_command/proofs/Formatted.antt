@@ -6,9 +6,9 @@ use Rattle.std.specs.IoError.{error_kind}
 use Rattle.std.specs.declared.io.Error.{Error}
 use Rattle.vol_inode.specs.declared.version.Version.{Version}
 use Rattle.vol_inode.specs.declared.version.Version.TheVariants.{One, Two, Four}
-use Rattle.sandbox_words.specs.Request.{Text}
-use Rattle.sandbox_words.specs.declared.request.Invocation.{Invocation}
-use Rattle.sandbox_words.specs.declared.request.Invocation.TheVariants as asked
+use Rattle.sandbox_args.specs.Request.{Text}
+use Rattle.sandbox_args.specs.declared.request.Invocation.{Invocation}
+use Rattle.sandbox_args.specs.declared.request.Invocation.TheVariants as asked
 use Rattle.sandbox_command.specs.declared.streams.Streams.{Streams}
 use Rattle.sandbox_command.specs.declared.work.VolumeWork.{VolumeWork}
 use Rattle.sandbox_command.specs.declared.work.VolumeWork.TheVariants as work

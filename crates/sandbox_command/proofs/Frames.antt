@@ -6,9 +6,9 @@ use Rattle.wasm_module.specs.declared.profile.Profile.{Profile}
 use Rattle.wasm_module.specs.Module.{SpellsWith}
 use Rattle.wasm_interp.specs.declared.frames.Frame.{Frame}
 use Rattle.observed_run.specs.Telling.{TellsFrames}
-use Rattle.sandbox_words.specs.Request.{Text}
+use Rattle.sandbox_args.specs.Request.{Text}
 use Rattle.sandbox_command.specs.declared.stopping.Stopped.{Stopped}
-use Rattle.module_survey.specs.Sites.{IsSite}
+use Rattle.sandbox_inspect.specs.Sites.{IsSite}
 use Rattle.sandbox_command.specs.Stopping.{AreFrameLines, AreLinesBy, TellsLines, instruction_of, one_more}
 
 -- what the first of a list are, they are in the whole

@@ -3,7 +3,7 @@ use Rattle.std.proofs.Common.{Result, Ok, Err, None, IfErr, OnOk}
 use Rattle.std.specs.Io.KnownBytes.{Appends}
 use Rattle.std.specs.IoError.{error_kind}
 use Rattle.std.specs.declared.io.Error.{Error}
-use Rattle.sandbox_words.specs.Request.{Text}
+use Rattle.sandbox_args.specs.Request.{Text}
 use Rattle.sandbox_command.specs.Places.{Access, Took, WasRefused, took, was_refused}
 
 pub taken : {X : Type 0} (name text : Text) (r : Result X Error) → OnOk r (Took name text)

@@ -5,7 +5,7 @@ use Rattle.std.proofs.KnownBytes.{Keeps-refl}
 use Rattle.vol_sector.specs.Disk.{Leaves}
 use Rattle.vol_sector.specs.declared.device.Device.{Ghosts}
 use Rattle.vol_sector.specs.declared.fault.Refused.{Refused}
-use Rattle.vol_tree.specs.Opened.{Opened}
+use Rattle.vol_tree.specs.Opened.{RunFiles}
 use Rattle.wasm_module.specs.declared.module.Module.{Module}
 use Rattle.wasm_steps.specs.Configuration.{first_configuration}
 use Rattle.wasi_calls.specs.declared.host.wasi_host.HostParts.{HostParts}
@@ -16,11 +16,11 @@ use Rattle.sandbox_core.specs.Runs.{StandsInRun}
 use Rattle.sandbox_core.specs.Session.{HandsBack, IsRefused, Opens, SessionState, Shares, given, limited_to}
 use Rattle.sandbox_core.proofs.Headline.{reach_moves}
 use Rattle.sandbox_core.proofs.Limiting.{opens_limited, shares_limited}
-use Rattle.run_report.specs.declared.counted.Counted.{Counted}
-use Rattle.run_report.specs.declared.fault.Fault.TheVariants as reason
-use Rattle.volume_tasks.specs.Volumes.{IsOpenFor, IsRefusedFor}
-use Rattle.sandbox_words.specs.declared.request.Run.{Run}
-use Rattle.sandbox_words.specs.Request.{Text}
+use Rattle.sandbox_report.specs.declared.counted.Counted.{Counted}
+use Rattle.sandbox_report.specs.declared.fault.Fault.TheVariants as reason
+use Rattle.vol_commands.specs.Volumes.{IsOpenFor, IsRefusedFor}
+use Rattle.sandbox_args.specs.declared.request.Run.{Run}
+use Rattle.sandbox_args.specs.Request.{Text}
 use Rattle.wasi_calls.specs.host.Worlds.{Hearing}
 use Rattle.sandbox_command.specs.declared.program.Executed.{Executed}
 use Rattle.sandbox_command.proofs.Charged.{use_of}
@@ -48,7 +48,7 @@ kept_streams {W1 = W1} {W2 = W2} outs errs input out err left in_is out_is err_i
 module _ {D R W1 W2 : Type 0} (device : Ghosts D) (remaining : R → Option (List ℕ)) (outs : W1 → Option (List ℕ)) (errs : W2 → Option (List ℕ)) (ear : Hearing R W1 W2) (run : Run) (m : Module) where
   -- ---- its volume
 
-  pub on_volume : (random : Text) (d : D) (input : R) (out : W1) (err : W2) (v : Opened D) (parts : HostParts D R W1 W2) (left : Executed D R W1 W2)
+  pub on_volume : (random : Text) (d : D) (input : R) (out : W1) (err : W2) (v : RunFiles D) (parts : HostParts D R W1 W2) (left : Executed D R W1 W2)
       → IsOpenFor device.honest device.disk device.size device.failures (volume_of run) d v → AreSettings run random parts.settings → parts ≡ given parts.settings v input out err
       → Launches device.honest device.disk device.size device.failures device.goes_on remaining outs errs ear m run parts left
       → RunsOn device.honest device.disk device.size device.failures device.goes_on remaining outs errs ear run m random d input out err left

@@ -1,9 +1,9 @@
--- Lines of the program's own.
+-- PrintedLines of the program's own.
 use Rattle.std.proofs.Common.{ℕ, List, [], ◌++◌, Option, Result, Ok, Err, OnOk, OnErr}
 use Rattle.std.specs.Io.KnownBytes.{Appends, Keeps}
 use Rattle.std.proofs.KnownBytes.{Appends-trans, Appends-kept}
-use Rattle.volume_tasks.specs.Streams.{AppendsPart}
-use Rattle.volume_archive.proofs.Handed.{part_none}
+use Rattle.vol_commands.specs.Streams.{AppendsPart}
+use Rattle.vol_tar.proofs.Handed.{part_none}
 use Rattle.sandbox_command.specs.Streams.{AppendsSome}
 
 pub no_line : (a b : Option (List ℕ)) → Keeps a b → AppendsSome a b

@@ -3,14 +3,14 @@ use Rattle.std.specs.declared.rt.LibcRuntime.{LibcRuntime}
 use Rattle.std.proofs.Common.{◌≡◌, ◌∙◌, Bool, true, false, not, nat_eq, Result, Ok, Err, IfOk, OnOk, inl, inr, string_bytes, refl, sym, subst}
 use Rattle.std.specs.Cmp.Lexicographic.{pointwise, same_text}
 use Rattle.std.specs.declared.fs.File.{File}
-use Rattle.sandbox_device.specs.declared.opening.Output.{Output}
+use Rattle.sandbox_device.specs.declared.opening.FileOutput.{FileOutput}
 use Rattle.sandbox_device.specs.declared.opening.OutputOn.{OutputOn}
 use Rattle.sandbox_device.specs.declared.ram_device.RamDevice.{RamDevice}
 use Rattle.sandbox_device.specs.declared.replacing.Replacement.{Replacement}
 use Rattle.sandbox_device.specs.FileEvidence.{AreRead, WasLocked, WasRead}
 use Rattle.sandbox_device.specs.Named.{IsForName, IsGiven, WasOpened}
 use Rattle.sandbox_device.specs.Written.{CutsOnce, CutsUnless, WasCut}
-use Rattle.sandbox_words.specs.Request.{Text}
+use Rattle.sandbox_args.specs.Request.{Text}
 use Rattle.sandbox_command.specs.declared.host_volume.HostVolume.{HostVolume}
 use Rattle.sandbox_command.specs.System.{IsImageOfName, IsOutput, IsVolume, WasGiven}
 
@@ -52,7 +52,7 @@ cuts_once {F} cut a b c first second =
       same = second.same ∙ first.same;
     }
 
-pub cut_output : (name : Text) (old new : Output) → IsOutput name old → CutsOnce WasCut old.on new.on → IsOutput name new
+pub cut_output : (name : Text) (old new : FileOutput) → IsOutput name old → CutsOnce WasCut old.on new.on → IsOutput name new
 cut_output name old new was cuts = elim was [
   | inl opened ↦ inr (old, opened, cuts)
   | inr made ↦ inr (made.0, made.1, cuts_once WasCut made.0.on old.on new.on made.2 cuts)

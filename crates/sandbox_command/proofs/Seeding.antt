@@ -5,7 +5,7 @@ use Rattle.wasm_module.specs.declared.module.Module.{Module}
 use Rattle.wasi_calls.specs.declared.host.wasi_host.HostParts.{HostParts}
 use Rattle.wasi_calls.specs.declared.streams.Terminals.{Terminals}
 use Rattle.sandbox_core.specs.Session.{Opens, OpensWith, SessionState, Shares, seeded_by, interactive_with}
-use Rattle.sandbox_words.specs.declared.request.Run.{Run}
+use Rattle.sandbox_args.specs.declared.request.Run.{Run}
 use Rattle.sandbox_command.specs.Supplies.{terminals_of}
 use Rattle.sandbox_command.specs.internal.Seeds.{with_seed, with_terminals, prepared_by}
 

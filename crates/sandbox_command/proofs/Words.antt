@@ -2,8 +2,8 @@
 use Rattle.std.proofs.Common.{Option, None, MatchOption, ◌≡◌, ◌≢◌, ◌<◌, ◌++◌, ℕ, zero, suc, List, [], ◌∷◌, length, map, get_or, sym, ◌∙◌, ap, refl, arith, subst, length-append}
 use Rattle.std.proofs.lemmas.List.{get_or_at}
 use Rattle.std.specs.List.{All}
-use Rattle.sandbox_words.specs.Request.{Text}
-use Rattle.sandbox_command.specs.declared.testing.Test.{Test}
+use Rattle.sandbox_args.specs.Request.{Text}
+use Rattle.sandbox_command.specs.declared.testing.TestFiles.{TestFiles}
 use Rattle.sandbox_command.specs.Testing.{IsNoTest, IsTest, IsWord, line_of}
 use Rattle.sandbox_command.specs.internal.Tests.{BeginsWithNoWord}
 
@@ -51,12 +51,12 @@ pub behind : (line word rest first more : Text) → line ≡ word ++ (32 ∷ res
 behind line word rest first more cut its is first_is = (same_cut first word more rest first_is.1 its.1 (is ∙ cut)).1
 
 -- a line of the list is that of no test
-pub no_test_at : (tests : List Test) (k : ℕ) (line : Text) → k < length (map line_of tests) → line ≡ get_or (map line_of tests) k line → All IsTest tests → IsNoTest line → ⊥
+pub no_test_at : (tests : List TestFiles) (k : ℕ) (line : Text) → k < length (map line_of tests) → line ≡ get_or (map line_of tests) k line → All IsTest tests → IsNoTest line → ⊥
 no_test_at [] k line lt is all never = omega (arith, lt)
 no_test_at (t ∷ tests) zero line lt is all never = never t (sym is) (all 0 t (omega arith))
 no_test_at (t ∷ tests) (suc k) line lt is all never = no_test_at tests k line (omega (arith, lt)) is (λ j d below. all (suc j) d (omega arith)) never
 
-pub no_test_among : (tests : List Test) (k : ℕ) (line : Text) (all : List Text) → map line_of tests ≡ all → k < length all → line ≡ get_or all k line → All IsTest tests → IsNoTest line → ⊥
+pub no_test_among : (tests : List TestFiles) (k : ℕ) (line : Text) (all : List Text) → map line_of tests ≡ all → k < length all → line ≡ get_or all k line → All IsTest tests → IsNoTest line → ⊥
 no_test_among tests k line all same lt is words never =
     no_test_at tests k line (subst (λ (l : List Text). k < length l) (sym same) lt) (is ∙ ap (λ (l : List Text). get_or l k line) (sym same)) words never
 

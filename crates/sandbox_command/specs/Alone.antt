@@ -8,30 +8,30 @@ use Rattle.std.specs.declared.io.ErrorKind.TheVariants.{OutOfMemory}
 use Rattle.std.specs.declared.io.Write.{Ghosts as Writer}
 use Rattle.vol_sector.specs.declared.device.Device.{Ghosts as Known}
 use Rattle.wasm_steps.specs.declared.pause.Outcome.{Outcome}
-use Rattle.run_report.specs.declared.end.End.TheVariants.{Ran}
-use Rattle.run_report.specs.declared.summary.Kept.{Kept}
-use Rattle.run_report.specs.declared.summary.Kept.TheVariants as became
-use Rattle.run_report.specs.declared.summary.Summary.{Summary}
-use Rattle.run_report.specs.Reporting.{report_text}
+use Rattle.sandbox_report.specs.declared.end.End.TheVariants.{Ran}
+use Rattle.sandbox_report.specs.declared.summary.VolumeEnd.{VolumeEnd}
+use Rattle.sandbox_report.specs.declared.summary.VolumeEnd.TheVariants as became
+use Rattle.sandbox_report.specs.declared.summary.Summary.{Summary}
+use Rattle.sandbox_report.specs.Reporting.{report_text}
 use Rattle.sandbox_device.specs.declared.ram_device.RamDevice.{RamDevice}
-use Rattle.volume_archive.specs.declared.reasons.Why.TheVariants as why
-use Rattle.volume_tasks.specs.declared.importing.ImportFailure.{ImportFailure}
-use Rattle.volume_tasks.specs.declared.exporting.ExportFailure.{ExportFailure}
-use Rattle.volume_tasks.specs.declared.exporting.ExportFailure.TheVariants as exporting
-use Rattle.volume_tasks.specs.Exporting.{PerformsExport}
-use Rattle.sandbox_words.specs.declared.request.Run.{Run}
-use Rattle.sandbox_words.specs.Request.{Text}
+use Rattle.vol_tar.specs.declared.reasons.TarReason.TheVariants as why
+use Rattle.vol_commands.specs.declared.importing.ImportFailure.{ImportFailure}
+use Rattle.vol_commands.specs.declared.exporting.ExportFailure.{ExportFailure}
+use Rattle.vol_commands.specs.declared.exporting.ExportFailure.TheVariants as exporting
+use Rattle.vol_commands.specs.Exporting.{PerformsExport}
+use Rattle.sandbox_args.specs.declared.request.Run.{Run}
+use Rattle.sandbox_args.specs.Request.{Text}
 use Rattle.sandbox_command.specs.declared.program.Executed.{Executed}
-use Rattle.sandbox_command.specs.declared.streams.Source.{Source}
+use Rattle.sandbox_command.specs.declared.streams.InputSource.{InputSource}
 use Rattle.sandbox_command.specs.declared.streams.Sink.{Sink}
-use Rattle.sandbox_command.specs.declared.streams.Spare.{Spare}
+use Rattle.sandbox_command.specs.declared.streams.SpareStreams.{SpareStreams}
 use Rattle.sandbox_command.specs.declared.streams.Streams.{Streams}
 use Rattle.sandbox_command.specs.declared.places.Places.{Ghosts}
 use Rattle.sandbox_command.specs.declared.opening.Ledger.{Ledger}
-use Rattle.sandbox_command.specs.declared.opening.Opened.{Opened}
+use Rattle.sandbox_command.specs.declared.opening.RunFiles.{RunFiles}
 use Rattle.sandbox_command.specs.declared.opening.Medium.{Medium}
 use Rattle.sandbox_command.specs.declared.opening.Medium.TheVariants as medium
-use Rattle.sandbox_command.specs.declared.closing.Left.{Left}
+use Rattle.sandbox_command.specs.declared.closing.RunLeft.{RunLeft}
 use Rattle.sandbox_command.specs.Around.{Around, EndsGiven, in_memory}
 use Rattle.sandbox_command.specs.Archive.{Fills, unfilled}
 use Rattle.sandbox_command.specs.Beginning.{IsImage, unread}
@@ -64,7 +64,7 @@ of_buffer (exporting.Stopped why.Stream) = exporting.Stopped why.Memory
 of_buffer (exporting.Stopped w) = exporting.Stopped w
 
 -- what became of a tree that couldn't be printed: the guest is to blame for a name that no tar stream can have
-abbrev pub kept_of : ExportFailure → Kept
+abbrev pub kept_of : ExportFailure → VolumeEnd
 kept_of (exporting.Volume f) = became.Failed
 kept_of (exporting.Path e) = became.Failed
 kept_of (exporting.Stopped (why.Tar fault)) = became.None
@@ -107,7 +107,7 @@ module _ {P I O V : Type 0} (places : Ghosts P I O V) where
   IsMedium known None None image (medium.Archive bytes) = ⊥
 
   -- what the files of these names gave
-  pub record AreOpened (known : Known V) (run : Run) (opened : Opened I O V) : Type 0 where
+  pub record AreOpened (known : Known V) (run : Run) (opened : RunFiles I O V) : Type 0 where
     pub its_module : places.is_beginning run.module.now 67108865 opened.module.items
     pub its_random : IsOfRandom (λ name. places.is_beginning name 67108864) run.random opened.random.items
     pub its_medium : IsMedium known run.volume run.image_from run.image opened.medium
@@ -223,7 +223,7 @@ module _ {P I O V : Type 0} (places : Ghosts P I O V) (written : Writer O) where
 -- ---- its end
 
 -- what a run had when it ended, with lines of the program's own behind the errors
-abbrev pub left_of : {D I O R W1 W2 : Type 0} → Executed D (Source I R) (Sink O W1) (Sink O W2) → Spare R W1 W2 → Sink O W2 → Left D I O R W1 W2
+abbrev pub left_of : {D I O R W1 W2 : Type 0} → Executed D (InputSource I R) (Sink O W1) (Sink O W2) → SpareStreams R W1 W2 → Sink O W2 → RunLeft D I O R W1 W2
 left_of ended spare own = record {
   device = ended.device;
   input = ended.input;
@@ -235,7 +235,7 @@ left_of ended spare own = record {
 }
 
 -- and when no guest ran
-abbrev pub unbegun_of : {I O R W1 W2 : Type 0} → Streams (Source I R) (Sink O W1) (Sink O W2) → Spare R W1 W2 → Sink O W2 → Left (Unit {0}) I O R W1 W2
+abbrev pub unbegun_of : {I O R W1 W2 : Type 0} → Streams (InputSource I R) (Sink O W1) (Sink O W2) → SpareStreams R W1 W2 → Sink O W2 → RunLeft (Unit {0}) I O R W1 W2
 unbegun_of streams spare own = record {
   device = tt;
   input = streams.input;
@@ -250,9 +250,9 @@ module _ {P I O V R W1 W2 : Type 0} (on : Around P I O V R W1 W2) where
   -- A module was run on a device with these files and streams, and so it ended. Its volume was handed out where that is said, its
   -- profile and its report were printed, and all that it had was given up as it was then, but for lines of the program's own.
   pub record RunsWith {D : Type 0} (known : Known D) (HandsIt : D → (before : ℕ) → Option Summary → P → P → (status : ℕ) → Option Summary → D → Type 0)
-      (run : Run) (bytes : List ℕ) (random : Text) (device : D) (streams : Streams (Source I R) (Sink O W1) (Sink O W2)) (spare : Spare R W1 W2)
+      (run : Run) (bytes : List ℕ) (random : Text) (device : D) (streams : Streams (InputSource I R) (Sink O W1) (Sink O W2)) (spare : SpareStreams R W1 W2)
       (profile report : Option O) (p q : P) (status : ℕ) : Type 0 where
-    pub left : Executed D (Source I R) (Sink O W1) (Sink O W2)
+    pub left : Executed D (InputSource I R) (Sink O W1) (Sink O W2)
     pub runs : Runs known.honest known.disk known.size known.failures known.goes_on (source_remaining on.read.remaining on.input.remaining)
         (sink_contents on.written.contents on.out.contents) (sink_contents on.written.contents on.err.contents)
         (calls_of_run on.calls.reads on.calls.writes on.calls.given)
@@ -279,7 +279,7 @@ module _ {P I O V R W1 W2 : Type 0} (on : Around P I O V R W1 W2) where
     pub ended : on.places.ended (left_of (record left { device = settled }) spare own) told q
 
   -- The tar stream of its volume is refused as `import` refuses one, and no guest ran. Its report says so.
-  pub record IsUnfilled (run : Run) (archive bytes : List ℕ) (streams : Streams (Source I R) (Sink O W1) (Sink O W2)) (spare : Spare R W1 W2)
+  pub record IsUnfilled (run : Run) (archive bytes : List ℕ) (streams : Streams (InputSource I R) (Sink O W1) (Sink O W2)) (spare : SpareStreams R W1 W2)
       (profile report : Option O) (p q : P) (status : ℕ) : Type 0 where
     pub refusal : ImportFailure
     pub why : Fills archive (Err refusal)
@@ -297,28 +297,28 @@ module _ {P I O V R W1 W2 : Type 0} (on : Around P I O V R W1 W2) where
     pub ended : on.places.ended (unbegun_of streams spare own) told q
 
   -- in memory
-  abbrev pub RunsInMemory : Run → (bytes : List ℕ) → (random : Text) → RamDevice → Streams (Source I R) (Sink O W1) (Sink O W2) → Spare R W1 W2
+  abbrev pub RunsInMemory : Run → (bytes : List ℕ) → (random : Text) → RamDevice → Streams (InputSource I R) (Sink O W1) (Sink O W2) → SpareStreams R W1 W2
       → (profile report : Option O) → P → P → (status : ℕ) → Type 0
   RunsInMemory run bytes random device streams spare profile report p q status =
       RunsWith in_memory (λ left before said p q status summary after. HandsAll on.places run left before said p q status summary after)
       run bytes random device streams spare profile report p q status
 
   -- A volume was made of the tar stream, and the module was run on it; or it was refused.
-  abbrev pub RunsFilled : Run → (archive bytes : List ℕ) → (random : Text) → Streams (Source I R) (Sink O W1) (Sink O W2) → Spare R W1 W2
+  abbrev pub RunsFilled : Run → (archive bytes : List ℕ) → (random : Text) → Streams (InputSource I R) (Sink O W1) (Sink O W2) → SpareStreams R W1 W2
       → (profile report : Option O) → P → P → (status : ℕ) → Type 0
   RunsFilled run archive bytes random streams spare profile report p q status =
       ((device : RamDevice) × Fills archive (Ok device) × RunsInMemory run bytes random device streams spare profile report p q status)
       ⊎ IsUnfilled run archive bytes streams spare profile report p q status
 
   -- its streams are those that were given, but where it names files for them
-  abbrev pub streams_of : Opened I O V → Streams R W1 W2 → Streams (Source I R) (Sink O W1) (Sink O W2)
+  abbrev pub streams_of : RunFiles I O V → Streams R W1 W2 → Streams (InputSource I R) (Sink O W1) (Sink O W2)
   streams_of opened given = record { input = source_of opened.stdin given.input; out = sink_of opened.stdout given.out; err = sink_of opened.stderr given.err }
 
-  abbrev pub spare_streams : Opened I O V → Streams R W1 W2 → Spare R W1 W2
+  abbrev pub spare_streams : RunFiles I O V → Streams R W1 W2 → SpareStreams R W1 W2
   spare_streams opened given = record { input = spare_of opened.stdin given.input; out = spare_of opened.stdout given.out; err = spare_of opened.stderr given.err }
 
   -- on the file of its volume, or in memory
-  abbrev pub RunsOnMedium : Medium V → Run → Opened I O V → Streams R W1 W2 → Option O → P → P → (status : ℕ) → Type 0
+  abbrev pub RunsOnMedium : Medium V → Run → RunFiles I O V → Streams R W1 W2 → Option O → P → P → (status : ℕ) → Type 0
   RunsOnMedium (medium.File device) run opened given report p q status = RunsWith on.volume (λ left before said p q status summary after. KeepsIt on.places left before said p q status summary after)
       run opened.module.items opened.random.items device (streams_of opened given) (spare_streams opened given) (file_of opened.profile) report p q status
   RunsOnMedium (medium.Memory device) run opened given report p q status =
@@ -330,7 +330,7 @@ module _ {P I O V R W1 W2 : Type 0} (on : Around P I O V R W1 W2) where
 
   -- All its files could be opened, and it was run on them.
   pub record RunsOpened (run : Run) (given : Streams R W1 W2) (p q : P) (status : ℕ) : Type 0 where
-    pub opened : Opened I O V
+    pub opened : RunFiles I O V
     pub between : P
     pub asked_for : Chain on.places.asked (run_accesses run) p between
     pub are_opened : AreOpened on.places on.volume run opened

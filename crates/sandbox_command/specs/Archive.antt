@@ -7,28 +7,28 @@ use Rattle.vol_tree.specs.declared.superblock.Superblock.{Superblock}
 use Rattle.vol_tree.specs.Tree.{Tree}
 use Rattle.vol_tree.specs.Stands.{StandsAs, empty_tree}
 use Rattle.vol_tree.specs.Fresh.{fresh_as}
-use Rattle.vol_tree.specs.Opened.{Opened, geometry}
+use Rattle.vol_tree.specs.Opened.{RunFiles, geometry}
 use Rattle.vol_inode.specs.declared.version.Version.{Version}
 use Rattle.vol_inode.specs.declared.version.Version.TheVariants.{Two, Four}
 use Rattle.sandbox_device.specs.declared.ram_device.RamDevice.{RamDevice}
-use Rattle.volume_archive.specs.declared.reasons.Why.{Why}
-use Rattle.volume_archive.specs.declared.reasons.Why.TheVariants as why
-use Rattle.volume_tasks.specs.declared.failure.Failure.{Failure}
-use Rattle.volume_tasks.specs.declared.failure.Failure.TheVariants as failure
-use Rattle.volume_tasks.specs.declared.importing.ImportFailure.{ImportFailure}
-use Rattle.volume_tasks.specs.declared.importing.ImportFailure.TheVariants as importing
-use Rattle.volume_tasks.specs.Formatting.{Formats}
-use Rattle.volume_archive.specs.Export.{Exports}
-use Rattle.volume_archive.specs.Import.{Imports}
-use Rattle.volume_tasks.specs.Exporting.{PerformsExport}
-use Rattle.volume_tasks.specs.Importing.{PerformsImport}
-use Rattle.volume_tasks.specs.Tasks.{directory_named}
-use Rattle.volume_tasks.specs.Volumes.{IsOpen}
-use Rattle.run_report.specs.declared.fault.Fault.{Fault}
-use Rattle.run_report.specs.declared.fault.Fault.TheVariants as reason
-use Rattle.run_report.specs.declared.summary.Kept.TheVariants as became
-use Rattle.run_report.specs.declared.summary.Summary.{Summary}
-use Rattle.sandbox_words.specs.declared.request.Run.{Run}
+use Rattle.vol_tar.specs.declared.reasons.TarReason.{TarReason}
+use Rattle.vol_tar.specs.declared.reasons.TarReason.TheVariants as why
+use Rattle.vol_commands.specs.declared.failure.Failure.{Failure}
+use Rattle.vol_commands.specs.declared.failure.Failure.TheVariants as failure
+use Rattle.vol_commands.specs.declared.importing.ImportFailure.{ImportFailure}
+use Rattle.vol_commands.specs.declared.importing.ImportFailure.TheVariants as importing
+use Rattle.vol_commands.specs.Formatting.{Formats}
+use Rattle.vol_tar.specs.Export.{Exports}
+use Rattle.vol_tar.specs.Import.{Imports}
+use Rattle.vol_commands.specs.Exporting.{PerformsExport}
+use Rattle.vol_commands.specs.Importing.{PerformsImport}
+use Rattle.vol_commands.specs.Tasks.{directory_named}
+use Rattle.vol_commands.specs.Volumes.{IsOpen}
+use Rattle.sandbox_report.specs.declared.fault.Fault.{Fault}
+use Rattle.sandbox_report.specs.declared.fault.Fault.TheVariants as reason
+use Rattle.sandbox_report.specs.declared.summary.VolumeEnd.TheVariants as became
+use Rattle.sandbox_report.specs.declared.summary.Summary.{Summary}
+use Rattle.sandbox_args.specs.declared.request.Run.{Run}
 use Rattle.sandbox_command.specs.Around.{in_memory}
 use Rattle.sandbox_command.specs.Reporting.{not_run}
 use Rattle.sandbox_command.specs.Status.{import_status}
@@ -85,7 +85,7 @@ Fills bytes (Err refusal) = IsUnmade (blocks_of (length bytes)) refusal ⊎ ((le
 -- ---- what it has
 
 -- The volume is of this size, and has the tree that the members of the stream make in the root of an empty one.
-pub record HasStream (bytes : List ℕ) (v : Opened RamDevice) : Type 0 where
+pub record HasStream (bytes : List ℕ) (v : RunFiles RamDevice) : Type 0 where
   pub numbers : v.numbers ≡ fresh_as (version_of (blocks_of (length bytes))) (sectors_of (blocks_of (length bytes))) (slots_of (blocks_of (length bytes)))
   pub root : ℕ
   pub is_root : directory_named (empty_tree (slots_of (blocks_of (length bytes)))) (codes "/") ≡ Ok root
@@ -95,7 +95,7 @@ pub record HasStream (bytes : List ℕ) (v : Opened RamDevice) : Type 0 where
 
 -- a volume that was made of a stream, and that was opened, has that
 abbrev pub BeginsWithItsStream : Type 0
-BeginsWithItsStream = (bytes : List ℕ) (device : RamDevice) (v : Opened RamDevice) → Fills bytes (Ok device)
+BeginsWithItsStream = (bytes : List ℕ) (device : RamDevice) (v : RunFiles RamDevice) → Fills bytes (Ok device)
     → IsOpen in_memory.honest in_memory.disk in_memory.size in_memory.failures device v → HasStream bytes v
 
 -- ---- what it gives
@@ -109,7 +109,7 @@ GivesItsTree = (device after : RamDevice) (stream : List ℕ) (numbers : Superbl
 -- ---- what is reported where it is refused
 
 -- A stream that is no tar stream, or that a volume can't have, is a setting that can't be.
-abbrev pub reason_of_why : Why → Fault
+abbrev pub reason_of_why : TarReason → Fault
 reason_of_why why.Stream = reason.File
 reason_of_why why.Memory = reason.Memory
 reason_of_why w = reason.Setting

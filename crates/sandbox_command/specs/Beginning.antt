@@ -7,11 +7,11 @@ use Rattle.std.specs.declared.io.ErrorKind.TheVariants as input
 use Rattle.vol_sector.specs.Disk.{Disk}
 use Rattle.sandbox_device.specs.declared.ram_device.RamDevice.{RamDevice}
 use Rattle.sandbox_device.specs.Ram.{held}
-use Rattle.run_report.specs.declared.fault.Fault.TheVariants as reason
-use Rattle.run_report.specs.declared.summary.Kept.TheVariants as became
-use Rattle.run_report.specs.declared.summary.Summary.{Summary}
-use Rattle.sandbox_words.specs.declared.request.Run.{Run}
-use Rattle.sandbox_words.specs.Request.{Text}
+use Rattle.sandbox_report.specs.declared.fault.Fault.TheVariants as reason
+use Rattle.sandbox_report.specs.declared.summary.VolumeEnd.TheVariants as became
+use Rattle.sandbox_report.specs.declared.summary.Summary.{Summary}
+use Rattle.sandbox_args.specs.declared.request.Run.{Run}
+use Rattle.sandbox_args.specs.Request.{Text}
 use Rattle.sandbox_command.specs.Reporting.{not_run}
 
 -- what is known of the disk of a device in memory

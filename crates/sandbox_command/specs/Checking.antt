@@ -5,12 +5,12 @@ use Rattle.std.specs.Prelude.{ℕ, List, [], ◌∷◌, Option, Some, None, Resu
 use Rattle.std.specs.List.{concat}
 use Rattle.vol_sector.specs.declared.fault.Damage.{Damage}
 use Rattle.vol_sector.specs.declared.fault.VolumeFault.TheVariants as fault
-use Rattle.run_report.specs.Faults.{Text, rule_text}
-use Rattle.sandbox_words.specs.declared.request.Task.{Task}
-use Rattle.sandbox_words.specs.declared.request.Task.TheVariants.{List as Ls, ListAs as LsAs, Get, Put, PutWhole, Check, Upgrade, Stat, Change as Changing}
-use Rattle.volume_tasks.specs.declared.failure.Failure.{Failure}
-use Rattle.volume_tasks.specs.declared.failure.Failure.TheVariants as failure
-use Rattle.volume_tasks.specs.Streams.{AppendsPart}
+use Rattle.sandbox_report.specs.Faults.{Text, rule_text}
+use Rattle.sandbox_args.specs.declared.request.Task.{Task}
+use Rattle.sandbox_args.specs.declared.request.Task.TheVariants.{List as Ls, ListAs as LsAs, Get, Put, PutWhole, Check, Upgrade, Stat, Change as Changing}
+use Rattle.vol_commands.specs.declared.failure.Failure.{Failure}
+use Rattle.vol_commands.specs.declared.failure.Failure.TheVariants as failure
+use Rattle.vol_commands.specs.Streams.{AppendsPart}
 use Rattle.sandbox_command.specs.Streams.{AppendsSome}
 
 -- the sector of a damage, or nothing where it isn't known

@@ -5,7 +5,7 @@ use Rattle.std.specs.Prelude.{◌≡◌, ◌≢◌, ◌⊎◌, ℕ, true, List, 
 use Rattle.std.specs.Io.KnownBytes.{Keeps}
 use Rattle.vol_sector.specs.Disk.{Disk, Leaves}
 use Rattle.vol_sector.specs.declared.fault.Refused.{Refused}
-use Rattle.vol_tree.specs.Opened.{Opened}
+use Rattle.vol_tree.specs.Opened.{RunFiles}
 use Rattle.wasm_module.specs.declared.fault.LoadFault.{LoadFault}
 use Rattle.wasm_module.specs.declared.fault.LoadFault.TheVariants.{Memory}
 use Rattle.wasm_module.specs.declared.module.Module.{Module}
@@ -18,22 +18,22 @@ use Rattle.stream_answers.specs.Hearing.{Hears, Moves, Refuses}
 use Rattle.wasi_calls.specs.host.Worlds.{Hearing, StreamCalls}
 use Rattle.sandbox_core.specs.declared.fault.SessionFault.{SessionFault}
 use Rattle.sandbox_core.specs.Session.{given}
-use Rattle.sandbox_words.specs.declared.request.Run.{Run}
-use Rattle.sandbox_words.specs.Request.{Text}
-use Rattle.volume_tasks.specs.declared.failure.Failure.{Failure}
-use Rattle.volume_tasks.specs.declared.importing.ImportFailure.{ImportFailure}
-use Rattle.volume_tasks.specs.declared.exporting.ExportFailure.{ExportFailure}
-use Rattle.volume_tasks.specs.Blame.{IsCause, blames_stream}
-use Rattle.volume_tasks.specs.Importing.{PerformsImport, blames_input}
-use Rattle.volume_tasks.specs.Exporting.{PerformsExport, blames_output}
-use Rattle.run_report.specs.declared.fault.Fault.TheVariants as reason
-use Rattle.run_report.specs.declared.summary.Kept.TheVariants as kept
-use Rattle.run_report.specs.declared.summary.Summary.{Summary}
-use Rattle.volume_tasks.specs.Going.{FormatsWithin, KeepsWithin}
-use Rattle.volume_tasks.specs.Formatting.{FormatsWhere}
+use Rattle.sandbox_args.specs.declared.request.Run.{Run}
+use Rattle.sandbox_args.specs.Request.{Text}
+use Rattle.vol_commands.specs.declared.failure.Failure.{Failure}
+use Rattle.vol_commands.specs.declared.importing.ImportFailure.{ImportFailure}
+use Rattle.vol_commands.specs.declared.exporting.ExportFailure.{ExportFailure}
+use Rattle.vol_commands.specs.Blame.{IsCause, blames_stream}
+use Rattle.vol_commands.specs.Importing.{PerformsImport, blames_input}
+use Rattle.vol_commands.specs.Exporting.{PerformsExport, blames_output}
+use Rattle.sandbox_report.specs.declared.fault.Fault.TheVariants as reason
+use Rattle.sandbox_report.specs.declared.summary.VolumeEnd.TheVariants as kept
+use Rattle.sandbox_report.specs.declared.summary.Summary.{Summary}
+use Rattle.vol_commands.specs.Going.{FormatsWithin, KeepsWithin}
+use Rattle.vol_commands.specs.Formatting.{FormatsWhere}
 use Rattle.sandbox_command.specs.Modules.{profile_for}
 use Rattle.sandbox_command.specs.Reporting.{kept_where_refused, not_run, session_reason, volume_of}
-use Rattle.volume_tasks.specs.Doing.{Performs, prints, reads_input}
+use Rattle.vol_commands.specs.Doing.{Performs, prints, reads_input}
 use Rattle.sandbox_command.specs.declared.program.Executed.{Executed}
 use Rattle.sandbox_command.specs.declared.work.VolumeWork.{VolumeWork}
 use Rattle.sandbox_command.specs.declared.work.VolumeWork.TheVariants as work
@@ -41,7 +41,7 @@ use Rattle.sandbox_command.specs.Checking.{TellsChecked, checked_damage}
 use Rattle.sandbox_command.specs.Status.{ended_status, export_status, failure_status, import_status, load_status, session_status, volume_status}
 use Rattle.sandbox_command.specs.Streams.{AppendsSome, IsSilent}
 use Rattle.sandbox_command.specs.Supplies.{AreDirectories, AreSettings, IsUncut, directories_of}
-use Rattle.volume_tasks.specs.Volumes.{IsOpenFor, IsRefusedFor, LeftByOpening}
+use Rattle.vol_commands.specs.Volumes.{IsOpenFor, IsRefusedFor, LeftByOpening}
 use Rattle.sandbox_command.specs.Running.{Launches, LeftByRun}
 
 -- A directory's word has no `=`, or memory was refused.
@@ -76,7 +76,7 @@ module _ {D R W1 W2 : Type 0} (is_honest : D → Type 0) (disk : D → Disk) (se
 
   -- The volume was opened, and the module launched with it and with the settings that were asked for.
   pub record OnVolume (run : Run) (m : Module) (random : Text) (device : D) (input : R) (out : W1) (err : W2) (left : Executed D R W1 W2) : Type 0 where
-    pub volume : Opened D
+    pub volume : RunFiles D
     pub opened : IsOpenFor is_honest disk sectors_on failures (volume_of run) device volume
     pub settings : Settings
     pub are_settings : AreSettings run random settings

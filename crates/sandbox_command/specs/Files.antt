@@ -12,15 +12,15 @@ use Rattle.clap.specs.Words.{subcommand_of}
 use Rattle.vol_sector.specs.Disk.{Disk}
 use Rattle.vol_sector.specs.Past.{LeavesPast}
 use Rattle.vol_inode.specs.declared.version.Version.{Version}
-use Rattle.sandbox_device.specs.declared.opening.Output.{Output}
+use Rattle.sandbox_device.specs.declared.opening.FileOutput.{FileOutput}
 use Rattle.sandbox_device.specs.File.{kept, KeepsItsModel}
 use Rattle.sandbox_device.specs.Named.{WasOpened}
 use Rattle.sandbox_device.specs.Ram.{joined_sectors}
-use Rattle.sandbox_words.specs.declared.request.Run.{Run}
-use Rattle.sandbox_words.specs.declared.request.Invocation.{Invocation}
-use Rattle.sandbox_words.specs.declared.request.Invocation.TheVariants as asked
-use Rattle.sandbox_words.specs.Request.{Text}
-use Rattle.sandbox_words.specs.CommandLine.{AsksFor, program}
+use Rattle.sandbox_args.specs.declared.request.Run.{Run}
+use Rattle.sandbox_args.specs.declared.request.Invocation.{Invocation}
+use Rattle.sandbox_args.specs.declared.request.Invocation.TheVariants as asked
+use Rattle.sandbox_args.specs.Request.{Text}
+use Rattle.sandbox_args.specs.CommandLine.{AsksFor, program}
 use Rattle.stream_answers.specs.Hearing.{Hears, Moves, Refuses}
 use Rattle.sandbox_command.specs.declared.program.Executed.{Executed}
 use Rattle.sandbox_command.specs.declared.work.VolumeWork.{VolumeWork}
@@ -143,7 +143,7 @@ file_disk d = kept d.device.sectors d.device.moments.unsynced d.device.moments.t
 
 -- What a file of a name is, by the evidence of who opened, read and gave it (`System`). What was asked for is known to the code alone that
 -- asked for it.
-abbrev pub system : {R W1 W2 : Type 0} → Reader R → Writer W1 → Writer W2 → Flushes Output W1 W2 → Calling File Output R W1 W2 → Around HostPlaces File Output HostVolume R W1 W2
+abbrev pub system : {R W1 W2 : Type 0} → Reader R → Writer W1 → Writer W2 → Flushes FileOutput W1 W2 → Calling File FileOutput R W1 W2 → Around HostPlaces File FileOutput HostVolume R W1 W2
 system input out err flushes calls = record {
   places = record {
     asked = λ access before after. Unit {0};
@@ -169,8 +169,8 @@ system input out err flushes calls = record {
   calls = calls;
 }
 
-module _ {R W1 W2 : Type 0} (input : Reader R) (out : Writer W1) (err : Writer W2) (flushes : Flushes Output W1 W2)
-    (calls : Calling File Output R W1 W2) where
+module _ {R W1 W2 : Type 0} (input : Reader R) (out : Writer W1) (err : Writer W2) (flushes : Flushes FileOutput W1 W2)
+    (calls : Calling File FileOutput R W1 W2) where
   -- on the files that the system has under their names
   abbrev pub IsPerformedOnSystem : Invocation → Streams R W1 W2 → (status : ℕ) → Type 0
   IsPerformedOnSystem invocation given status = (p : HostPlaces) × (q : HostPlaces) × IsPerformed (system input out err flushes calls) invocation given p q status

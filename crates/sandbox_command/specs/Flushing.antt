@@ -2,7 +2,7 @@
 -- shown by who asked it alone, over any `Outlet` (`stream_answers`): so what `flushed` of an end says, by which
 -- a status is 124 and a line fault 41, is what the outputs answered.
 use Rattle.std.specs.Prelude.{◌≡◌, ◌⊎◌, ℕ, List, Bool, true, false, None}
-use Rattle.sandbox_device.specs.declared.opening.Output.{Output}
+use Rattle.sandbox_device.specs.declared.opening.FileOutput.{FileOutput}
 use Rattle.sandbox_device.specs.Written.{Flushes, Puts, WasCut, WasFlushed, WasPut}
 use Rattle.sandbox_command.specs.declared.program.Executed.{Executed}
 
@@ -26,9 +26,9 @@ module _ {W1 W2 : Type 0} (out_flushed out_refuses : W1 → W1 → Type 0) (err_
   RunAnswered left = ((left.stopped ≡ None) × (left.flushed ≡ true)) ⊎ BothAnswered left.flushed left.out left.err
 
 -- ---- the system: a file of an output was cut, if it wasn't before, and flushed
-abbrev pub FileFlushed : Output → Output → Type 0
+abbrev pub FileFlushed : FileOutput → FileOutput → Type 0
 FileFlushed before after = Flushes WasCut WasFlushed before.on after.on
 
 -- ...and put bytes at its end
-abbrev pub FileTook : Output → List ℕ → Output → Type 0
+abbrev pub FileTook : FileOutput → List ℕ → FileOutput → Type 0
 FileTook before bytes after = Puts WasCut WasPut before.on bytes after.on

@@ -1,4 +1,4 @@
--- What inspecting a module prints, and how it ends (`crates/module_survey/specs`). `Inspects` takes the text from that
+-- What inspecting a module prints, and how it ends (`crates/sandbox_inspect/specs`). `Inspects` takes the text from that
 -- crate, with the WASI calls of a guest as links, and adds the exit status.
 use Rattle.std.specs.Prelude.{◌≡◌, ◌≢◌, ◌⊎◌, ℕ, List, Bool, true, false, Option, Result, Ok, Err, if◌then◌else◌}
 use Rattle.std.specs.declared.io.ErrorKind.{ErrorKind}
@@ -6,7 +6,7 @@ use Rattle.std.specs.declared.io.ErrorKind.TheVariants.{OutOfMemory}
 use Rattle.wasm_module.specs.declared.fault.LoadFault.{LoadFault}
 use Rattle.wasm_module.specs.declared.profile.Profile.{Profile}
 use Rattle.wasi_calls.specs.host.Links.{link}
-use Rattle.module_survey.specs.Printing.{PrintsBeginning, Tells}
+use Rattle.sandbox_inspect.specs.Printing.{PrintsBeginning, Tells}
 
 -- 0 where the bytes load and the output could be flushed
 abbrev pub survey_status : Result (Unit {0}) LoadFault → (flushed : Bool) → ℕ

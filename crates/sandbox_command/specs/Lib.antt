@@ -20,7 +20,7 @@ pub mod Places
 pub mod Around
 pub mod Archive
 pub mod Alone
-pub mod Testing
+pub mod ListOfTests
 pub mod Formatting
 pub mod Reading
 pub mod System

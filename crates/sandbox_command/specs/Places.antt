@@ -7,10 +7,10 @@ use Rattle.std.specs.Prelude.{◌≡◌, ◌⊎◌, ◌≤◌, ◌++◌, ℕ, Bo
 use Rattle.std.specs.Borrow.{Bor}
 use Rattle.std.specs.declared.io.ErrorKind.{ErrorKind}
 use Rattle.vol_sector.specs.Disk.{Disk}
-use Rattle.volume_tasks.specs.Formatting.{BeginsAsVolume}
+use Rattle.vol_commands.specs.Formatting.{BeginsAsVolume}
 use Rattle.sandbox_device.specs.declared.ram_device.RamDevice.{RamDevice}
-use Rattle.sandbox_words.specs.declared.request.Run.{Run}
-use Rattle.sandbox_words.specs.Request.{Text}
+use Rattle.sandbox_args.specs.declared.request.Run.{Run}
+use Rattle.sandbox_args.specs.Request.{Text}
 use Rattle.sandbox_command.specs.Reporting.{receiver_of}
 
 -- A file of this name is opened to read; or opened or made, to be written from its beginning; or one that was made is cut

@@ -3,8 +3,8 @@
 use Rattle.std.specs.Prelude.{◌≡◌, ◌+◌, ◌-◌, ◌^◌, ◌==◌, ℕ, List, [], ◌∷◌, ◌++◌, Option, Some, None, false, if◌then◌else◌, length, min, take, unwrap_or}
 use Rattle.std.specs.List.{flat_map}
 use Rattle.wasm_module.specs.declared.module.Module.{Module}
-use Rattle.module_survey.specs.Places.{called}
-use Rattle.module_survey.specs.Words.{called_text}
+use Rattle.sandbox_inspect.specs.Places.{called}
+use Rattle.sandbox_inspect.specs.Words.{called_text}
 use Rattle.run_profile.specs.Folded.{IsFolded, cut_text}
 use Rattle.run_profile.specs.Stacks.{Stacks}
 use Rattle.sandbox_core.specs.Devices.{Devices}
@@ -14,8 +14,8 @@ use Rattle.sandbox_core.specs.declared.tally.Tally.{Tally}
 use Rattle.wasm_interp.specs.declared.frames.Frame.{Frame}
 use Rattle.observed_run.specs.Charging.{ChargesRun}
 use Rattle.observed_run.specs.Telling.{ReportsTold}
-use Rattle.sandbox_words.specs.declared.request.Run.{Run}
-use Rattle.sandbox_words.specs.Request.{Text}
+use Rattle.sandbox_args.specs.declared.request.Run.{Run}
+use Rattle.sandbox_args.specs.Request.{Text}
 use Rattle.sandbox_command.specs.declared.profiling.FuelUse.{FuelUse}
 use Rattle.sandbox_command.specs.declared.stopping.Stopped.{Stopped}
 

@@ -1,4 +1,4 @@
--- What the report of a run says of it (`crates/run_report/specs`). Here stands where each field of a `Summary` comes
+-- What the report of a run says of it (`crates/sandbox_report/specs`). Here stands where each field of a `Summary` comes
 -- from, for a run that could not begin (`not_run`) and for one that did (`run_summary`).
 use Rattle.std.specs.Prelude.{◌||◌, ◌-◌, ◌^◌, ℕ, List, Bool, true, false, Option, Some, None, Result, Ok, Err, unwrap_or, if◌then◌else◌}
 use Rattle.std.specs.Borrow.{Bor}
@@ -11,16 +11,16 @@ use Rattle.sandbox_core.specs.declared.fault.SessionFault.TheVariants as opening
 use Rattle.sandbox_core.specs.declared.report.Report.{Report}
 use Rattle.sandbox_core.specs.declared.tally.Tally.{Tally}
 use Rattle.sandbox_core.specs.Session.{given}
-use Rattle.sandbox_words.specs.declared.request.Run.{Run}
-use Rattle.sandbox_words.specs.Request.{Text}
-use Rattle.run_report.specs.declared.counted.Counted.{Counted}
-use Rattle.run_report.specs.declared.end.End.TheVariants.{Ran, Refused}
-use Rattle.run_report.specs.declared.fault.Fault.{Fault}
-use Rattle.run_report.specs.declared.fault.Fault.TheVariants as reason
-use Rattle.run_report.specs.declared.summary.Cut.{Cut}
-use Rattle.run_report.specs.declared.summary.Kept.{Kept}
-use Rattle.run_report.specs.declared.summary.Kept.TheVariants as kept
-use Rattle.run_report.specs.declared.summary.Summary.{Summary}
+use Rattle.sandbox_args.specs.declared.request.Run.{Run}
+use Rattle.sandbox_args.specs.Request.{Text}
+use Rattle.sandbox_report.specs.declared.counted.Counted.{Counted}
+use Rattle.sandbox_report.specs.declared.end.End.TheVariants.{Ran, Refused}
+use Rattle.sandbox_report.specs.declared.fault.Fault.{Fault}
+use Rattle.sandbox_report.specs.declared.fault.Fault.TheVariants as reason
+use Rattle.sandbox_report.specs.declared.summary.CutStreams.{CutStreams}
+use Rattle.sandbox_report.specs.declared.summary.VolumeEnd.{VolumeEnd}
+use Rattle.sandbox_report.specs.declared.summary.VolumeEnd.TheVariants as kept
+use Rattle.sandbox_report.specs.declared.summary.Summary.{Summary}
 
 -- ---- the volume of a run
 
@@ -46,11 +46,11 @@ session_reason opening.Preopen = reason.Preopen
 session_reason opening.Memory = reason.Memory
 
 -- none of its outputs was cut
-abbrev pub uncut : Cut
+abbrev pub uncut : CutStreams
 uncut = record { output = false; errors = false }
 
 -- the guest took nothing and gave nothing
-abbrev pub not_run : Run → Fault → Kept → ℕ → Summary
+abbrev pub not_run : Run → Fault → VolumeEnd → ℕ → Summary
 not_run run fault became status = record {
   end = Refused fault;
   status = status;
@@ -70,23 +70,23 @@ not_run run fault became status = record {
 
 -- What became of the volume that could not be opened: its device failed, or it wasn't open at all. Also where the run names
 -- no file, so that its device is one of its own.
-abbrev pub kept_where_refused : VolumeFault → Kept
+abbrev pub kept_where_refused : VolumeFault → VolumeEnd
 kept_where_refused volume.Device = kept.Failed
 kept_where_refused f = kept.None
 
 -- and of an open one whose module gets no session
-abbrev pub kept_where_not_begun : Option (Bor Text) → SessionFault → Kept
+abbrev pub kept_where_not_begun : Option (Bor Text) → SessionFault → VolumeEnd
 kept_where_not_begun file opening.Device = kept.Failed
 kept_where_not_begun None f = kept.None
-kept_where_not_begun (Some file) f = kept.Kept
+kept_where_not_begun (Some file) f = kept.VolumeEnd
 
 -- ---- a run
 
 -- and of that of a guest that ran
-abbrev pub kept_after_run : {V R : Type 0} → Option (Bor Text) → Result V R → Kept
+abbrev pub kept_after_run : {V R : Type 0} → Option (Bor Text) → Result V R → VolumeEnd
 kept_after_run file (Err refused) = kept.Failed
 kept_after_run None (Ok v) = kept.None
-kept_after_run (Some file) (Ok v) = kept.Kept
+kept_after_run (Some file) (Ok v) = kept.VolumeEnd
 
 -- the bytes of a stream that is counted
 abbrev pub counted_bytes : {S : Type 0} → (S → Option (List ℕ)) → Counted S → Option (List ℕ)

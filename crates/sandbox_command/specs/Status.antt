@@ -14,14 +14,14 @@ use Rattle.sandbox_core.specs.declared.fault.SessionFault.{SessionFault}
 use Rattle.sandbox_core.specs.declared.fault.SessionFault.TheVariants as opening
 use Rattle.vol_sector.specs.declared.fault.VolumeFault.{VolumeFault}
 use Rattle.vol_sector.specs.declared.fault.VolumeFault.TheVariants as volume
-use Rattle.volume_archive.specs.declared.reasons.Why.{Why}
-use Rattle.volume_archive.specs.declared.reasons.Why.TheVariants as why
-use Rattle.volume_tasks.specs.declared.failure.Failure.{Failure}
-use Rattle.volume_tasks.specs.declared.importing.ImportFailure.{ImportFailure}
-use Rattle.volume_tasks.specs.declared.importing.ImportFailure.TheVariants as importing
-use Rattle.volume_tasks.specs.declared.exporting.ExportFailure.{ExportFailure}
-use Rattle.volume_tasks.specs.declared.exporting.ExportFailure.TheVariants as exporting
-use Rattle.volume_tasks.specs.declared.failure.Failure.TheVariants.{Volume}
+use Rattle.vol_tar.specs.declared.reasons.TarReason.{TarReason}
+use Rattle.vol_tar.specs.declared.reasons.TarReason.TheVariants as why
+use Rattle.vol_commands.specs.declared.failure.Failure.{Failure}
+use Rattle.vol_commands.specs.declared.importing.ImportFailure.{ImportFailure}
+use Rattle.vol_commands.specs.declared.importing.ImportFailure.TheVariants as importing
+use Rattle.vol_commands.specs.declared.exporting.ExportFailure.{ExportFailure}
+use Rattle.vol_commands.specs.declared.exporting.ExportFailure.TheVariants as exporting
+use Rattle.vol_commands.specs.declared.failure.Failure.TheVariants.{Volume}
 
 -- the guest's own status, where it isn't greater than 119
 abbrev pub status_of : Outcome → ℕ
@@ -70,7 +70,7 @@ failure_status (Volume volume.Memory) = 122
 failure_status f = 124
 
 -- of a member that isn't taken, or of a directory that isn't printed
-abbrev pub why_status : Why → ℕ
+abbrev pub why_status : TarReason → ℕ
 why_status why.Memory = 122
 why_status w = 124
 

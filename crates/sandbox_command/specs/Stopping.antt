@@ -8,8 +8,8 @@ use Rattle.wasm_module.specs.declared.module.Module.{Module}
 use Rattle.wasm_module.specs.declared.profile.Profile.{Profile}
 use Rattle.wasm_module.specs.Module.{SpellsWith}
 use Rattle.wasm_interp.specs.declared.frames.Frame.{Frame}
-use Rattle.module_survey.specs.Sites.{IsSite}
-use Rattle.sandbox_words.specs.Request.{Text}
+use Rattle.sandbox_inspect.specs.Sites.{IsSite}
+use Rattle.sandbox_args.specs.Request.{Text}
 use Rattle.sandbox_command.specs.declared.stopping.Stopped.{Stopped}
 
 -- the instruction at which a function stands that has so many inside it: the one that comes next, of a caller its call

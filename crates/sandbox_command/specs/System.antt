@@ -2,21 +2,21 @@
 -- opened under a name, sectors that were read of it, bytes that it got. `HostPlaces` has this of the files that it gives.
 use Rattle.std.specs.declared.rt.LibcRuntime.{LibcRuntime}
 use Rattle.std.specs.Prelude.{◌⊎◌, ℕ, string_bytes}
-use Rattle.sandbox_device.specs.declared.opening.Output.{Output}
+use Rattle.sandbox_device.specs.declared.opening.FileOutput.{FileOutput}
 use Rattle.sandbox_device.specs.declared.ram_device.RamDevice.{RamDevice}
 use Rattle.sandbox_device.specs.declared.replacing.Replacement.{Replacement}
 use Rattle.std.specs.declared.fs.File.{File}
 use Rattle.sandbox_device.specs.FileEvidence.{AreRead, WasLocked, WasRead}
 use Rattle.sandbox_device.specs.Named.{IsForName, IsGiven, WasOpened}
 use Rattle.sandbox_device.specs.Written.{CutsOnce, WasCut}
-use Rattle.sandbox_words.specs.Request.{Text}
+use Rattle.sandbox_args.specs.Request.{Text}
 use Rattle.stream_answers.specs.System.{WasGiven as Gave}
 use Rattle.sandbox_command.specs.declared.host_volume.HostVolume.{HostVolume}
 use Rattle.sandbox_command.specs.Reading.{IsWhole}
 
 -- It was opened or made under this name, and at the most cut since.
-abbrev pub IsOutput : Text → Output → Type 0
-IsOutput name it = WasOpened name it.on.file ⊎ ((made : Output) × WasOpened name made.on.file × CutsOnce WasCut made.on it.on)
+abbrev pub IsOutput : Text → FileOutput → Type 0
+IsOutput name it = WasOpened name it.on.file ⊎ ((made : FileOutput) × WasOpened name made.on.file × CutsOnce WasCut made.on it.on)
 
 -- It was opened under this name and locked, and its sectors are those that were read of it.
 abbrev pub IsVolume : Text → HostVolume → Type 0

@@ -9,7 +9,7 @@ use Rattle.wasi_calls.specs.declared.host.wasi_host.HostParts.{HostParts}
 use Rattle.wasi_calls.specs.host.Worlds.{Hearing}
 use Rattle.wasm_interp.specs.Machine.{Represents}
 use Rattle.sandbox_core.specs.Headline.{Upholds}
-use Rattle.sandbox_words.specs.declared.request.Run.{Run}
+use Rattle.sandbox_args.specs.declared.request.Run.{Run}
 use Rattle.sandbox_command.specs.declared.program.Executed.{Executed}
 use Rattle.sandbox_command.specs.Running.{Ran, counted_devices}
 

@@ -10,15 +10,15 @@ use crate::ending::Failed;
 use crate::explaining::About;
 use crate::reporting::not_run;
 use crate::work::VolumeWork;
-use run_report::{Fault, Kept, Summary};
+use sandbox_args::Run;
 use sandbox_device::RamDevice;
-use sandbox_words::Run;
+use sandbox_report::{Fault, Summary, VolumeEnd};
 use std::alloc::Global;
 use std::io::Write;
+use vol_commands::{Failure, ImportFailure, format_as, import_into};
 use vol_inode::Version;
 use vol_sector::VolumeFault;
-use volume_archive::Why;
-use volume_tasks::{Failure, ImportFailure, format_as, import_into};
+use vol_tar::TarReason;
 
 /// The directory that a stream is brought into.
 const ROOT: &str = "/";
@@ -33,7 +33,7 @@ const MOST_SECTORS: u64 = 16_777_216;
 
 /// The numbers of a volume that is made for a stream.
 #[derive(Clone, Copy)]
-struct Size {
+struct VolumeSize {
     version: Version,
     sectors: u32,
     slots: u32,
@@ -58,7 +58,7 @@ fn version_of(blocks: u64) -> Version
 }
 
 /// The volume for a stream of so many bytes.
-fn size_for(bytes: usize) -> Size
+fn size_for(bytes: usize) -> VolumeSize
     ensures version { result.version ≡ version_of (blocks_of bytes) }
     ensures slots { result.slots ≡ slots_of (blocks_of bytes) }
     ensures sectors { result.sectors ≡ sectors_of (blocks_of bytes) }
@@ -66,7 +66,7 @@ fn size_for(bytes: usize) -> Size
     let blocks = blocks_of(bytes);
     let slots = (blocks + 1_024).min(MOST_SLOTS);
     let sectors = (2 * blocks + 16_384 + slots + 122).min(MOST_SECTORS);
-    Size {
+    VolumeSize {
         version: version_of(blocks),
         sectors: sectors as u32,
         slots: slots as u32,
@@ -134,18 +134,18 @@ pub(crate) fn filled(alloc: Global, bytes: &[u8]) -> Result<RamDevice, ImportFai
     }
 }
 
-/// Why a stream is refused, as a report has it.
-fn reason_of_why(why: Why) -> Fault
+/// TarReason a stream is refused, as a report has it.
+fn reason_of_why(why: TarReason) -> Fault
     ensures { result ≡ reason_of_why why }
 {
     match why {
-        Why::Stream => Fault::File,
-        Why::Memory => Fault::Memory,
+        TarReason::Stream => Fault::File,
+        TarReason::Memory => Fault::Memory,
         _ => Fault::Setting,
     }
 }
 
-/// Why no volume is made of a stream, as a report has it.
+/// TarReason no volume is made of a stream, as a report has it.
 fn import_reason(failure: &ImportFailure) -> Fault
     ensures { result ≡ import_reason failure.now }
 {
@@ -175,5 +175,5 @@ pub(crate) fn unfilled(run: &Run<'_>, failure: &ImportFailure, status: u8) -> Su
     requires { status ≡ import_status failure.now }
     ensures { result ≡ unfilled run.now failure.now }
 {
-    not_run(run, import_reason(failure), Kept::None, status)
+    not_run(run, import_reason(failure), VolumeEnd::None, status)
 }

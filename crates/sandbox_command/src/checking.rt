@@ -2,7 +2,7 @@
 
 ghost use Rattle.std.specs.Prelude.{◌≡◌, ◌++◌, Some, None, OnOk, OnErr};
 ghost use Rattle.std.specs.Io.KnownBytes.{Appends, Keeps};
-ghost use Rattle.volume_tasks.specs.Streams.{AppendsPart};
+ghost use Rattle.vol_commands.specs.Streams.{AppendsPart};
 ghost use Rattle.sandbox_command.specs.Checking.{TellsChecked, checked_damage, damage_lines, place_text};
 ghost use Rattle.sandbox_command.specs.Flushing.{Answered};
 ghost use Rattle.sandbox_command.specs.Status.{ended_status, failure_status};
@@ -13,22 +13,22 @@ use crate::output::print_all;
 use crate::program::{Executed, FAULT, left_with};
 use crate::streams::Streams;
 use arrayvec::ArrayVec;
-use run_report::rule_text;
-use sandbox_words::Task;
+use sandbox_args::Task;
+use sandbox_report::rule_text;
 use std::io::Write;
 use std::{fmt, io};
 use stream_answers::Outlet;
+use vol_commands::Failure;
 use vol_sector::{Damage, VolumeFault};
-use volume_tasks::Failure;
 
-/// Lines before they are printed, with room for those of any damage.
-type Lines = ArrayVec<u8, 320>;
+/// PrintedLines before they are printed, with room for those of any damage.
+type PrintedLines = ArrayVec<u8, 320>;
 
 /// The sector of a damage as a line begins with it, or nothing where it isn't known.
 #[derive(Clone, Copy)]
-struct Place(Option<u32>);
+struct DamagePlace(Option<u32>);
 
-impl fmt::Display for Place {
+impl fmt::Display for DamagePlace {
     ghost output = { λ p. Some (place_text p.0) };
 
     fn fmt<W: fmt::Write>(&self, f: &mut fmt::Formatter<W>) -> fmt::Result {
@@ -40,13 +40,13 @@ impl fmt::Display for Place {
 }
 
 /// Adds the lines of a damage: the fault, and which sector breaks which rule.
-fn add_damage(lines: &mut Lines, damage: Damage) -> io::Result<()>
+fn add_damage(lines: &mut PrintedLines, damage: Damage) -> io::Result<()>
     ensures { OnOk result (lines.new.items ≡ lines.old.items ++ damage_lines damage) }
 {
     write!(
         lines,
         "sandbox: fault 32\nsandbox: {}{}\n",
-        Place(damage.sector),
+        DamagePlace(damage.sector),
         rule_text(damage.rule)
     )
 }
@@ -58,7 +58,7 @@ fn print_damage<W: Write>(err: &mut W, damage: Damage) -> io::Result<()>
     ensures part { OnErr result
         (AppendsPart (W.contents err.old) (W.contents err.new) (damage_lines damage)) }
 {
-    let mut lines = Lines::new();
+    let mut lines = PrintedLines::new();
     add_damage(&mut lines, damage)?;
     print_all(err, lines.as_slice())
 }

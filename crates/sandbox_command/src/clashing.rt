@@ -3,7 +3,7 @@
 ghost use Rattle.std.specs.Prelude.{◌↔◌, IsTrue};
 ghost use Rattle.sandbox_command.specs.Files.{Clashes, HasTwoVolumes, HasWrongSteps, IsForOneRun, IsMisgiven};
 
-use sandbox_words::{Invocation, Run};
+use sandbox_args::{Invocation, Run};
 
 /// Whether a run has what is for one run alone: files of its streams, of its report or of its profile, a volume that stays, or tar
 /// streams.

@@ -3,10 +3,10 @@
 ghost use Rattle.std.specs.Prelude.{◌≡◌, Ok, Some, IfErr, OnOk, false, option_and_then, option_map};
 ghost use Rattle.std.specs.Io.KnownBytes.{Appends};
 ghost use Rattle.std.specs.IoError.{error_kind};
-ghost use Rattle.run_report.specs.declared.end.End.TheVariants.{Ran};
+ghost use Rattle.sandbox_report.specs.declared.end.End.TheVariants.{Ran};
 ghost use Rattle.sandbox_command.specs.declared.streams.Sink.{Sink as SinkValue};
-ghost use Rattle.run_report.specs.declared.summary.Summary.{Summary as SummaryValue};
-ghost use Rattle.sandbox_words.specs.Request.{Text};
+ghost use Rattle.sandbox_report.specs.declared.summary.Summary.{Summary as SummaryValue};
+ghost use Rattle.sandbox_args.specs.Request.{Text};
 ghost use Rattle.wasm_steps.specs.declared.pause.Outcome.{Outcome};
 ghost use Rattle.sandbox_command.specs.Alone.{Gives, Hands, HandsAll, IsHandedOver, IsProfiled, IsTold, PrintsProfile, kept_of, left_of, lost, of_buffer, ungiven, unprofiled};
 ghost use Rattle.sandbox_command.specs.Beginning.{unread};
@@ -27,25 +27,25 @@ use crate::program::Executed;
 use crate::refusals::{tell_of_outcome, tell_of_refusal};
 use crate::reporting::not_run;
 use crate::stopping::{Stopped, tell_frames};
-use crate::streams::{Sink, Source, Spare, apart};
+use crate::streams::{InputSource, Sink, SpareStreams, apart};
 use crate::work::VolumeWork;
-use run_report::{End, Fault, Kept, Summary};
+use sandbox_args::Run;
 use sandbox_device::{Hindrance, RamDevice};
-use sandbox_words::Run;
+use sandbox_report::{End, Fault, Summary, VolumeEnd};
 use std::alloc::Global;
 use std::io;
 use std::io::{ErrorKind, Write};
-use volume_archive::Why;
-use volume_tasks::{ExportFailure, export_from};
+use vol_commands::{ExportFailure, export_from};
+use vol_tar::TarReason;
 
 /// The directory of a volume whose tree is given.
 const ROOT: &str = "/";
 
 /// All that a run had, when nothing more is done with it.
 #[derive(Drop)]
-pub(crate) struct Left<D, I, O, R, W1, W2> {
+pub(crate) struct RunLeft<D, I, O, R, W1, W2> {
     pub(crate) device: D,
-    pub(crate) input: Source<I, R>,
+    pub(crate) input: InputSource<I, R>,
     pub(crate) out: Sink<O, W1>,
     /// The file of the guest's errors, where the program's own lines go elsewhere.
     pub(crate) guest: Option<Sink<O, W2>>,
@@ -87,10 +87,10 @@ pub(crate) fn finished<D: Drop, I: Drop, O: Write + Drop, R: Drop, W1: Drop, W2:
     alloc: Global,
     run: &Run<'_>,
     module: &[u8],
-    ended: Executed<D, Source<I, R>, Sink<O, W1>, Sink<O, W2>>,
+    ended: Executed<D, InputSource<I, R>, Sink<O, W1>, Sink<O, W2>>,
     lines: &[u8],
-    spare: Spare<R, W1, W2>,
-) -> (Ending, Option<Stopped>, Left<D, I, O, R, W1, W2>)
+    spare: SpareStreams<R, W1, W2>,
+) -> (Ending, Option<Stopped>, RunLeft<D, I, O, R, W1, W2>)
     ensures ending { (result.0.status ≡ ended.status) × (result.0.summary ≡ ended.summary) }
     ensures stopped { result.1 ≡ ended.stopped }
     ensures left { (own : SinkValue O W2)
@@ -110,7 +110,7 @@ pub(crate) fn finished<D: Drop, I: Drop, O: Write + Drop, R: Drop, W1: Drop, W2:
     let (mut own, guest) = apart(err, spare.err);
     tell_ending(alloc, &mut own, run, module, &summary);
     tell_frames(&mut own, &stopped, lines);
-    let left = Left {
+    let left = RunLeft {
         device,
         input,
         out,
@@ -156,7 +156,7 @@ fn not_kept(summary: Option<Summary>) -> Option<Summary>
     let summary = summary?;
     Some(Summary {
         status: program::FAULT,
-        volume: Kept::Failed,
+        volume: VolumeEnd::Failed,
         ..summary
     })
 }
@@ -206,18 +206,18 @@ fn of_buffer(failure: ExportFailure) -> ExportFailure
     ensures { result ≡ of_buffer failure }
 {
     match failure {
-        ExportFailure::Stopped(Why::Stream) => ExportFailure::Stopped(Why::Memory),
+        ExportFailure::Stopped(TarReason::Stream) => ExportFailure::Stopped(TarReason::Memory),
         failure => failure,
     }
 }
 
 /// What became of a tree that couldn't be printed: the guest is to blame for a name that no tar stream can have.
-fn kept_of(failure: ExportFailure) -> Kept
+fn kept_of(failure: ExportFailure) -> VolumeEnd
     ensures { result ≡ kept_of failure }
 {
     match failure {
-        ExportFailure::Stopped(Why::Tar(_)) => Kept::None,
-        _ => Kept::Failed,
+        ExportFailure::Stopped(TarReason::Tar(_)) => VolumeEnd::None,
+        _ => VolumeEnd::Failed,
     }
 }
 
@@ -322,15 +322,15 @@ pub(crate) fn delivered<P: Places, R: Drop, W1: Drop, W2: Write + Drop>(
     alloc: Global,
     places: &mut P,
     run: &Run<'_>,
-    left: Left<RamDevice, P::Input, P::Output, R, W1, W2>,
+    left: RunLeft<RamDevice, P::Input, P::Output, R, W1, W2>,
     ending: Ending,
-) -> (Ending, Left<RamDevice, P::Input, P::Output, R, W1, W2>)
+) -> (Ending, RunLeft<RamDevice, P::Input, P::Output, R, W1, W2>)
     ensures hands { HandsAll P.Places run.now left.device ending.status ending.summary places.old places.new
         result.0.status result.0.summary result.1.device }
     ensures rest { (own : SinkValue P.Output W2) × (result.1 ≡ record left { device = result.1.device; own = own })
         × AppendsSome (sink_contents P.Output.contents W2.contents left.own) (sink_contents P.Output.contents W2.contents own) }
 {
-    let Left {
+    let RunLeft {
         device,
         input,
         out,
@@ -342,7 +342,7 @@ pub(crate) fn delivered<P: Places, R: Drop, W1: Drop, W2: Write + Drop>(
     let mut own = own;
     let ending = handed_out(places, run.volume_out, &device, ending, &mut own);
     let (ending, device) = given(alloc, places, run.out_to, device, ending, &mut own);
-    let left = Left {
+    let left = RunLeft {
         device,
         input,
         out,
@@ -487,9 +487,9 @@ pub(crate) fn unread(run: &Run<'_>, error: &io::Error) -> Summary
     ensures { result ≡ unread run.now (error_kind error.now) }
 {
     if error.kind() == ErrorKind::OutOfMemory {
-        return not_run(run, Fault::Memory, Kept::None, program::OUT_OF_MEMORY);
+        return not_run(run, Fault::Memory, VolumeEnd::None, program::OUT_OF_MEMORY);
     }
-    not_run(run, Fault::File, Kept::None, program::FAULT)
+    not_run(run, Fault::File, VolumeEnd::None, program::FAULT)
 }
 
 /// Prints which file was refused, and why, where its name is known.

@@ -14,11 +14,11 @@ use meanings::{errno_cure, errno_text};
 use std::io::Write;
 use stream_answers::Outlet;
 use tar_stream::TarFault;
+use vol_commands::{ExportFailure, Failure, ImportFailure};
 use vol_sector::VolumeFault;
-use volume_archive::{Refusal, Why};
-use volume_tasks::{ExportFailure, Failure, ImportFailure};
+use vol_tar::{Refusal, TarReason};
 
-/// Why what is no run ends without success.
+/// TarReason what is no run ends without success.
 pub(crate) trait Failed {
     // the status that it ends with
     ghost fails_with: { Self → ℕ };
@@ -89,12 +89,12 @@ impl Failed for ExportFailure {
 }
 
 /// Prints the line of an archive that is refused, and gives the status.
-fn say_why<W: Write>(err: &mut W, why: Why) -> u8
+fn say_why<W: Write>(err: &mut W, why: TarReason) -> u8
     ensures status { result ≡ why_status why }
     ensures line { AppendsSome (W.contents err.old) (W.contents err.new) }
 {
     match why {
-        Why::Memory => out_of_memory(err),
+        TarReason::Memory => out_of_memory(err),
         why => {
             tell(err, why);
             FAULT
@@ -103,7 +103,7 @@ fn say_why<W: Write>(err: &mut W, why: Why) -> u8
 }
 
 /// Prints why an archive is refused, and gives the status.
-fn refuse_why<W: Write>(err: &mut W, why: Why, about: &About<'_>) -> u8
+fn refuse_why<W: Write>(err: &mut W, why: TarReason, about: &About<'_>) -> u8
     ensures status { result ≡ why_status why }
     ensures line { AppendsSome (W.contents err.old) (W.contents err.new) }
 {
@@ -113,13 +113,13 @@ fn refuse_why<W: Write>(err: &mut W, why: Why, about: &About<'_>) -> u8
 }
 
 /// Prints what it means that an archive is refused so.
-fn tell_of_archive<W: Write>(err: &mut W, why: Why, about: &About<'_>)
+fn tell_of_archive<W: Write>(err: &mut W, why: TarReason, about: &About<'_>)
     ensures { AppendsSome (W.contents err.old) (W.contents err.new) }
 {
     match why {
-        Why::Tree(errno) => about.tell_of_errno(err, errno),
-        Why::Stream => about.tell_of_stream(err),
-        Why::Cut | Why::Tar(TarFault::NoHeader | TarFault::WrongChecksum) => {
+        TarReason::Tree(errno) => about.tell_of_errno(err, errno),
+        TarReason::Stream => about.tell_of_stream(err),
+        TarReason::Cut | TarReason::Tar(TarFault::NoHeader | TarFault::WrongChecksum) => {
             let name = about.input();
             tell_words(
                 err,
@@ -138,7 +138,7 @@ fn refuse_member<W: Write>(err: &mut W, refusal: &Refusal, about: &About<'_>) ->
     ensures line { AppendsSome (W.contents err.old) (W.contents err.new) }
 {
     match (&refusal.name, refusal.why) {
-        (Some(name), why) if !matches!(why, Why::Memory) => {
+        (Some(name), why) if !matches!(why, TarReason::Memory) => {
             tell_of_member(err, name.as_slice(), why);
             tell_of_refused_member(err, name.as_slice(), why);
             FAULT
@@ -148,15 +148,15 @@ fn refuse_member<W: Write>(err: &mut W, refusal: &Refusal, about: &About<'_>) ->
 }
 
 /// Prints what it means that a member is refused so.
-fn tell_of_refused_member<W: Write>(err: &mut W, name: &[u8], why: Why)
+fn tell_of_refused_member<W: Write>(err: &mut W, name: &[u8], why: TarReason)
     ensures { AppendsSome (W.contents err.old) (W.contents err.new) }
 {
     match why {
-        Why::Tree(errno) => {
+        TarReason::Tree(errno) => {
             let number = u32::from(errno.number());
             tell_bytes(err, name, errno_text(number), errno_cure(number));
         }
-        Why::Tar(TarFault::Link) => tell_bytes(
+        TarReason::Tar(TarFault::Link) => tell_bytes(
             err,
             name,
             "a volume has files and directories alone",

@@ -22,7 +22,7 @@ use crate::runs::{end_refused, run_alone};
 use crate::streams::Streams;
 use crate::testing::run_list;
 use crate::work::VolumeWork;
-use sandbox_words::{Invocation, Terminals, invocation};
+use sandbox_args::{GivenTerminals, Invocation, invocation};
 use std::alloc::Global;
 use std::io::IsTerminal;
 use std::process::ExitCode;
@@ -35,8 +35,8 @@ fn words_given(rt: &HostRuntime) -> io::Result<Vec<String>> {
 }
 
 /// Which of the program's streams are terminals.
-fn terminals(rt: &HostRuntime) -> Terminals {
-    Terminals {
+fn terminals(rt: &HostRuntime) -> GivenTerminals {
+    GivenTerminals {
         input: rt.stdin().is_terminal(),
         output: rt.stdout().is_terminal(),
         error: rt.stderr().is_terminal(),

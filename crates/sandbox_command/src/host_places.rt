@@ -5,7 +5,7 @@ ghost use Rattle.sandbox_device.specs.Contents.{bytes_of};
 ghost use Rattle.sandbox_device.specs.FileEvidence.{WasLocked};
 ghost use Rattle.sandbox_device.specs.Named.{WasOpened};
 ghost use Rattle.sandbox_device.specs.Ram.{joined_sectors};
-ghost use Rattle.sandbox_words.specs.Request.{Text};
+ghost use Rattle.sandbox_args.specs.Request.{Text};
 ghost use Rattle.sandbox_command.specs.Files.{file_disk};
 ghost use Rattle.sandbox_command.specs.Profiling.{IsProfile};
 ghost use Rattle.sandbox_command.specs.Places.{HasRoom, Took, WasEnded, WasRefused};
@@ -14,20 +14,20 @@ ghost use Rattle.sandbox_command.specs.System.{IsImageOfName, IsOutput, IsRead, 
 use crate::clashing::clashes;
 use crate::host_volume::HostVolume;
 use crate::places::Places;
-use crate::possession::{Held, refuse_errors, refuse_errors_of};
+use crate::possession::{HeldFiles, refuse_errors, refuse_errors_of};
 use crate::reading::read_whole;
 use crate::receiver::Receiver;
-use run_profile::{Names, Profile};
-use run_report::{Printed, Summary};
+use run_profile::{FuelProfile, Names};
+use sandbox_args::{Invocation, Run};
 use sandbox_device::{
-    Contents, FileDevice, Hindrance, Identity, Output, RamDevice, open_image, open_to_read,
+    Contents, FileDevice, FileOutput, Hindrance, Identity, RamDevice, open_image, open_to_read,
 };
-use sandbox_words::{Invocation, Run};
+use sandbox_report::{Printed, Summary};
 use std::alloc::Global;
 use std::fs::File;
 use std::io::{ErrorKind, Write};
 use std::{fs, io};
-use volume_tasks::MAGIC;
+use vol_commands::MAGIC;
 
 /// The most bytes of a list of tests.
 const LIST_READ: u64 = 67_108_864;
@@ -36,7 +36,7 @@ const LIST_READ: u64 = 67_108_864;
 #[derive(Drop)]
 pub(crate) struct HostPlaces<'a> {
     rt: &'a HostRuntime,
-    held: Held,
+    held: HeldFiles,
     /// Files that are read later, held open until then.
     ahead: Vec<File>,
     /// What gets a volume, or the tree of one, at the end.
@@ -72,8 +72,8 @@ impl<'a> HostPlaces<'a> {
     /// The files of the system for an invocation, none of which is open but an image that all tests of a list read.
     pub(crate) fn of(rt: &'a HostRuntime, invocation: &Invocation<'_>) -> HostPlaces<'a> {
         let held = match invocation {
-            Invocation::Run(run) => Held::for_run(rt, run),
-            _ => Held::new(rt),
+            Invocation::Run(run) => HeldFiles::for_run(rt, run),
+            _ => HeldFiles::new(rt),
         };
         let mut places = HostPlaces {
             rt,
@@ -213,18 +213,18 @@ impl<'a> HostPlaces<'a> {
         Ok(file)
     }
 
-    fn made(&mut self, name: &str) -> io::Result<Output>
+    fn made(&mut self, name: &str) -> io::Result<FileOutput>
         ensures uncut { IfOk result (λ it. it.on.is_cut ≡ false) }
         ensures named { IfOk result (IsOutput name.now) }
     {
         self.held.contest(Identity::of_path(self.rt, name))?;
-        let file = self.or_twice(name, Output::open(self.rt, name))?;
+        let file = self.or_twice(name, FileOutput::open(self.rt, name))?;
         self.held.take_output(&file)?;
         Ok(file)
     }
 
     /// Whether a file that was made last is what gets the volume at the end.
-    fn is_receiver(&self, file: &Output) -> bool {
+    fn is_receiver(&self, file: &FileOutput) -> bool {
         match &self.receiver {
             Some(receiver) => {
                 let it = receiver.file.identity_now(self.rt);
@@ -238,7 +238,7 @@ impl<'a> HostPlaces<'a> {
     }
 
     /// Cuts a file that was made last. One that gets the volume is refused, and goes if it is new.
-    fn cut_apart(&mut self, name: &str, file: Output) -> io::Result<Output>
+    fn cut_apart(&mut self, name: &str, file: FileOutput) -> io::Result<FileOutput>
         requires { IsOutput name.now file }
         ensures { IfOk result (IsOutput name.now) }
     {
@@ -300,7 +300,7 @@ impl<'a> HostPlaces<'a> {
     /// Prints a report into a file that has no other part in its line, and ends the line.
     fn print_apart(
         &mut self,
-        file: &mut Output,
+        file: &mut FileOutput,
         summary: &Summary,
         lines: &[u8],
     ) -> io::Result<()> {
@@ -320,8 +320,8 @@ impl<'a> HostPlaces<'a> {
 /// Prints a profile, also one that has no line: then its file is cut.
 fn print_stacks<N: Names>(
     alloc: Global,
-    file: &mut Output,
-    stacks: &Profile,
+    file: &mut FileOutput,
+    stacks: &FuelProfile,
     names: &N,
 ) -> io::Result<()>
     ensures { OnOk result ((text : Text) × IsProfile (N.text names.now) stacks.now text) }
@@ -333,7 +333,7 @@ fn print_stacks<N: Names>(
 impl<'a> Places for HostPlaces<'a> {
     type Input = File;
 
-    type Output = Output;
+    type FileOutput = FileOutput;
 
     type Volume = HostVolume;
 
@@ -367,13 +367,13 @@ impl<'a> Places for HostPlaces<'a> {
         done
     }
 
-    fn make(&mut self, name: &str) -> io::Result<Output> {
+    fn make(&mut self, name: &str) -> io::Result<FileOutput> {
         let done = self.made(name);
         self.note(name, &done);
         done
     }
 
-    fn cut(&mut self, name: &str, file: Output) -> io::Result<Output> {
+    fn cut(&mut self, name: &str, file: FileOutput) -> io::Result<FileOutput> {
         let done = self.cut_apart(name, file);
         self.note(name, &done);
         done
@@ -426,7 +426,7 @@ impl<'a> Places for HostPlaces<'a> {
     fn print(
         &mut self,
         _name: &str,
-        file: &mut Output,
+        file: &mut FileOutput,
         summary: &Summary,
         lines: &[u8],
     ) -> io::Result<()> {
@@ -437,8 +437,8 @@ impl<'a> Places for HostPlaces<'a> {
         &mut self,
         alloc: Global,
         _name: &str,
-        file: &mut Output,
-        stacks: &Profile,
+        file: &mut FileOutput,
+        stacks: &FuelProfile,
         names: &N,
     ) -> io::Result<()> {
         print_stacks(alloc, file, stacks, names)

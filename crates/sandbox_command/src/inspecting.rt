@@ -9,7 +9,7 @@ ghost use Rattle.sandbox_command.specs.Streams.{AppendsSome};
 
 use crate::program::{Executed, FAULT, left_with, out_of_memory, refuse_file};
 use crate::streams::Streams;
-use module_survey::{Links, survey};
+use sandbox_inspect::{Links, survey};
 use std::alloc::Global;
 use std::io;
 use std::io::{ErrorKind, Write};

@@ -4,8 +4,8 @@ ghost use Rattle.wasi_calls.specs.host.Worlds.{hearing};
 ghost use Rattle.sandbox_command.specs.Archive.{BeginsWithItsStream, GivesItsTree};
 ghost use Rattle.sandbox_command.specs.Upheld.{RunUpholds};
 
-use run_report::Counted;
 use sandbox_core::laws::{headline_opened, turns_are_safe};
+use sandbox_report::Counted;
 use stream_answers::{Inlet, Outlet};
 use vol_sector::Device;
 use vol_tree::one_tree;

@@ -15,6 +15,7 @@ mod host_places;
 mod host_volume;
 mod inspecting;
 pub mod laws;
+mod list_of_tests;
 mod modules;
 mod opening;
 mod output;
@@ -32,7 +33,6 @@ mod sessions;
 mod stopping;
 mod streams;
 mod supplies;
-mod testing;
 mod work;
 
 pub use files::{exit_code, perform, perform_in};
@@ -40,14 +40,16 @@ pub use host_volume::HostVolume;
 pub use places::Places;
 pub use profiling::FuelUse;
 pub use program::{Executed, execute, refuse_command_line, refuse_words};
-pub use run_profile::{Names, Profile};
-pub use run_report::{Printed, Summary};
-pub use sandbox_device::{FileDevice, Hindrance, Output, RamDevice};
-pub use sandbox_words::{Change, Invocation, Limits, ListForm, Run, Task, Terminals, invocation};
+pub use run_profile::{FuelProfile, Names};
+pub use sandbox_args::{
+    Change, GivenTerminals, GuestLimits, Invocation, ListForm, Run, Task, invocation,
+};
+pub use sandbox_device::{FileDevice, FileOutput, Hindrance, RamDevice};
+pub use sandbox_report::{Printed, Summary};
 pub use stopping::Stopped;
 pub use stream_answers::{Inlet, Outlet};
-pub use streams::{Sink, Source, Spare, Streams};
+pub use streams::{InputSource, Sink, SpareStreams, Streams};
 pub use testing::run_list;
+pub use vol_commands::FRESH_SECTORS;
 pub use vol_inode::Version;
-pub use volume_tasks::FRESH_SECTORS;
 pub use work::VolumeWork;

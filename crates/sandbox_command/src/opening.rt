@@ -10,12 +10,12 @@ ghost use Rattle.sandbox_command.specs.Places.{Chain, IsOfImage, IsOfName, IsOfR
 use crate::places::Places;
 use crate::profiling::no_stacks;
 use crate::reporting::receiver_of;
-use run_profile::Profile;
+use run_profile::FuelProfile;
+use sandbox_args::Run;
 use sandbox_device::RamDevice;
-use sandbox_words::Run;
 use std::alloc::Global;
 use std::io;
-use volume_tasks::FRESH_SECTORS;
+use vol_commands::FRESH_SECTORS;
 
 /// How many bytes of a module's file are read at most: one more than a module may have.
 pub(crate) const MODULE_READ: u64 = 67_108_865;
@@ -37,13 +37,13 @@ pub(crate) enum Medium<V> {
 /// What gets the profile of a run: stacks, and the file that they are printed into at the end.
 #[derive(Drop)]
 pub(crate) struct Ledger<O> {
-    pub(crate) stacks: Profile,
+    pub(crate) stacks: FuelProfile,
     pub(crate) file: O,
 }
 
 /// The files of a run, but for its report.
 #[derive(Drop)]
-pub(crate) struct Opened<I, O, V> {
+pub(crate) struct RunFiles<I, O, V> {
     pub(crate) module: Vec<u8>,
     pub(crate) random: Vec<u8>,
     pub(crate) medium: Medium<V>,
@@ -196,7 +196,7 @@ pub(crate) fn open_all<P: Places>(
     alloc: Global,
     places: &mut P,
     run: &Run<'_>,
-) -> io::Result<Opened<P::Input, P::Output, P::Volume>>
+) -> io::Result<RunFiles<P::Input, P::Output, P::Volume>>
     ensures asked { Chain P.asked (run_accesses run.now) places.old places.new }
     ensures opened { IfOk result (AreOpened P.Places P.Volume.Device run.now) }
     ensures refused { IfErr result (λ error. Lacks P.Places run.now (error_kind error) places.old places.new) }
@@ -218,7 +218,7 @@ pub(crate) fn open_all<P: Places>(
     match both(files, received) {
         Ok((files, _)) => {
             let (((module, random), medium), (stdin, (stdout, (stderr, profile)))) = files;
-            Ok(Opened {
+            Ok(RunFiles {
                 module,
                 random,
                 medium,

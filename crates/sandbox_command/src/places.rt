@@ -4,15 +4,15 @@ ghost use Rattle.std.specs.Prelude.{◌≡◌, ◌≤◌, ◌++◌, ℕ, List, I
 ghost use Rattle.std.specs.IoError.{error_kind};
 ghost use Rattle.std.specs.Io.KnownBytes.{Appends};
 ghost use Rattle.std.specs.declared.io.ErrorKind.{ErrorKind as Kind};
-ghost use Rattle.run_report.specs.Reporting.{report_text};
-ghost use Rattle.sandbox_words.specs.Request.{Text};
+ghost use Rattle.sandbox_report.specs.Reporting.{report_text};
+ghost use Rattle.sandbox_args.specs.Request.{Text};
 ghost use Rattle.sandbox_device.specs.declared.ram_device.RamDevice.{RamDevice as RamDeviceValue};
 ghost use Rattle.sandbox_command.specs.Profiling.{IsProfile};
 ghost use Rattle.sandbox_command.specs.Places.{Access, Cuts, HandsOut, HandsOver, HasRoom, Locks, Makes, Opens, Prints, Reads, Receives, lengthens};
 
-use run_profile::{Names, Profile};
-use run_report::Summary;
+use run_profile::{FuelProfile, Names};
 use sandbox_device::{Hindrance, RamDevice};
+use sandbox_report::Summary;
 use std::alloc::Global;
 use std::io;
 use stream_answers::{Inlet, Outlet};
@@ -164,7 +164,7 @@ pub trait Places {
         alloc: Global,
         name: &str,
         file: &mut Self::Output,
-        stacks: &Profile,
+        stacks: &FuelProfile,
         names: &N,
     ) -> io::Result<()>
         requires { is_output name.now file.old }

@@ -1,8 +1,8 @@
 //! The files that a command has open, so that none which it writes has a second part in it, by whatever name.
 
-use run_report::{End, Summary};
-use sandbox_device::{Identity, Output};
-use sandbox_words::Run;
+use sandbox_args::Run;
+use sandbox_device::{FileOutput, Identity};
+use sandbox_report::{End, Summary};
 use std::alloc::Global;
 use std::collections::BTreeSet;
 use std::fs::File;
@@ -13,7 +13,7 @@ use std::io::ErrorKind;
 ///
 /// Files that are only read may be the same. Pipes, terminals and devices are no files here.
 #[derive(Drop)]
-pub(crate) struct Held {
+pub(crate) struct HeldFiles {
     /// The streams that the command was given, where it uses them: its input, its output and its errors.
     streams: [Option<Identity>; 3],
     /// What the whole command reads.
@@ -69,10 +69,10 @@ pub(crate) fn refuse_errors_of(rt: &HostRuntime, run: &Run<'_>) -> io::Result<()
     Ok(())
 }
 
-impl Held {
+impl HeldFiles {
     /// Nothing but the streams that the command was given.
-    pub(crate) fn new(rt: &HostRuntime) -> Held {
-        Held {
+    pub(crate) fn new(rt: &HostRuntime) -> HeldFiles {
+        HeldFiles {
             streams: Identity::of_streams(rt),
             sources: Vec::new(rt.alloc()),
             image: None,
@@ -85,8 +85,8 @@ impl Held {
     }
 
     /// The same for a run, which doesn't use a stream that it has a file for.
-    pub(crate) fn for_run(rt: &HostRuntime, run: &Run<'_>) -> Held {
-        let mut held = Held::new(rt);
+    pub(crate) fn for_run(rt: &HostRuntime, run: &Run<'_>) -> HeldFiles {
+        let mut held = HeldFiles::new(rt);
         held.gives_tree = run.out_to.is_some();
         if run.stdin.is_some() {
             held.streams[0] = None;
@@ -170,7 +170,7 @@ impl Held {
     }
 
     /// Takes a file that this line writes, and that no line before it has written, unless it is new.
-    pub(crate) fn take_output(&mut self, file: &Output) -> io::Result<()> {
+    pub(crate) fn take_output(&mut self, file: &FileOutput) -> io::Result<()> {
         let Some(it) = file.identity()? else {
             return Ok(());
         };

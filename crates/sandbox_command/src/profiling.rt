@@ -6,9 +6,9 @@ ghost use Rattle.run_profile.specs.Stacks.{Stacks};
 ghost use Rattle.sandbox_command.specs.Profiling.{no_stacks, slice_of, stack_byte, stack_name};
 
 use indexmap::IndexMap;
-use module_survey::add_called;
-use run_profile::{Names, Profile};
-use sandbox_words::Run;
+use run_profile::{FuelProfile, Names};
+use sandbox_args::Run;
+use sandbox_inspect::add_called;
 use std::alloc::{AllocError, Global};
 use std::io;
 use std::marker::Model;
@@ -17,7 +17,7 @@ use std::marker::Model;
 #[derive(Drop)]
 pub struct FuelUse {
     /// The stacks of functions, each by its index among the module's own, with the units that were taken there.
-    pub stacks: Profile,
+    pub stacks: FuelProfile,
     /// How many functions the module imports; they are counted first.
     pub imported: usize,
 }
@@ -40,10 +40,10 @@ pub(crate) fn slice_of(run: &Run<'_>) -> u64
 }
 
 /// No stack yet.
-pub(crate) fn no_stacks(alloc: Global) -> Result<Profile, AllocError>
+pub(crate) fn no_stacks(alloc: Global) -> Result<FuelProfile, AllocError>
     ensures { IfOk result (λ stacks. stacks ≡ no_stacks) }
 {
-    Profile::new(alloc, ROOM)
+    FuelProfile::new(alloc, ROOM)
 }
 
 /// Adds a byte of a name, so that no name ends early, and none begins a note.

@@ -5,7 +5,7 @@ ghost use Rattle.std.specs.Io.KnownBytes.{Keeps};
 ghost use Rattle.std.specs.IoError.{error_kind};
 ghost use Rattle.clap.specs.Values.{kind_of};
 ghost use Rattle.sandbox_core.specs.Session.{given};
-ghost use Rattle.run_report.specs.declared.fault.Fault.TheVariants as reason;
+ghost use Rattle.sandbox_report.specs.declared.fault.Fault.TheVariants as reason;
 ghost use Rattle.wasi_calls.specs.host.Worlds.{hearing};
 ghost use Rattle.sandbox_command.specs.Around.{calls_of};
 ghost use Rattle.sandbox_command.specs.Flushing.{Answered, BothAnswered, RunAnswered};
@@ -34,18 +34,18 @@ use crate::runnable::Runnable;
 use crate::sessions::{launch_bare, launch_prepared};
 use crate::stopping::{Stopped, lines_of, no_lines};
 use crate::streams::Streams;
-use crate::supplies::{Supplies, settings, supplied};
+use crate::supplies::{GuestTexts, settings, supplied};
 use crate::work::VolumeWork;
-use run_profile::Profile;
-use run_report::{Counted, Cut, End, Fault, Kept, Summary};
+use run_profile::FuelProfile;
+use sandbox_args::Run;
 use sandbox_core::{HostParts, LoadFault, Outcome, Report, SessionFault, Tally, Volume, load_with};
-use sandbox_words::Run;
+use sandbox_report::{Counted, CutStreams, End, Fault, Summary, VolumeEnd};
 use std::alloc::Global;
 use std::io;
 use std::io::Write;
 use stream_answers::{Inlet, Outlet};
+use vol_commands::{export_from, format_where, import_into, open_for_run, perform};
 use vol_sector::{Device, Refused, VolumeFault};
-use volume_tasks::{export_from, format_where, import_into, open_for_run, perform};
 
 /// The status where a guest's own one is greater than `GREATEST`.
 const OTHER_EXIT: u8 = 119;
@@ -246,10 +246,12 @@ pub(crate) fn left_with<D: Drop, R: Drop, W1: Drop, W2: Drop>(
 }
 
 /// Which outputs of a run were refused more than they take.
-fn cut_of<D: Device, R, W1, W2>(report: &Report<D, Counted<R>, Counted<W1>, Counted<W2>>) -> Cut
+fn cut_of<D: Device, R, W1, W2>(
+    report: &Report<D, Counted<R>, Counted<W1>, Counted<W2>>,
+) -> CutStreams
     ensures { result ≡ record { output = report.now.out.full; errors = report.now.err.full } }
 {
-    Cut {
+    CutStreams {
         output: report.out.full,
         errors: report.err.full,
     }
@@ -325,7 +327,7 @@ pub(crate) fn reported<D: Device + Drop, R: Drop, W1: Outlet + Drop, W2: Outlet 
 /// Ends a run that could not begin, and says why. Nothing is flushed. Gives the device of the volume and the streams back.
 fn not_begun<D: Drop, R: Drop, W1: Drop, W2: Drop>(
     run: &Run<'_>,
-    why: (u8, Fault, Kept),
+    why: (u8, Fault, VolumeEnd),
     device: D,
     streams: Streams<R, W1, W2>,
 ) -> Executed<D, R, W1, W2>
@@ -386,7 +388,7 @@ fn volume_of<'a>(run: &Run<'a>) -> Option<&'a str>
 /// What the session of a run is made of beside its module.
 fn parts_of<'a, 't, D: Device, R, W1, W2>(
     run: &Run<'t>,
-    supplies: &'a Supplies<'t>,
+    supplies: &'a GuestTexts<'t>,
     random: &'a [u8],
     volume: Volume<D>,
     streams: Streams<R, W1, W2>,
@@ -438,11 +440,11 @@ pub(crate) fn run_valid<
     alloc: Global,
     run: &Run<'_>,
     runnable: Runnable<'a>,
-    supplies: &Supplies<'_>,
+    supplies: &GuestTexts<'_>,
     random: &[u8],
     device: D,
     streams: Streams<R, W1, W2>,
-    stacks: Option<Profile>,
+    stacks: Option<FuelProfile>,
 ) -> (Runnable<'a>, Executed<D, R, W1, W2>)
     requires supplied { AreSupplies run.now supplies.now }
     requires ready { IsReadyFor run.now.limits.pages runnable }
@@ -458,9 +460,9 @@ pub(crate) fn run_valid<
         Ok(volume) => {
             let parts = parts_of(run, supplies, random, volume, streams);
             match runnable {
-                Runnable::Prepared(shared) => {
+                Runnable::PreparedTest(shared) => {
                     let left = launch_prepared(alloc, run, &shared, parts, stacks);
-                    (Runnable::Prepared(shared), left)
+                    (Runnable::PreparedTest(shared), left)
                 }
                 Runnable::Bare(valid) => {
                     let (valid, left) = launch_bare(alloc, run, valid, parts, stacks);
@@ -482,7 +484,7 @@ pub(crate) fn run<D: Device + Drop, R: Inlet + Drop, W1: Outlet + Drop, W2: Outl
     random: &[u8],
     device: D,
     streams: Streams<R, W1, W2>,
-    stacks: Option<Profile>,
+    stacks: Option<FuelProfile>,
 ) -> (Executed<D, R, W1, W2>, Vec<u8>)
     requires { IfSome stacks (λ s. s ≡ no_stacks) }
     ensures fuel_use { TellsUse stacks result.0.stopped }
@@ -507,7 +509,7 @@ pub(crate) fn run<D: Device + Drop, R: Inlet + Drop, W1: Outlet + Drop, W2: Outl
         },
         Err(fault) => (session_status(fault), session_reason(fault)),
     };
-    let left = not_begun(run, (status, fault, Kept::None), device, streams);
+    let left = not_begun(run, (status, fault, VolumeEnd::None), device, streams);
     (left, no_lines(alloc, run))
 }
 

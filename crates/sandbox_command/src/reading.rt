@@ -11,11 +11,7 @@ use stream_answers::Inlet;
 const PIECE: usize = 65_536;
 
 /// Reads once, and puts what came behind what is there: how many bytes, none only at the end.
-fn read_more<R: Inlet>(
-    input: &mut R,
-    piece: &mut [u8],
-    bytes: &mut Vec<u8>,
-) -> io::Result<usize>
+fn read_more<R: Inlet>(input: &mut R, piece: &mut [u8], bytes: &mut Vec<u8>) -> io::Result<usize>
     ensures few { IfOk result (λ n. n ≤ length piece.new) }
     ensures gave { IfOk result (λ n. (more : List ℕ) × (length more ≡ n) × R.gave input.old more input.new
         × (bytes.new.items ≡ bytes.old.items ++ more)) }

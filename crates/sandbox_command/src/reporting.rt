@@ -4,13 +4,13 @@ ghost use Rattle.std.specs.Prelude.{◌≡◌};
 ghost use Rattle.sandbox_command.specs.Reporting.{kept_after_run, kept_where_not_begun};
 ghost use Rattle.sandbox_command.specs.Reporting.{kept_where_refused, not_run, receiver_of, session_reason};
 
-use run_report::{Cut, End, Fault, Kept, Summary};
+use sandbox_args::Run;
 use sandbox_core::SessionFault;
-use sandbox_words::Run;
+use sandbox_report::{CutStreams, End, Fault, Summary, VolumeEnd};
 use vol_sector::VolumeFault;
 
 /// What was cut of a guest that gave nothing.
-const UNCUT: Cut = Cut {
+const UNCUT: CutStreams = CutStreams {
     output: false,
     errors: false,
 };
@@ -36,7 +36,7 @@ pub(crate) fn session_reason(fault: SessionFault) -> Fault
 }
 
 /// The report of a run that could not begin.
-pub(crate) fn not_run(run: &Run<'_>, fault: Fault, volume: Kept, status: u8) -> Summary
+pub(crate) fn not_run(run: &Run<'_>, fault: Fault, volume: VolumeEnd, status: u8) -> Summary
     ensures { result ≡ not_run run.now fault volume status }
 {
     Summary {
@@ -58,33 +58,33 @@ pub(crate) fn not_run(run: &Run<'_>, fault: Fault, volume: Kept, status: u8) -> 
 }
 
 /// What became of the volume of a run that could not be opened.
-pub(crate) fn kept_where_refused(fault: VolumeFault) -> Kept
+pub(crate) fn kept_where_refused(fault: VolumeFault) -> VolumeEnd
     ensures { result ≡ kept_where_refused fault }
 {
     match fault {
-        VolumeFault::Device => Kept::Failed,
-        _ => Kept::None,
+        VolumeFault::Device => VolumeEnd::Failed,
+        _ => VolumeEnd::None,
     }
 }
 
 /// What became of the open volume of a run whose module gets no session.
-pub(crate) fn kept_where_not_begun(file: Option<&str>, fault: SessionFault) -> Kept
+pub(crate) fn kept_where_not_begun(file: Option<&str>, fault: SessionFault) -> VolumeEnd
     ensures { result ≡ kept_where_not_begun file.entry fault }
 {
     match (file, fault) {
-        (_, SessionFault::Device) => Kept::Failed,
-        (None, _) => Kept::None,
-        (Some(_), _) => Kept::Kept,
+        (_, SessionFault::Device) => VolumeEnd::Failed,
+        (None, _) => VolumeEnd::None,
+        (Some(_), _) => VolumeEnd::VolumeEnd,
     }
 }
 
 /// What became of the volume of a guest that ran.
-pub(crate) fn kept_after_run<V, E>(file: Option<&str>, left: &Result<V, E>) -> Kept
+pub(crate) fn kept_after_run<V, E>(file: Option<&str>, left: &Result<V, E>) -> VolumeEnd
     ensures { result ≡ kept_after_run file.entry left.now }
 {
     match (file, left) {
-        (_, Err(_)) => Kept::Failed,
-        (None, Ok(_)) => Kept::None,
-        (Some(_), Ok(_)) => Kept::Kept,
+        (_, Err(_)) => VolumeEnd::Failed,
+        (None, Ok(_)) => VolumeEnd::None,
+        (Some(_), Ok(_)) => VolumeEnd::VolumeEnd,
     }
 }

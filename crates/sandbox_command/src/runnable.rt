@@ -3,8 +3,8 @@
 ghost use Rattle.std.specs.Prelude.{◌≡◌};
 ghost use Rattle.sandbox_command.specs.internal.Runnable.{IsReadyFor, module_in};
 
+use sandbox_args::Run;
 use sandbox_core::{SharedModule, Valid};
-use sandbox_words::Run;
 use std::alloc::Global;
 use wasm_module::Module;
 
@@ -12,7 +12,7 @@ use wasm_module::Module;
 #[derive(Drop)]
 pub(crate) enum Runnable<'a> {
     /// All that its runs look up of it was made once.
-    Prepared(SharedModule<'a>),
+    PreparedTest(SharedModule<'a>),
     /// Each run makes that anew.
     Bare(Valid<'a>),
 }
@@ -24,7 +24,7 @@ impl<'a> Runnable<'a> {
         ensures ready { IsReadyFor run.now.limits.pages result }
     {
         match SharedModule::new(alloc, valid, run.limits.pages) {
-            Ok(shared) => Runnable::Prepared(shared),
+            Ok(shared) => Runnable::PreparedTest(shared),
             Err(refused) => Runnable::Bare(refused.valid),
         }
     }
@@ -34,7 +34,7 @@ impl<'a> Runnable<'a> {
         ensures { result.now ≡ module_in self.now }
     {
         match self {
-            Runnable::Prepared(shared) => shared.module().module(),
+            Runnable::PreparedTest(shared) => shared.module().module(),
             Runnable::Bare(valid) => valid.module(),
         }
     }

@@ -9,35 +9,35 @@ ghost use Rattle.sandbox_command.specs.Beginning.{unread};
 ghost use Rattle.sandbox_command.specs.Places.{IsOfName};
 ghost use Rattle.sandbox_command.specs.Status.{file_status};
 ghost use Rattle.sandbox_command.specs.Stopping.{AreLinesOfNone};
-ghost use Rattle.sandbox_words.specs.Request.{Text};
+ghost use Rattle.sandbox_args.specs.Request.{Text};
 
 use crate::archive::{filled, refuse_archive, unfilled};
-use crate::closing::{Ending, Left, delivered, finished, profiled, refuse, told, unread};
-use crate::opening::{Ledger, Medium, Opened, made_report, open_all};
+use crate::closing::{Ending, RunLeft, delivered, finished, profiled, refuse, told, unread};
+use crate::opening::{Ledger, Medium, RunFiles, made_report, open_all};
 use crate::places::Places;
 use crate::program;
 use crate::stopping::no_lines;
-use crate::streams::{Sink, Source, Spare, Streams, apart, sink_of, source_of};
-use run_profile::Profile;
+use crate::streams::{InputSource, Sink, SpareStreams, Streams, apart, sink_of, source_of};
+use run_profile::FuelProfile;
+use sandbox_args::Run;
 use sandbox_device::RamDevice;
-use sandbox_words::Run;
 use std::alloc::Global;
 use std::io;
 use stream_answers::{Inlet, Outlet};
-use volume_tasks::ImportFailure;
+use vol_commands::ImportFailure;
 
 /// What a run is given: the bytes of its files, its streams, and those that are spared.
 #[derive(Drop)]
 struct Wired<I, O, R, W1, W2> {
     module: Vec<u8>,
     random: Vec<u8>,
-    streams: Streams<Source<I, R>, Sink<O, W1>, Sink<O, W2>>,
-    spare: Spare<R, W1, W2>,
+    streams: Streams<InputSource<I, R>, Sink<O, W1>, Sink<O, W2>>,
+    spare: SpareStreams<R, W1, W2>,
     profile: Option<Ledger<O>>,
 }
 
 /// The stacks of a profile, and its file.
-fn parted<O: Drop>(ledger: Option<Ledger<O>>) -> (Option<Profile>, Option<O>)
+fn parted<O: Drop>(ledger: Option<Ledger<O>>) -> (Option<FuelProfile>, Option<O>)
     ensures stacks { result.0 ≡ stacks_of ledger }
     ensures file { result.1 ≡ file_of ledger }
 {
@@ -162,7 +162,7 @@ fn end_unfilled<P: Places, R: Inlet + Drop, W1: Outlet + Drop, W2: Outlet + Drop
     let (module, lines) = (module.as_slice(), lines.as_slice());
     let ending = profiled(alloc, places, run, module, None, file, ending, &mut own);
     let status = told(places, run.report, report, ending, lines, &mut own);
-    places.end(Left {
+    places.end(RunLeft {
         device: (),
         input,
         out,
@@ -205,7 +205,7 @@ fn run_opened<P: Places, R: Inlet + Drop, W1: Outlet + Drop, W2: Outlet + Drop>(
     alloc: Global,
     places: &mut P,
     run: &Run<'_>,
-    opened: Opened<P::Input, P::Output, P::Volume>,
+    opened: RunFiles<P::Input, P::Output, P::Volume>,
     report: Option<P::Output>,
     given: Streams<R, W1, W2>,
 ) -> u8
@@ -216,7 +216,7 @@ fn run_opened<P: Places, R: Inlet + Drop, W1: Outlet + Drop, W2: Outlet + Drop>(
         (calling P.Input.gave P.Input.refused P.Output.took P.Output.refused R.gave R.refused W1.took W1.refused W2.took W2.refused))
         opened.medium run.now opened given report places.old places.new result }
 {
-    let Opened {
+    let RunFiles {
         module,
         random,
         medium,
@@ -233,7 +233,7 @@ fn run_opened<P: Places, R: Inlet + Drop, W1: Outlet + Drop, W2: Outlet + Drop>(
         module,
         random,
         streams: Streams { input, out, err },
-        spare: Spare {
+        spare: SpareStreams {
             input: spare_input,
             out: spare_out,
             err: spare_err,

@@ -16,14 +16,14 @@ use crate::profiling::{FuelUse, slice_of};
 use crate::program::{Executed, no_session, reported};
 use crate::stopping::{room_for, stopped_with};
 use crate::supplies::terminals_of;
-use observed_run::{Told, run_profiled, run_told};
-use run_profile::Profile;
-use run_report::Counted;
+use observed_run::{ToldRun, run_profiled, run_told};
+use run_profile::FuelProfile;
+use sandbox_args::Run;
 use sandbox_core::{
     Frame, HostParts, RefusedParts, RefusedSession, Resumable, Session, SharedModule,
     SharedSession, Valid,
 };
-use sandbox_words::Run;
+use sandbox_report::Counted;
 use std::alloc::Global;
 use stream_answers::{Inlet, Outlet};
 use vol_sector::Device;
@@ -68,9 +68,9 @@ fn run_into_stacks<S, D, R, W1, W2>(
     alloc: Global,
     run: &Run<'_>,
     session: S,
-    mut stacks: Profile,
+    mut stacks: FuelProfile,
     room: &mut [Frame],
-) -> (Told<S::Kept, D, R, W1, W2>, Profile)
+) -> (ToldRun<S::Kept, D, R, W1, W2>, FuelProfile)
 where
     S: Resumable<D, R, W1, W2>,
     D: Device + Drop,
@@ -95,9 +95,9 @@ fn run_charged<S, D, R, W1, W2>(
     alloc: Global,
     run: &Run<'_>,
     session: S,
-    stacks: Option<Profile>,
+    stacks: Option<FuelProfile>,
     room: &mut [Frame],
-) -> (Told<S::Kept, D, R, W1, W2>, Option<Profile>)
+) -> (ToldRun<S::Kept, D, R, W1, W2>, Option<FuelProfile>)
 where
     S: Resumable<D, R, W1, W2>,
     D: Device + Drop,
@@ -127,9 +127,9 @@ fn run_within<S, D, R, W1, W2>(
     alloc: Global,
     run: &Run<'_>,
     session: S,
-    stacks: Option<Profile>,
+    stacks: Option<FuelProfile>,
     room: &mut [Frame],
-) -> (Told<S::Kept, D, R, W1, W2>, Option<Profile>)
+) -> (ToldRun<S::Kept, D, R, W1, W2>, Option<FuelProfile>)
 where
     S: Resumable<D, R, W1, W2>,
     D: Device + Drop,
@@ -160,7 +160,7 @@ fn imports_of(module: &Module<'_>) -> usize
 }
 
 /// Where the fuel of a run went, of a module with so many imported functions.
-fn fuel_use_of(stacks: Option<Profile>, imported: usize) -> Option<FuelUse>
+fn fuel_use_of(stacks: Option<FuelProfile>, imported: usize) -> Option<FuelUse>
     ensures { IsUseWith stacks imported result }
 {
     match stacks {
@@ -176,7 +176,7 @@ fn run_session<S, D, R, W1, W2>(
     run: &Run<'_>,
     imported: usize,
     session: S,
-    stacks: Option<Profile>,
+    stacks: Option<FuelProfile>,
 ) -> (S::Kept, Executed<D, R, W1, W2>)
 where
     S: Resumable<D, Counted<R>, Counted<W1>, Counted<W2>>,
@@ -245,7 +245,7 @@ pub(crate) fn launch_bare<
     run: &Run<'_>,
     valid: Valid<'a>,
     parts: HostParts<'_, '_, D, R, W1, W2>,
-    stacks: Option<Profile>,
+    stacks: Option<FuelProfile>,
 ) -> (Valid<'a>, Executed<D, R, W1, W2>)
     requires { IfSome stacks (λ s. s ≡ no_stacks) }
     ensures module { result.0 ≡ valid.entry }
@@ -286,7 +286,7 @@ pub(crate) fn launch_prepared<
     run: &Run<'_>,
     shared: &SharedModule<'_>,
     parts: HostParts<'_, '_, D, R, W1, W2>,
-    stacks: Option<Profile>,
+    stacks: Option<FuelProfile>,
 ) -> Executed<D, R, W1, W2>
     requires pages { parts.settings.pages ≡ shared.now.pages }
     requires new { IfSome stacks (λ s. s ≡ no_stacks) }

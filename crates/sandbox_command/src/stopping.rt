@@ -2,17 +2,17 @@
 
 ghost use Rattle.std.specs.Prelude.{◌≡◌, ◌++◌, IfOk, OnOk, codes, take};
 ghost use Rattle.wasm_module.specs.declared.module.Module.{Module as ModuleValue};
-ghost use Rattle.module_survey.specs.Sites.{IsSite};
+ghost use Rattle.sandbox_inspect.specs.Sites.{IsSite};
 ghost use Rattle.sandbox_command.specs.Stopping.{AreFrameLines, AreLinesBy, AreLinesOf, AreLinesOfNone, HasLines, answer_line, answers_text, instruction_of};
 ghost use Rattle.sandbox_command.specs.Streams.{AppendsSome};
-ghost use Rattle.sandbox_words.specs.Request.{Text};
+ghost use Rattle.sandbox_args.specs.Request.{Text};
 
 use crate::output::{say, tell};
 use crate::profiling::FuelUse;
 use meanings::errno_text;
-use module_survey::add_site;
+use sandbox_args::Run;
 use sandbox_core::{Answers, Frame};
-use sandbox_words::Run;
+use sandbox_inspect::add_site;
 use std::alloc::Global;
 use std::io;
 use std::io::Write;

@@ -17,27 +17,27 @@ pub struct Streams<R, W1, W2> {
 
 /// What a guest reads.
 #[derive(Drop)]
-pub enum Source<F, R> {
+pub enum InputSource<F, R> {
     /// What the program was given.
     Given(R),
     /// A file that was opened in its place.
-    Opened(F),
+    RunFiles(F),
 }
 
-impl<F: Read, R: Read> Read for Source<F, R> {
+impl<F: Read, R: Read> Read for InputSource<F, R> {
     ghost use Rattle.sandbox_command.specs.Sources.{source_remaining};
 
     ghost remaining = { source_remaining F.remaining R.remaining };
 
     fn read(&mut self, buf: &mut [u8]) -> io::Result<usize> {
         match self {
-            Source::Given(input) => input.read(buf),
-            Source::Opened(file) => file.read(buf),
+            InputSource::Given(input) => input.read(buf),
+            InputSource::RunFiles(file) => file.read(buf),
         }
     }
 }
 
-impl<F: Inlet, R: Inlet> Inlet for Source<F, R> {
+impl<F: Inlet, R: Inlet> Inlet for InputSource<F, R> {
     ghost use Rattle.sandbox_command.specs.Sources.{source_answered};
 
     ghost gave = { λ before bytes after. source_answered (λ a b. F.gave a bytes b) (λ a b. R.gave a bytes b) before after };
@@ -46,8 +46,8 @@ impl<F: Inlet, R: Inlet> Inlet for Source<F, R> {
 
     fn try_read(&mut self, buf: &mut [u8]) -> io::Result<usize> {
         match self {
-            Source::Given(input) => input.try_read(buf),
-            Source::Opened(file) => file.try_read(buf),
+            InputSource::Given(input) => input.try_read(buf),
+            InputSource::RunFiles(file) => file.try_read(buf),
         }
     }
 }
@@ -109,20 +109,23 @@ impl<F: Outlet, W: Outlet> Outlet for Sink<F, W> {
 
 /// The streams that the program was given and that a guest doesn't have, since it has files in their place.
 #[derive(Drop)]
-pub struct Spare<R, W1, W2> {
+pub struct SpareStreams<R, W1, W2> {
     pub input: Option<R>,
     pub out: Option<W1>,
     pub err: Option<W2>,
 }
 
 /// A file to be read, or the stream that was given; and the one that is spared.
-pub(crate) fn source_of<F: Drop, R: Drop>(file: Option<F>, input: R) -> (Source<F, R>, Option<R>)
+pub(crate) fn source_of<F: Drop, R: Drop>(
+    file: Option<F>,
+    input: R,
+) -> (InputSource<F, R>, Option<R>)
     ensures source { result.0 ≡ source_of file input }
     ensures spare { result.1 ≡ spare_of file input }
 {
     match file {
-        Some(file) => (Source::Opened(file), Some(input)),
-        None => (Source::Given(input), None),
+        Some(file) => (InputSource::RunFiles(file), Some(input)),
+        None => (InputSource::Given(input), None),
     }
 }
 

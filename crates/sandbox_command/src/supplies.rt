@@ -1,13 +1,13 @@
 //! What a guest is given by the words of its command line.
 
 ghost use Rattle.std.specs.Prelude.{◌≡◌, IfOk, IfErr, option_map};
-ghost use Rattle.sandbox_words.specs.Request.{argument_0, arguments_of, texts};
+ghost use Rattle.sandbox_args.specs.Request.{argument_0, arguments_of, texts};
 ghost use Rattle.sandbox_command.specs.Supplies.{split_at_equals, names_of, directories_of, terminals_of};
 ghost use Rattle.sandbox_command.specs.Supplies.{AreDirectories, AreSettings, IsUncut};
 ghost use Rattle.sandbox_command.specs.internal.Supplies.{AreSupplies};
 
+use sandbox_args::Run;
 use sandbox_core::{Preopen, SessionFault, Settings, Terminals};
-use sandbox_words::Run;
 use std::alloc::{AllocError, Global};
 
 /// The words for the directories of a guest where the command line has none: the root as `/`.
@@ -15,7 +15,7 @@ static ROOT: [&str; 1] = ["/=/"];
 
 /// The texts of a guest, and its directories.
 #[derive(Drop)]
-pub(crate) struct Supplies<'t> {
+pub(crate) struct GuestTexts<'t> {
     args: Vec<&'t [u8]>,
     env: Vec<&'t [u8]>,
     preopens: Vec<Preopen<'t>>,
@@ -94,7 +94,7 @@ fn preopens<'t>(alloc: Global, words: &[&'t str]) -> Result<Vec<Preopen<'t>>, Se
 }
 
 /// What a guest is given. A directory whose word has no `=` is refused as `Setting`.
-pub(crate) fn supplied<'t>(alloc: Global, run: &Run<'t>) -> Result<Supplies<'t>, SessionFault>
+pub(crate) fn supplied<'t>(alloc: Global, run: &Run<'t>) -> Result<GuestTexts<'t>, SessionFault>
     ensures given { IfOk result (AreSupplies run.now) }
     ensures refused { IfErr result (IsUncut (directories_of run.now)) }
 {
@@ -102,7 +102,7 @@ pub(crate) fn supplied<'t>(alloc: Global, run: &Run<'t>) -> Result<Supplies<'t>,
     let (Ok(args), Ok(env)) = (arguments(alloc, run), environment(alloc, run)) else {
         return Err(SessionFault::Memory);
     };
-    Ok(Supplies {
+    Ok(GuestTexts {
         args,
         env,
         preopens,
@@ -112,7 +112,7 @@ pub(crate) fn supplied<'t>(alloc: Global, run: &Run<'t>) -> Result<Supplies<'t>,
 /// The settings of a run with these supplies and random bytes.
 pub(crate) fn settings<'a, 't>(
     run: &Run<'t>,
-    supplies: &'a Supplies<'t>,
+    supplies: &'a GuestTexts<'t>,
     random: &'a [u8],
 ) -> Settings<'a, 't>
     requires { AreSupplies run.now supplies.now }

@@ -1,6 +1,6 @@
 //! What is done with the volume on a device.
 
-use sandbox_words::Task;
+use sandbox_args::Task;
 use vol_inode::Version;
 
 /// What is done with the volume on a device. A run of a guest is none of these.

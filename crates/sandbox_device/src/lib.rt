@@ -21,7 +21,7 @@ mod written_file;
 pub use file_device::FileDevice;
 pub use identity::Identity;
 pub use new_bytes::Contents;
-pub use opening::{Output, OutputOn, open_image, open_to_read};
+pub use opening::{FileOutput, OutputOn, open_image, open_to_read};
 pub use ram_device::RamDevice;
 pub use recorded_device::RecordedDevice;
 pub use replacing::{Hindrance, Replacement};

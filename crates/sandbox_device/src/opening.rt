@@ -90,7 +90,7 @@ pub struct OutputOn<F> {
 
 /// Such a file of the system.
 #[derive(Drop)]
-pub struct Output {
+pub struct FileOutput {
     on: OutputOn<File>,
 }
 
@@ -154,14 +154,14 @@ impl<F: WrittenFile + Drop> Write for OutputOn<F> {
     }
 }
 
-impl Output {
+impl FileOutput {
     /// Opens a file to write, or makes it, and locks it where it can be. It is refused where another use of it has locked it.
-    pub fn open<R: Files<File = File>>(files: &R, path: &str) -> io::Result<Output>
+    pub fn open<R: Files<File = File>>(files: &R, path: &str) -> io::Result<FileOutput>
         ensures { IfOk result (λ it. StandsApart it.on.file × WasOpened path.now it.on.file × (it.on.is_cut ≡ false)) }
     {
         let (file, is_new) = made_or_opened(files, path)?;
         let on = OutputOn::new(file, is_new)?;
-        Ok(Output { on })
+        Ok(FileOutput { on })
     }
 
     /// Whether it wasn't there before.
@@ -184,7 +184,7 @@ impl Output {
     }
 }
 
-impl Write for Output {
+impl Write for FileOutput {
     fn write(&mut self, buf: &[u8]) -> io::Result<usize>
         ensures bound { WritesAtMost result buf.now }
         ensures bytes { WriteAppends None None result buf.now }
@@ -201,7 +201,7 @@ impl Write for Output {
     }
 }
 
-impl Outlet for Output {
+impl Outlet for FileOutput {
     ghost use Rattle.stream_answers.specs.System.{HasRefused};
 
     ghost took = { λ before bytes after. Puts WasCut WasPut before.on bytes after.on };

@@ -1,4 +1,4 @@
-//! Part of a device's sectors, of which those of zeros take no more room than a number.
+//! SectorBlock of a device's sectors, of which those of zeros take no more room than a number.
 
 ghost use Rattle.std.specs.Prelude.{◌≡◌, ◌<◌, ◌≤◌, IfOk, IsTrue, length, replicate, set};
 ghost use Rattle.vol_sector.specs.Record.{image_of};
@@ -12,13 +12,13 @@ pub(crate) const PART: u32 = 131_072;
 /// At most 131,072 sectors. One that was never anything but zeros takes four bytes; the room for all others is
 /// reserved when they are made, so that no write takes memory, and isn't touched before they are written.
 #[derive(Drop)]
-pub(crate) struct Part {
+pub(crate) struct SectorBlock {
     /// Of each sector 0 where it is zeros, else one more than its place among the written ones.
     places: Vec<u32>,
     written: Vec<[u8; 512]>,
 }
 
-impl Model for Part {
+impl Model for SectorBlock {
     ghost use Rattle.std.specs.Prelude.{List, ℕ, ◌≤◌, vec_len, vec_capacity};
     ghost use Rattle.sandbox_device.specs.internal.Packing.{sectors_at, IsPacked};
 
@@ -42,15 +42,15 @@ fn is_zeros(image: &[u8; 512]) -> bool
     largest == 0
 }
 
-impl Part {
+impl SectorBlock {
     /// This many, of zeros.
-    pub(crate) fn zeros(alloc: Global, count: u32) -> Result<Part, AllocError>
+    pub(crate) fn zeros(alloc: Global, count: u32) -> Result<SectorBlock, AllocError>
         requires { count ≤ 131072 }
         ensures { IfOk result (λ s. s ≡ replicate count (replicate 512 0)) }
     {
         let places = vec![in alloc; 0; count as usize]?;
         let written = Vec::with_capacity(alloc, count as usize)?;
-        Ok(Part { places, written })
+        Ok(SectorBlock { places, written })
     }
 
     /// The bytes of one.

@@ -3,7 +3,7 @@
 //! Whoever is ended meanwhile leaves the file as it was, and maybe what was written beside it, which the next one takes away.
 
 ghost use Rattle.std.specs.Prelude.{◌≡◌, IfNone, IfOk, IfSome, OnOk, string_bytes};
-ghost use Rattle.sandbox_device.specs.declared.replacing.Way.TheVariants.{Beside};
+ghost use Rattle.sandbox_device.specs.declared.replacing.ReplacingWay.TheVariants.{Beside};
 ghost use Rattle.sandbox_device.specs.Opening.{StandsApart};
 ghost use Rattle.sandbox_device.specs.Contents.{bytes_of};
 ghost use Rattle.sandbox_device.specs.Named.{IsForName, IsGiven, IsThere, LeadsTo, WasOverwritten};
@@ -44,7 +44,7 @@ pub enum Hindrance {
 
 /// How a file is replaced.
 #[derive(Clone, Copy)]
-enum Way {
+enum ReplacingWay {
     Beside,
     InPlace(Hindrance),
     /// It is a pipe, a terminal or a device, which takes bytes one after another.
@@ -58,7 +58,7 @@ pub struct Replacement {
     path: String,
     /// What is there.
     old: Option<File>,
-    way: Way,
+    way: ReplacingWay,
 }
 
 /// The name that a name leads to, behind all links; the file needn't be there.
@@ -143,13 +143,13 @@ fn clear<R: Files<File = File>>(rt: &R, path: &str) {
 
 /// A file beside the one that is to be replaced, locked, so that no one clears it.
 #[derive(Drop)]
-struct Spare {
+struct SpareFile {
     file: File,
     path: String,
 }
 
 /// Makes a file of this name, which isn't taken.
-fn make_spare<R: Files<File = File>>(rt: &R, path: String) -> io::Result<Spare> {
+fn make_spare<R: Files<File = File>>(rt: &R, path: String) -> io::Result<SpareFile> {
     let mut how = OpenOptions::new();
     how.write(true).create_new(true);
     let file = open_apart(rt, &how, path.as_str())?;
@@ -159,11 +159,11 @@ fn make_spare<R: Files<File = File>>(rt: &R, path: String) -> io::Result<Spare> 
     if !leads_to(rt, path.as_str(), &file)? {
         return Err(io::Error::from(ErrorKind::AlreadyExists));
     }
-    Ok(Spare { file, path })
+    Ok(SpareFile { file, path })
 }
 
 /// Clears the names beside a file, and makes a file of the first one that isn't taken.
-fn spare_beside<R: Files<File = File> + AllocGlobal>(rt: &R, path: &str) -> io::Result<Spare> {
+fn spare_beside<R: Files<File = File> + AllocGlobal>(rt: &R, path: &str) -> io::Result<SpareFile> {
     let mut spare = Err(io::Error::from(ErrorKind::AlreadyExists));
     for number in 0..NAMES {
         let name = name_beside(rt, path, number)?;
@@ -205,7 +205,7 @@ fn sync_folder(folder: &File) -> io::Result<()> {
 #[derive(Drop)]
 struct Successor<'a, R> {
     rt: &'a R,
-    spare: &'a Spare,
+    spare: &'a SpareFile,
     path: &'a str,
     folder: &'a File,
 }
@@ -239,17 +239,17 @@ impl<R: Files<File = File> + AllocGlobal> Beside for Successor<'_, R> {
 }
 
 /// How what is there is replaced, of which these are the metadata.
-fn way_of<R: Files>(rt: &R, path: &str, file: &File, found: &Metadata) -> io::Result<Way> {
+fn way_of<R: Files>(rt: &R, path: &str, file: &File, found: &Metadata) -> io::Result<ReplacingWay> {
     if !found.is_file() {
-        return Ok(Way::Stream);
+        return Ok(ReplacingWay::Stream);
     }
     if found.nlink() > 1 {
-        return Ok(Way::InPlace(Hindrance::Names));
+        return Ok(ReplacingWay::InPlace(Hindrance::Names));
     }
     if leads_to(rt, path, file)? {
-        return Ok(Way::Beside);
+        return Ok(ReplacingWay::Beside);
     }
-    Ok(Way::InPlace(Hindrance::Folder))
+    Ok(ReplacingWay::InPlace(Hindrance::Folder))
 }
 
 /// What is there under a name, or a file that is made there.
@@ -314,7 +314,7 @@ impl Replacement {
                 Ok(Replacement {
                     path: target,
                     old: None,
-                    way: Way::Beside,
+                    way: ReplacingWay::Beside,
                 })
             }
             Err(error) => Err(error),
@@ -345,12 +345,12 @@ impl Replacement {
         ensures given { OnOk result (IsGiven R (string_bytes self.path) self.old (bytes_of contents.entry)) }
     {
         match self.way {
-            Way::Beside => self.fill_beside(rt, contents),
-            Way::InPlace(why) => {
+            ReplacingWay::Beside => self.fill_beside(rt, contents),
+            ReplacingWay::InPlace(why) => {
                 self.fill_in_place(rt, contents)?;
                 Ok(Some(why))
             }
-            Way::Stream => {
+            ReplacingWay::Stream => {
                 self.fill_in_place(rt, contents)?;
                 Ok(None)
             }
@@ -380,7 +380,7 @@ impl Replacement {
     }
 
     /// A file beside it, of its owner and its mode, and its folder.
-    fn spare<R: Files<File = File> + AllocGlobal>(&self, rt: &R) -> io::Result<(Spare, File)> {
+    fn spare<R: Files<File = File> + AllocGlobal>(&self, rt: &R) -> io::Result<(SpareFile, File)> {
         let folder = open_folder(rt, self.path.as_str())?;
         let spare = spare_beside(rt, self.path.as_str())?;
         if let Some(old) = &self.old {

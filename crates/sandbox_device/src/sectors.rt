@@ -3,7 +3,7 @@
 ghost use Rattle.std.specs.Prelude.{◌≡◌, ◌<◌, ◌^◌, ◌≤◌, ◌+◌, ◌++◌, IfOk, drop, take, length, replicate, set};
 ghost use Rattle.vol_sector.specs.Record.{image_of};
 
-use crate::part::{PART, Part};
+use crate::part::{PART, SectorBlock};
 use std::alloc::{AllocError, Global};
 use std::marker::Model;
 
@@ -12,7 +12,7 @@ use std::marker::Model;
 #[derive(Drop)]
 pub(crate) struct Sectors {
     /// Each but the last has 131,072 sectors.
-    parts: Vec<Part>,
+    parts: Vec<SectorBlock>,
     count: u32,
 }
 
@@ -36,12 +36,12 @@ fn ask_for_all(alloc: Global, count: u32) -> Result<(), AllocError> {
 }
 
 /// This many parts that are full, of zeros.
-fn full_parts(alloc: Global, many: u32) -> Result<Vec<Part>, AllocError>
+fn full_parts(alloc: Global, many: u32) -> Result<Vec<SectorBlock>, AllocError>
     ensures { IfOk result (λ parts. parts.items ≡ replicate many (replicate 131072 (replicate 512 0))) }
 {
     let mut parts = Vec::new(alloc);
     for _ in 0..many {
-        parts.push(Part::zeros(alloc, PART)?)?;
+        parts.push(SectorBlock::zeros(alloc, PART)?)?;
     }
     Ok(parts)
 }
@@ -55,7 +55,7 @@ impl Sectors {
             ask_for_all(alloc, count)?;
         }
         let mut parts = full_parts(alloc, count / PART)?;
-        parts.push(Part::zeros(alloc, count % PART)?)?;
+        parts.push(SectorBlock::zeros(alloc, count % PART)?)?;
         Ok(Sectors { parts, count })
     }
 

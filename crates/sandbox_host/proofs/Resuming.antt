@@ -8,7 +8,7 @@ use Rattle.sandbox_core.specs.Safety as safety
 use Rattle.sandbox_host.specs.declared.numbers.Told.{Told}
 use Rattle.sandbox_host.specs.declared.supplies.Supplies.{Supplies}
 use Rattle.sandbox_host.specs.Supplies.{settings_of}
-use Rattle.sandbox_host.specs.Host.{State, Parts, known}
+use Rattle.sandbox_host.specs.Host.{State, HandleParts, known}
 use Rattle.sandbox_host.specs.Headline.{Resumed, HostUpholds, HostHeadline}
 use Rattle.sandbox_host.proofs.Working.{works_of}
 
@@ -27,7 +27,7 @@ gathered m supplies s s' (r ∷ rs) is =
 pub host_headline : headline.Headline Represents known
     → safety.TurnsAreSafe known → HostHeadline
 host_headline upholds safe m supplies origin s s' rs begins resumed =
-    let parts : Parts = given (settings_of supplies) begins.volume supplies.input begins.out begins.err in
+    let parts : HandleParts = given (settings_of supplies) begins.volume supplies.input begins.out begins.err in
     let all = gathered m supplies s s' rs resumed in
     let lasts = (works_of origin begins.volume begins.is_volume).lasts in
     (all, upholds m parts (begins.volume.tree ∷ []) 0 s s' all.history begins.opens begins.shares tt (safe.opened begins.volume tt lasts) all.follow)

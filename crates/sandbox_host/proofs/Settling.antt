@@ -37,17 +37,17 @@ abbrev Host : Type 0
 Host = HostState RecordedDevice (Bor (List ℕ)) Bytes Bytes
 
 -- what a crash may have left of the device at any moment
-abbrev Left : RecordedDevice → Image → Type 0
-Left d c = (disk_of d).left_since 0 c
+abbrev SessionLeft : RecordedDevice → Image → Type 0
+SessionLeft d c = (disk_of d).left_since 0 c
 
 -- what stands for a tree that such an image stands for is such an image
 abbrev IsClosed : Superblock → (Image → Type 0) → Type 0
 IsClosed v P = (c d : Image) (U : Tree) → P d → StandsAs d v U → StandsAs c v U → P c
 
-now_left : (d : RecordedDevice) (c : Image) → (disk_of d).may_leave c → Left d c
+now_left : (d : RecordedDevice) (c : Image) → (disk_of d).may_leave c → SessionLeft d c
 now_left d c may = now_is_since d.sectors d.history.first d.history.done d.history.outcomes 0 c (omega arith) may
 
-reflected : (d : RecordedDevice) (v : Superblock) (P : Image → Type 0) → IsClosed v P → ((c : Image) → Left d c → P c) → (c : Image) → Reflects (disk_of d) v c → P c
+reflected : (d : RecordedDevice) (v : Superblock) (P : Image → Type 0) → IsClosed v P → ((c : Image) → SessionLeft d c → P c) → (c : Image) → Reflects (disk_of d) v c → P c
 reflected d v P closed all c r = closed c r.earlier r.tree (all r.earlier (now_left d r.earlier r.could)) r.stood r.stands
 
 closed_or : OneTree → (v : Superblock) (T : Tree) (P : Image → Type 0) → IsClosed v P → IsClosed v (λ c. P c ⊎ StandsAs c v T)
@@ -56,8 +56,8 @@ closed_or one v T P closed c d U (inr is) stood stands = inr (subst (StandsAs c 
 
 -- over resumes
 resumes_left : OneTree → (v : Superblock) (P : Image → Type 0) → IsClosed v P → (s s' : State) (rs : List (Told × State)) → Resumed s rs s' → s.host.volume.numbers ≡ v
-    → ((c : Image) → Left s.host.volume.device c → P c ⊎ StandsAs c v s.host.volume.tree) → (c : Image) → Left s'.host.volume.device c → P c ⊎ StandsForOne v s.host.volume.tree rs c
-resumes_left one v P closed s s' [] is numbers all c left = all c (subst (λ (t : State). Left t.host.volume.device c) is left)
+    → ((c : Image) → SessionLeft s.host.volume.device c → P c ⊎ StandsAs c v s.host.volume.tree) → (c : Image) → SessionLeft s'.host.volume.device c → P c ⊎ StandsForOne v s.host.volume.tree rs c
+resumes_left one v P closed s s' [] is numbers all c left = all c (subst (λ (t : State). SessionLeft t.host.volume.device c) is left)
 resumes_left one v P closed s s' (r ∷ rs) is numbers all c left =
     ⊎_elim (λ before. ⊎_elim (λ p. inl p) (λ first. inr (inl first)) before) (λ later. inr (inr later))
     (resumes_left one v Q closed_then r.1 s' rs is.1 (is.0.1.resumes.numbers ∙ numbers) next c left)
@@ -71,7 +71,7 @@ resumes_left one v P closed s s' (r ∷ rs) is numbers all c left =
     closed_then : IsClosed v Q
     closed_then = closed_or one v T P closed
 
-    next : (d : Image) → Left r.1.host.volume.device d → Q d ⊎ StandsAs d v r.1.host.volume.tree
+    next : (d : Image) → SessionLeft r.1.host.volume.device d → Q d ⊎ StandsAs d v r.1.host.volume.tree
     next d now =
         let turn = subst (λ (n : Superblock). Leaves (disk_of s.host.volume.device) (disk_of r.1.host.volume.device) (λ i. Reflects (disk_of s.host.volume.device) n i ⊎ (StandsAs i n T ⊎ StandsAs i n r.1.host.volume.tree))) numbers (is.0.1.resumes.crash tt) in
         ⊎_elim (λ old. inl (all d old)) (λ new. ⊎_elim (λ again. inl (reflected s.host.volume.device v Q closed_then all d again)) (λ stands. ⊎_elim (λ old. inl (inr old)) (λ after. inr after) stands) new)
@@ -94,11 +94,11 @@ committed v (Err r) commits = commits.handed_back.0
 
 -- from an opening over sectors on
 all_left : OneTree → (m : Module) (supplies : Supplies) (sectors : Bor (List (List ℕ))) (recorded huge : Bool) (s s' : State) (rs : List (Told × State))
-    → (begins : Begins m supplies (Sectors sectors recorded huge) s) → Resumed s rs s' → (d : Image) → Left s'.host.volume.device d → StandsForOne begins.volume.numbers s.host.volume.tree rs d
+    → (begins : Begins m supplies (Sectors sectors recorded huge) s) → Resumed s rs s' → (d : Image) → SessionLeft s'.host.volume.device d → StandsForOne begins.volume.numbers s.host.volume.tree rs d
 all_left one m supplies sectors recorded huge s s' rs begins resumed d now =
     ⊎_elim (λ none. absurd none) (λ is. is) (resumes_left one begins.volume.numbers (λ i. ⊥) (λ i j U none a b. none) s s' rs resumed begins.shares.reads.kept.numbers at_first d now)
   where
-    at_first : (i : Image) → Left s.host.volume.device i → ⊥ ⊎ StandsAs i begins.volume.numbers s.host.volume.tree
+    at_first : (i : Image) → SessionLeft s.host.volume.device i → ⊥ ⊎ StandsAs i begins.volume.numbers s.host.volume.tree
     at_first i then = inr (subst (StandsAs i begins.volume.numbers) (sym (begins.shares.reads.tree tt)) (begins.is_volume.is_in.since i (⊎_elim (λ old. old) (λ none. absurd none) ((begins.shares.reads.crash tt).since 0 i (omega arith) then))))
 
 numbers_then : (m : Module) (supplies : Supplies) (origin : Origin) (s s' : State) (rs : List (Told × State)) (begins : Begins m supplies origin s) → Resumed s rs s' → s'.host.volume.numbers ≡ begins.volume.numbers
@@ -139,11 +139,11 @@ settled one followed m supplies sectors recorded huge s s' rs e number k c begin
     let same : s.host.volume.tree ≡ begins.volume.tree = begins.shares.reads.tree tt in
     let T : Tree = s.host.volume.tree in
     let last : RecordedDevice = s'.host.volume.device in
-    let all : (d : Image) → Left last d → StandsForOne v T rs d = all_left one m supplies sectors recorded huge s s' rs begins resumed in
+    let all : (d : Image) → SessionLeft last d → StandsForOne v T rs d = all_left one m supplies sectors recorded huge s s' rs begins resumed in
     let numbers : s'.host.volume.numbers ≡ v = numbers_then m supplies (Sectors sectors recorded huge) s s' rs begins resumed in
     let commits = ends.commits in
     let turn = subst (λ (n : Superblock). Leaves (disk_of last) (disk_of commits.new.device) (ReflectsOr (disk_of last) n s'.host.volume.tree)) numbers (commits.crash tt) in
-    let moment : Left commits.new.device c = subst (λ (d : RecordedDevice). Left d c) (ends.device ∙ committed s'.host.volume ends.volume commits) ((followed e.device).stops k c le left) in
+    let moment : SessionLeft commits.new.device c = subst (λ (d : RecordedDevice). SessionLeft d c) (ends.device ∙ committed s'.host.volume ends.volume commits) ((followed e.device).stops k c le left) in
     let stands : StandsForOne v T rs c = ⊎_elim (λ old. all c old)
     (λ new. ⊎_elim (λ again. reflected last v (StandsForOne v T rs) (closed_one one v T rs) all c again) (λ tree. last_of v s s' rs c resumed tree) new) (turn.since 0 c (omega arith) moment) in
     subst (λ (t : Tree). StandsForOne v t rs c) same stands

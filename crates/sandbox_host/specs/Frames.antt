@@ -7,7 +7,7 @@ use Rattle.wasm_module.specs.declared.module.Module.{Module}
 use Rattle.wasm_module.specs.declared.profile.Profile.{Profile}
 use Rattle.wasm_module.specs.Module.{SpellsWith}
 use Rattle.wasm_interp.specs.declared.frames.Frame.{Frame}
-use Rattle.module_survey.specs.Places.{IsInstructionAt, called}
+use Rattle.sandbox_inspect.specs.Places.{IsInstructionAt, called}
 use Rattle.sandbox_host.specs.declared.frames.FunctionFrame.{FunctionFrame}
 
 -- the instruction at which a function stands that has so many inside it: the one that comes next, of a caller its call

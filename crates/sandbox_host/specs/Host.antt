@@ -12,7 +12,7 @@ use Rattle.wasi_calls.specs.declared.host.wasi_host.HostParts.{HostParts}
 use Rattle.wasi_calls.specs.host.Worlds.{hearing}
 use Rattle.sandbox_device.specs.declared.recorded_device.RecordedDevice.{RecordedDevice}
 use Rattle.sandbox_device.specs.contracts.recorded_device.RecordedDeviceDevice.TheImpl.{ghosts}
-use Rattle.sandbox_host.specs.declared.kept.Kept.{Kept}
+use Rattle.sandbox_host.specs.declared.kept.KeptOutput.{KeptOutput}
 use Rattle.sandbox_core.specs.Devices.{Devices}
 use Rattle.sandbox_core.specs.Session as core
 use Rattle.sandbox_core.specs.declared.session.Finished.{Finished}
@@ -33,7 +33,7 @@ abbrev pub failures_of : RecordedDevice → ℕ
 failures_of = ghosts.failures
 
 abbrev pub Bytes : Type 0
-Bytes = Kept
+Bytes = KeptOutput
 
 abbrev pub remaining : Bor (List ℕ) → Option (List ℕ)
 remaining input = Some input.now
@@ -68,17 +68,17 @@ State = core.SessionState RecordedDevice (Bor (List ℕ)) Bytes Bytes
 abbrev pub HostVolume : Type 0
 HostVolume = Opened RecordedDevice
 
-abbrev pub Parts : Type 0
-Parts = HostParts RecordedDevice (Bor (List ℕ)) Bytes Bytes
+abbrev pub HandleParts : Type 0
+HandleParts = HostParts RecordedDevice (Bor (List ℕ)) Bytes Bytes
 
 abbrev pub HostReport : Type 0
 HostReport = Report RecordedDevice (Bor (List ℕ)) Bytes Bytes
 
 -- what the calls of a session say, at these types
-abbrev pub Opens : Module → Parts → State → Type 0
+abbrev pub Opens : Module → HandleParts → State → Type 0
 Opens = core.Opens
 
-abbrev pub Shares : Parts → State → Type 0
+abbrev pub Shares : HandleParts → State → Type 0
 Shares = core.Shares known.device
 
 abbrev pub Resumes : State → State → ℕ → Pause → Type 0

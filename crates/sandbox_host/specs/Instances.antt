@@ -20,12 +20,12 @@ use Rattle.plugin_session.specs.Instance as instance
 use Rattle.plugin_session.specs.Instance.{InstanceState, links, session_of, used_by}
 use Rattle.sandbox_host.specs.declared.numbers.Told.{Told}
 use Rattle.sandbox_host.specs.declared.numbers.Why.{Why}
-use Rattle.sandbox_host.specs.declared.supplies.Limits.{Limits}
+use Rattle.sandbox_host.specs.declared.supplies.SessionLimits.{SessionLimits}
 use Rattle.sandbox_host.specs.declared.supplies.Supplies.{Supplies}
 use Rattle.sandbox_host.specs.declared.volumes.Origin.{Origin}
-use Rattle.sandbox_host.specs.declared.instance.Left.{Left as LeftOver}
-use Rattle.sandbox_host.specs.declared.held.Held.{Held}
-use Rattle.sandbox_host.specs.declared.held.Held.TheVariants.{Loaded, Running, Finished, Plugin, Instance, Left, Nothing}
+use Rattle.sandbox_host.specs.declared.instance.SessionLeft.{SessionLeft as LeftOver}
+use Rattle.sandbox_host.specs.declared.held.HandleContent.{HandleContent}
+use Rattle.sandbox_host.specs.declared.held.HandleContent.TheVariants.{Loaded, Running, Finished, Plugin, Instance, SessionLeft, Nothing}
 use Rattle.sandbox_host.specs.Numbers.{instance_number, session_number, told_event}
 use Rattle.sandbox_host.specs.Supplies.{is_known, most_output, most_pages, most_values, settings_of}
 use Rattle.sandbox_host.specs.Host.{Bytes, Commits, HostVolume, IsHonest, Shares, known}
@@ -40,56 +40,56 @@ Living = InstanceState RecordedDevice (Bor (List ℕ)) Bytes Bytes
 -- ---- what a handle has
 
 -- the module for instances, an instance that isn't finished, and what a finished one left
-abbrev pub plugin_in : Held → Option Ready
+abbrev pub plugin_in : HandleContent → Option Ready
 plugin_in (Loaded m bytes) = None
 plugin_in (Running r) = None
 plugin_in (Finished e) = None
 plugin_in (Plugin p bytes) = Some p
 plugin_in (Instance l) = None
-plugin_in (Left e) = None
+plugin_in (SessionLeft e) = None
 plugin_in Nothing = None
 
-abbrev pub living_in : Held → Option Living
+abbrev pub living_in : HandleContent → Option Living
 living_in (Loaded m bytes) = None
 living_in (Running r) = None
 living_in (Finished e) = None
 living_in (Plugin p bytes) = None
 living_in (Instance l) = Some l.instance
-living_in (Left e) = None
+living_in (SessionLeft e) = None
 living_in Nothing = None
 
-abbrev pub left_in : Held → Option LeftOver
+abbrev pub left_in : HandleContent → Option LeftOver
 left_in (Loaded m bytes) = None
 left_in (Running r) = None
 left_in (Finished e) = None
 left_in (Plugin p bytes) = None
 left_in (Instance l) = None
-left_in (Left e) = Some e
+left_in (SessionLeft e) = Some e
 left_in Nothing = None
 
-abbrev pub plugin_of : Option Held → Option Ready
+abbrev pub plugin_of : Option HandleContent → Option Ready
 plugin_of None = None
 plugin_of (Some held) = plugin_in held
 
-abbrev pub living : Option Held → Option Living
+abbrev pub living : Option HandleContent → Option Living
 living None = None
 living (Some held) = living_in held
 
-abbrev pub left : Option Held → Option LeftOver
+abbrev pub left : Option HandleContent → Option LeftOver
 left None = None
 left (Some held) = left_in held
 
 -- all bytes of an instance's memory
-abbrev pub memory_in : Held → List ℕ
+abbrev pub memory_in : HandleContent → List ℕ
 memory_in (Loaded m bytes) = []
 memory_in (Running r) = []
 memory_in (Finished e) = []
 memory_in (Plugin p bytes) = []
 memory_in (Instance l) = l.instance.machine.memory
-memory_in (Left e) = []
+memory_in (SessionLeft e) = []
 memory_in Nothing = []
 
-abbrev pub memory : Option Held → List ℕ
+abbrev pub memory : Option HandleContent → List ℕ
 memory None = []
 memory (Some held) = memory_in held
 
@@ -97,22 +97,22 @@ memory (Some held) = memory_in held
 
 -- The module isn't made ready for instances with these limits: one isn't known, or there are more pages than a memory can have; or it
 -- has no instance; or memory was refused.
-pub record HasNoInstance (m : Module) (limits : Limits) (number : ℕ) : Type 0 where
+pub record HasNoInstance (m : Module) (limits : SessionLimits) (number : ℕ) : Type 0 where
   pub fault : InstanceFault
   pub refuses : NotAllocated links (most_pages limits) m fault
   pub tells : number ≡ instance_number fault
 
-abbrev pub NotPlugged : Module → Limits → ℕ → Type 0
+abbrev pub NotPlugged : Module → SessionLimits → ℕ → Type 0
 NotPlugged m limits number = (((is_known limits ≡ false) ⊎ (65536 < most_pages limits)) × (number ≡ 15)) ⊎ (HasNoInstance m limits number ⊎ (number ≡ 40))
 
 -- the module was loaded, and isn't made ready for these limits
-pub record NotPluggedFrom (p : Profile) (bytes : List ℕ) (limits : Limits) (number : ℕ) : Type 0 where
+pub record NotPluggedFrom (p : Profile) (bytes : List ℕ) (limits : SessionLimits) (number : ℕ) : Type 0 where
   pub m : Module
   pub is_loaded : IsLoadedWith p bytes m
   pub why : NotPlugged m limits number
 
 -- A module isn't loaded for instances: it is refused, which is told, or its limits are.
-abbrev pub NotPluggedWith : Profile → List ℕ → Limits → ℕ → Why → Why → Type 0
+abbrev pub NotPluggedWith : Profile → List ℕ → SessionLimits → ℕ → Why → Why → Type 0
 NotPluggedWith p bytes limits number before after =
     ((number ≡ after.fault) × NotLoadedWith p bytes after) ⊎ (NotPluggedFrom p bytes limits number × (after ≡ before))
 

@@ -17,14 +17,14 @@ use Rattle.wasm_interp.specs.declared.invoking.Event.{Event}
 use Rattle.wasm_interp.specs.declared.invoking.Event.TheVariants as event
 use Rattle.plugin_session.specs.declared.handling.Misuse.{Misuse}
 use Rattle.plugin_session.specs.declared.handling.Misuse.TheVariants as misuse
-use Rattle.run_report.specs.declared.fault.Fault.{Fault}
-use Rattle.run_report.specs.declared.fault.Fault.TheVariants.{Module, Volume, Instance, Setting, Preopen, Memory}
-use Rattle.run_report.specs.Faults.{fault_answer, load_offset}
-use Rattle.run_report.specs.Ends.{outcome_number, trap_number}
+use Rattle.sandbox_report.specs.declared.fault.Fault.{Fault}
+use Rattle.sandbox_report.specs.declared.fault.Fault.TheVariants.{Module, Volume, Instance, Setting, Preopen, Memory}
+use Rattle.sandbox_report.specs.Faults.{fault_answer, load_offset}
+use Rattle.sandbox_report.specs.Ends.{outcome_number, trap_number}
 use Rattle.sandbox_host.specs.declared.numbers.Why.{Why}
 use Rattle.sandbox_host.specs.declared.numbers.Told.{Told}
 
--- ---- faults, as the program numbers them (`run_report`), and 40 for memory
+-- ---- faults, as the program numbers them (`sandbox_report`), and 40 for memory
 
 abbrev pub why_of : LoadFault → Why
 why_of fault = record { fault = fault_answer (Module fault); offset = unwrap_or (load_offset fault) 0 }

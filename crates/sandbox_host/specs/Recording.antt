@@ -6,8 +6,8 @@ use Rattle.vol_sector.specs.declared.record.Operation.TheVariants.{Write, Sync}
 use Rattle.sandbox_device.specs.declared.recorded_device.RecordedDevice.{RecordedDevice}
 use Rattle.sandbox_device.specs.Followed.{done_on}
 use Rattle.sandbox_host.specs.declared.recording.VolumeOperation.{VolumeOperation}
-use Rattle.sandbox_host.specs.declared.held.Held.{Held}
-use Rattle.sandbox_host.specs.declared.held.Held.TheVariants.{Loaded, Running, Finished, Plugin, Instance, Left, Nothing}
+use Rattle.sandbox_host.specs.declared.held.HandleContent.{HandleContent}
+use Rattle.sandbox_host.specs.declared.held.HandleContent.TheVariants.{Loaded, Running, Finished, Plugin, Instance, SessionLeft, Nothing}
 use Rattle.sandbox_host.specs.Sessions.{state_of}
 
 -- the write or sync with this number, in the order in which they were done
@@ -33,15 +33,15 @@ pub record KeepsRecord (sectors : List (List ℕ)) (recorded : Bool) (earlier la
   pub done : done_on later ≡ done_on earlier ++ more
 
 -- that of a session or an instance as it is: while it runs, what isn't committed isn't on it yet
-abbrev pub recorded_in : Held → Option RecordedDevice
+abbrev pub recorded_in : HandleContent → Option RecordedDevice
 recorded_in (Loaded m bytes) = None
 recorded_in (Running r) = recorded_on (state_of r.session).host.volume.device
 recorded_in (Finished e) = recorded_on e.device
 recorded_in (Plugin p bytes) = None
 recorded_in (Instance l) = recorded_on l.instance.host.volume.device
-recorded_in (Left e) = recorded_on e.device
+recorded_in (SessionLeft e) = recorded_on e.device
 recorded_in Nothing = None
 
-abbrev pub recorded : Option Held → Option RecordedDevice
+abbrev pub recorded : Option HandleContent → Option RecordedDevice
 recorded None = None
 recorded (Some held) = recorded_in held

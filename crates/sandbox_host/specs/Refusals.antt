@@ -19,7 +19,7 @@ use Rattle.sandbox_core.specs.declared.fault.SessionFault.{SessionFault}
 use Rattle.sandbox_core.specs.declared.fault.SessionFault.TheVariants.{Device}
 use Rattle.sandbox_core.specs.Session.{given, IsRefused}
 use Rattle.sandbox_host.specs.declared.numbers.Why.{Why}
-use Rattle.sandbox_host.specs.declared.supplies.Limits.{Limits}
+use Rattle.sandbox_host.specs.declared.supplies.SessionLimits.{SessionLimits}
 use Rattle.sandbox_host.specs.declared.supplies.Supplies.{Supplies}
 use Rattle.sandbox_host.specs.declared.volumes.Origin.{Origin}
 use Rattle.sandbox_host.specs.Numbers.{why_of, instance_number, session_number, volume_number}
@@ -82,27 +82,27 @@ NotBegunOf prepared m supplies origin number = NotBegun m supplies origin number
 
 -- The module isn't prepared for these limits: one isn't known, or there are more pages than a memory can have; or it can't be
 -- instantiated; or memory was refused.
-pub record NoInstance (m : Module) (limits : Limits) (number : ℕ) : Type 0 where
+pub record NoInstance (m : Module) (limits : SessionLimits) (number : ℕ) : Type 0 where
   pub fault : InstanceFault
   pub refuses : RefusedFor link (most_pages limits) m fault
   pub tells : number ≡ instance_number fault
 
-abbrev pub NotReady : Module → Limits → ℕ → Type 0
+abbrev pub NotReady : Module → SessionLimits → ℕ → Type 0
 NotReady m limits number = (((is_known limits ≡ false) ⊎ (65536 < most_pages limits)) × (number ≡ 15)) ⊎ (NoInstance m limits number ⊎ (number ≡ 40))
 
 -- the module was loaded, and isn't prepared for these limits
-pub record NotReadyFrom (p : Profile) (bytes : List ℕ) (limits : Limits) (number : ℕ) : Type 0 where
+pub record NotReadyFrom (p : Profile) (bytes : List ℕ) (limits : SessionLimits) (number : ℕ) : Type 0 where
   pub m : Module
   pub is_loaded : IsLoadedWith p bytes m
   pub why : NotReady m limits number
 
 -- A module isn't loaded and prepared: it is refused, which is told, or its limits are.
-abbrev pub NotPreparedWith : Profile → List ℕ → Limits → ℕ → Why → Why → Type 0
+abbrev pub NotPreparedWith : Profile → List ℕ → SessionLimits → ℕ → Why → Why → Type 0
 NotPreparedWith p bytes limits number before after =
     ((number ≡ after.fault) × NotLoadedWith p bytes after) ⊎ (NotReadyFrom p bytes limits number × (after ≡ before))
 
 -- the same without floats
-abbrev pub NotPrepared : List ℕ → Limits → ℕ → Why → Why → Type 0
+abbrev pub NotPrepared : List ℕ → SessionLimits → ℕ → Why → Why → Type 0
 NotPrepared bytes = NotPreparedWith Integers bytes
 
 -- the module was loaded, and no session of it begins, or memory for it was refused

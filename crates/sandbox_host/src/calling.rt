@@ -9,7 +9,7 @@ ghost use Rattle.sandbox_host.specs.Sessions.{bytes_of};
 ghost use Rattle.sandbox_host.specs.Instances.{Answered, Answers, Invokes, IsHandedOver, Went, living};
 
 use crate::handle::Handle;
-use crate::held::Held;
+use crate::held::HandleContent;
 use crate::instance::HostInstance;
 use crate::numbers::{MISUSE, OK, Told, misuse_number, told_event};
 use crate::showing::show;
@@ -50,7 +50,7 @@ pub fn invoke(alloc: Global, instance: &mut Handle, name: &[u8], arguments: &[u6
         return MISUSE;
     };
     let answer = match &mut *held {
-        Held::Instance(living) => enter(&mut living.instance, name, arguments),
+        HandleContent::Instance(living) => enter(&mut living.instance, name, arguments),
         _ => MISUSE,
     };
     instance.put(held);
@@ -85,7 +85,7 @@ pub fn go(alloc: Global, instance: &mut Handle, units: u64, told: &mut Told) -> 
         return MISUSE;
     };
     let answer = match &mut *held {
-        Held::Instance(living) => go_on(&mut living.instance, units, told),
+        HandleContent::Instance(living) => go_on(&mut living.instance, units, told),
         _ => MISUSE,
     };
     instance.put(held);
@@ -115,7 +115,7 @@ pub fn answer(alloc: Global, instance: &mut Handle, results: &[u64]) -> u32
         return MISUSE;
     };
     let answer = match &mut *held {
-        Held::Instance(living) => give(&mut living.instance, results),
+        HandleContent::Instance(living) => give(&mut living.instance, results),
         _ => MISUSE,
     };
     instance.put(held);
@@ -134,7 +134,7 @@ pub fn abandon(alloc: Global, instance: &mut Handle) -> u32
         return MISUSE;
     };
     let answer = match &mut *held {
-        Held::Instance(living) => number_of(living.instance.abandon()),
+        HandleContent::Instance(living) => number_of(living.instance.abandon()),
         _ => MISUSE,
     };
     instance.put(held);
@@ -166,7 +166,7 @@ pub fn values(alloc: Global, instance: &mut Handle, room: &mut [u64]) -> usize
         return 0;
     };
     let count = match &*held {
-        Held::Instance(living) => show_values(&living.instance, room),
+        HandleContent::Instance(living) => show_values(&living.instance, room),
         _ => 0,
     };
     instance.put(held);

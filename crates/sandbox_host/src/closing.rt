@@ -4,7 +4,7 @@ ghost use Rattle.std.specs.Prelude.{◌≡◌, ◌≢◌, ◌⊎◌, None, Some,
 ghost use Rattle.sandbox_host.specs.Sessions.{finished, finished_in, loaded, loaded_in, prepared, prepared_in, bytes_of, bytes_in, module_of, has_session, has_module};
 
 use crate::handle::Handle;
-use crate::held::{Ended, Held};
+use crate::held::{Ended, HandleContent};
 use crate::numbers::{MISUSE, OK};
 use std::alloc::Global;
 
@@ -43,14 +43,14 @@ pub fn unload(alloc: Global, module: &mut Handle) -> u32
 }
 
 /// What a finished session becomes where its module is kept.
-fn unloaded(held: Held) -> (Held, u32)
+fn unloaded(held: HandleContent) -> (HandleContent, u32)
     ensures kept { IfSome (finished_in held) (λ e. (result.1 ≡ 0) × (loaded_in result.0 ≡ Some (module_of e.loaded))
         × (prepared_in result.0 ≡ prepared_in held)) }
     ensures other { is_none (finished_in held) ≡ true → (result.1 ≡ 100) × (result.0 ≡ held) }
     ensures bytes { bytes_in result.0 ≡ bytes_in held }
 {
     match held {
-        Held::Finished(
+        HandleContent::Finished(
             Ended {
                 loaded,
                 bytes,
@@ -62,7 +62,7 @@ fn unloaded(held: Held) -> (Held, u32)
             drop(device);
             drop(out);
             drop(err);
-            (Held::Loaded(loaded, bytes), OK)
+            (HandleContent::Loaded(loaded, bytes), OK)
         }
         other => (other, MISUSE),
     }
@@ -83,7 +83,7 @@ pub fn close_loaded(alloc: Global, session: &mut Handle, module: &mut Handle) ->
     let Some(mut held) = session.take(alloc) else {
         return MISUSE;
     };
-    let (after, number) = unloaded(Box::replace(&mut held, Held::Nothing));
+    let (after, number) = unloaded(Box::replace(&mut held, HandleContent::Nothing));
     drop(Box::replace(&mut held, after));
     if number == OK {
         module.put(held);

@@ -8,14 +8,14 @@ ghost use Rattle.sandbox_host.specs.Sessions.{running, state_of, bytes_of, IsSho
 ghost use Rattle.sandbox_host.specs.Frames.{instruction_of, IsOffset, TellsFrame, name_of, number_name};
 
 use crate::handle::Handle;
-use crate::held::Held;
+use crate::held::HandleContent;
 use crate::numbers::{MISUSE, OK};
 use crate::session::HostSession;
 use crate::showing::show;
 use arrayvec::ArrayString;
 use itoa::Buffer;
-use module_survey::{ModuleBytes, called};
 use sandbox_core::{Frame, Valid};
+use sandbox_inspect::{ModuleBytes, called};
 use std::alloc::Global;
 
 /// No function is at work with so many inside it.
@@ -126,7 +126,7 @@ pub fn frame_at(alloc: Global, session: &mut Handle, number: usize, told: &mut F
         return MISUSE;
     };
     let answer = match &mut *held {
-        Held::Running(running) => {
+        HandleContent::Running(running) => {
             frame_of(alloc, &running.session, &mut running.bytes, number, told)
         }
         _ => MISUSE,

@@ -10,7 +10,7 @@ ghost use Rattle.sandbox_host.specs.Instances.{Answered, IsRead, living, memory}
 
 use crate::calling::number_of;
 use crate::handle::Handle;
-use crate::held::Held;
+use crate::held::HandleContent;
 use crate::numbers::{MISUSE, OK, misuse_number};
 use plugin_session::Misuse;
 use std::alloc::Global;
@@ -24,7 +24,7 @@ pub fn memory_size(alloc: Global, instance: &mut Handle) -> usize
         return 0;
     };
     let size = match &*held {
-        Held::Instance(living) => living.instance.memory().len(),
+        HandleContent::Instance(living) => living.instance.memory().len(),
         _ => 0,
     };
     instance.put(held);
@@ -54,7 +54,7 @@ pub fn memory_read(alloc: Global, instance: &mut Handle, address: u32, room: &mu
         return MISUSE;
     };
     let answer = match &*held {
-        Held::Instance(living) => read(living.instance.memory(), address, room),
+        HandleContent::Instance(living) => read(living.instance.memory(), address, room),
         _ => MISUSE,
     };
     instance.put(held);
@@ -73,7 +73,7 @@ pub fn memory_write(alloc: Global, instance: &mut Handle, address: u32, bytes: &
         return MISUSE;
     };
     let answer = match &mut *held {
-        Held::Instance(living) => number_of(living.instance.write(address, bytes)),
+        HandleContent::Instance(living) => number_of(living.instance.write(address, bytes)),
         _ => MISUSE,
     };
     instance.put(held);

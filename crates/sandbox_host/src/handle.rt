@@ -1,11 +1,11 @@
 //! What a host in C keeps of a session or a module: a pointer.
 
 ghost use Rattle.std.specs.Prelude.{◌≡◌, Option, None, Some, false, is_none, option_map};
-ghost use Rattle.sandbox_host.specs.declared.held.Held.{Held};
+ghost use Rattle.sandbox_host.specs.declared.held.HandleContent.{HandleContent};
 ghost use Rattle.sandbox_host.specs.Handles.{held_coded, handle_owns};
 
-use crate::held::Held;
-use crate::parts::Parts;
+use crate::held::HandleContent;
+use crate::parts::HandleParts;
 use std::alloc::{Allocator, Global};
 use std::marker::Model;
 use std::mem;
@@ -17,7 +17,7 @@ use std::ptr::null_mut;
 pub struct Handle {
     at: *mut u8,
     alloc: Global,
-    pub ghost held: { Option Held } by { held_coded },
+    pub ghost held: { Option HandleContent } by { held_coded },
 }
 
 impl Model for Handle {
@@ -33,7 +33,7 @@ impl Handle {
     }
 
     /// Takes out what it has.
-    pub(crate) fn take(&mut self, alloc: Global) -> Option<Box<Held>>
+    pub(crate) fn take(&mut self, alloc: Global) -> Option<Box<HandleContent>>
         ensures taken { option_map (λ b. b.value) result ≡ self.old.held }
         ensures closed { self.new.held ≡ None }
     {
@@ -48,10 +48,10 @@ impl Handle {
     }
 
     /// Gives it this. It has to be closed: what it had else is leaked.
-    pub(crate) fn put(&mut self, held: Box<Held>)
+    pub(crate) fn put(&mut self, held: Box<HandleContent>)
         ensures { self.new.held ≡ Some held.value }
     {
-        let _before = mem::replace(self, Handle::of_parts(Parts::of(held)));
+        let _before = mem::replace(self, Handle::of_parts(HandleParts::of(held)));
     }
 
     /// One that has nothing, as C's NULL.
@@ -64,23 +64,23 @@ impl Handle {
         }
     }
 
-    fn of_parts(parts: Parts<Held, Global>) -> Handle
+    fn of_parts(parts: HandleParts<HandleContent, Global>) -> Handle
         ensures { result.held ≡ Some parts.value }
     {
-        let Parts { ptr, alloc } = parts;
+        let HandleParts { ptr, alloc } = parts;
         Handle {
             at: ptr as *mut u8,
             alloc,
         }
     }
 
-    fn into_parts(self) -> Parts<Held, Global>
+    fn into_parts(self) -> HandleParts<HandleContent, Global>
         requires { is_none self.held ≡ false }
         ensures { self.held ≡ Some result.value }
     {
         let Handle { at, alloc } = self;
-        Parts {
-            ptr: at as *mut Held,
+        HandleParts {
+            ptr: at as *mut HandleContent,
             alloc,
         }
     }
@@ -94,6 +94,6 @@ fn crosses<T: Send>() {}
 
 /// What a handle has may, and so may a handle: an `unsafe impl` alone proves nothing.
 pub(crate) fn handle_crosses() {
-    crosses::<Held>();
+    crosses::<HandleContent>();
     crosses::<Handle>();
 }

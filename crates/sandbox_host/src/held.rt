@@ -3,19 +3,19 @@
 ghost use Rattle.std.specs.Prelude.{◌≡◌, length};
 ghost use Rattle.sandbox_host.specs.Sessions.{stream, is_filled};
 
-use crate::instance::{Left, Living};
-use crate::kept::Kept;
+use crate::instance::{Living, SessionLeft};
+use crate::kept::KeptOutput;
 use crate::modules::LoadedModule;
 use crate::session::HostSession;
 use crate::showing::show_sectors;
-use module_survey::ModuleBytes;
 use plugin_session::Plugin;
 use sandbox_device::RecordedDevice;
+use sandbox_inspect::ModuleBytes;
 use vol_sector::Device;
 
 /// A session that isn't finished.
 #[derive(Drop)]
-pub struct Begun {
+pub struct OpenSession {
     pub session: HostSession,
     pub bytes: ModuleBytes<'static>,
 }
@@ -26,12 +26,12 @@ pub struct Ended {
     pub loaded: LoadedModule,
     pub bytes: ModuleBytes<'static>,
     pub device: RecordedDevice,
-    pub out: Kept,
-    pub err: Kept,
+    pub out: KeptOutput,
+    pub err: KeptOutput,
 }
 
 /// Of what was written to descriptor 1 and to 2, that of this descriptor.
-fn stream<'a>(out: &'a Kept, err: &'a Kept, descriptor: u32) -> &'a [u8]
+fn stream<'a>(out: &'a KeptOutput, err: &'a KeptOutput, descriptor: u32) -> &'a [u8]
     ensures { result.now ≡ stream out.now err.now descriptor }
 {
     match descriptor {
@@ -42,7 +42,7 @@ fn stream<'a>(out: &'a Kept, err: &'a Kept, descriptor: u32) -> &'a [u8]
 }
 
 /// Whether a write to that descriptor was refused since it has as many bytes as are allowed.
-fn is_filled(out: &Kept, err: &Kept, descriptor: u32) -> bool
+fn is_filled(out: &KeptOutput, err: &KeptOutput, descriptor: u32) -> bool
     ensures { result ≡ is_filled out.now err.now descriptor }
 {
     match descriptor {
@@ -54,11 +54,11 @@ fn is_filled(out: &Kept, err: &Kept, descriptor: u32) -> bool
 
 /// What a handle has, with the bytes of its module. It is let go as a whole, so that its destructor is proved once.
 #[derive(Drop)]
-pub enum Held {
+pub enum HandleContent {
     /// A module that no session has.
     Loaded(LoadedModule, ModuleBytes<'static>),
     /// A session that isn't finished.
-    Running(Begun),
+    Running(OpenSession),
     /// A session that is finished.
     Finished(Ended),
     /// A module whose instances have their exported functions called.
@@ -66,12 +66,12 @@ pub enum Held {
     /// An instance that isn't finished.
     Instance(Living),
     /// An instance that is finished.
-    Left(Left),
+    SessionLeft(SessionLeft),
     /// Nothing, while a call changes what it has.
     Nothing,
 }
 
-impl Held {
+impl HandleContent {
     ghost use Rattle.sandbox_host.specs.Sessions.{is_session, is_loaded, is_plugin, output_of, is_filled_of, sectors_of, IsShown};
 
     /// Whether it is a session or an instance, finished or not.
@@ -80,7 +80,10 @@ impl Held {
     {
         matches!(
             self,
-            Held::Running(..) | Held::Finished(_) | Held::Instance(_) | Held::Left(_)
+            HandleContent::Running(..)
+                | HandleContent::Finished(_)
+                | HandleContent::Instance(_)
+                | HandleContent::SessionLeft(_)
         )
     }
 
@@ -88,14 +91,14 @@ impl Held {
     pub(crate) fn is_loaded(&self) -> bool
         ensures { result ≡ is_loaded self.now }
     {
-        matches!(self, Held::Loaded(..))
+        matches!(self, HandleContent::Loaded(..))
     }
 
     /// Whether it is a module for instances.
     pub(crate) fn is_plugin(&self) -> bool
         ensures { result ≡ is_plugin self.now }
     {
-        matches!(self, Held::Plugin(..))
+        matches!(self, HandleContent::Plugin(..))
     }
 
     /// What the guest has written to descriptor 1 or 2.
@@ -103,14 +106,14 @@ impl Held {
         ensures { result.now ≡ output_of self.now descriptor }
     {
         match self {
-            Held::Running(Begun { session, .. }) => {
+            HandleContent::Running(OpenSession { session, .. }) => {
                 stream(session.out(), session.err(), descriptor)
             }
-            Held::Finished(ended) => stream(&ended.out, &ended.err, descriptor),
-            Held::Instance(Living { instance, .. }) => {
+            HandleContent::Finished(ended) => stream(&ended.out, &ended.err, descriptor),
+            HandleContent::Instance(Living { instance, .. }) => {
                 stream(instance.out(), instance.err(), descriptor)
             }
-            Held::Left(left) => stream(&left.out, &left.err, descriptor),
+            HandleContent::SessionLeft(left) => stream(&left.out, &left.err, descriptor),
             _ => &[],
         }
     }
@@ -120,14 +123,14 @@ impl Held {
         ensures { result ≡ is_filled_of self.now descriptor }
     {
         match self {
-            Held::Running(Begun { session, .. }) => {
+            HandleContent::Running(OpenSession { session, .. }) => {
                 is_filled(session.out(), session.err(), descriptor)
             }
-            Held::Finished(ended) => is_filled(&ended.out, &ended.err, descriptor),
-            Held::Instance(Living { instance, .. }) => {
+            HandleContent::Finished(ended) => is_filled(&ended.out, &ended.err, descriptor),
+            HandleContent::Instance(Living { instance, .. }) => {
                 is_filled(instance.out(), instance.err(), descriptor)
             }
-            Held::Left(left) => is_filled(&left.out, &left.err, descriptor),
+            HandleContent::SessionLeft(left) => is_filled(&left.out, &left.err, descriptor),
             _ => false,
         }
     }
@@ -138,8 +141,8 @@ impl Held {
         ensures shown { IsShown (sectors_of self.now) room.old room.new }
     {
         let device = match self {
-            Held::Finished(ended) => &ended.device,
-            Held::Left(left) => &left.device,
+            HandleContent::Finished(ended) => &ended.device,
+            HandleContent::SessionLeft(left) => &left.device,
             _ => return 0,
         };
         show_sectors(device, room);

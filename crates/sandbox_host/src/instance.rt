@@ -1,12 +1,12 @@
 //! Instances behind a handle, and what a finished one leaves.
 
-use crate::kept::Kept;
-use module_survey::ModuleBytes;
+use crate::kept::KeptOutput;
 use plugin_session::Instance;
 use sandbox_device::RecordedDevice;
+use sandbox_inspect::ModuleBytes;
 
 /// An instance over its device, whose output is kept in memory.
-pub type HostInstance<'a> = Instance<'a, 'a, 'a, RecordedDevice, &'a [u8], Kept, Kept>;
+pub type HostInstance<'a> = Instance<'a, 'a, 'a, RecordedDevice, &'a [u8], KeptOutput, KeptOutput>;
 
 /// An instance that isn't finished.
 #[derive(Drop)]
@@ -17,9 +17,9 @@ pub struct Living {
 
 /// What a finished instance leaves.
 #[derive(Drop)]
-pub struct Left {
+pub struct SessionLeft {
     pub bytes: ModuleBytes<'static>,
     pub device: RecordedDevice,
-    pub out: Kept,
-    pub err: Kept,
+    pub out: KeptOutput,
+    pub err: KeptOutput,
 }

@@ -6,17 +6,17 @@ ghost use Rattle.sandbox_host.specs.Instances.{BeginsInstance, FinishesInstance,
 ghost use Rattle.sandbox_host.specs.Volumes.{origin_of};
 
 use crate::handle::Handle;
-use crate::held::Held;
-use crate::instance::{HostInstance, Left, Living};
-use crate::kept::Kept;
+use crate::held::HandleContent;
+use crate::instance::{HostInstance, Living, SessionLeft};
+use crate::kept::KeptOutput;
 use crate::numbers::{MISUSE, OK, SETTING, session_number, volume_number};
 use crate::opening::keep;
 use crate::running::handed_back;
 use crate::supplies::Supplies;
 use crate::volumes::{Origin, VolumeSource, open_volume};
-use module_survey::ModuleBytes;
 use plugin_session::{Instance, Plugin};
 use sandbox_core::{Finished, RefusedParts};
+use sandbox_inspect::ModuleBytes;
 use std::alloc::Global;
 
 /// Makes an instance, over the volume that is named: its limits have the pages that the module was made ready for.
@@ -42,8 +42,8 @@ fn begin_instance<'a>(
     };
     let settings = supplies.settings();
     let most = supplies.limits.most_output();
-    let out = Kept::new(alloc, most);
-    let err = Kept::new(alloc, most);
+    let out = KeptOutput::new(alloc, most);
+    let err = KeptOutput::new(alloc, most);
     match Instance::new(alloc, plugin, settings, volume, supplies.input, out, err) {
         Ok(mut instance) => {
             instance.limit_values(supplies.limits.most_values() as usize);
@@ -73,7 +73,11 @@ fn open_into(
     match begin_instance(alloc, plugin, supplies, origin) {
         Ok(instance) => {
             let bytes = ModuleBytes::new(bytes);
-            keep(alloc, handle, Held::Instance(Living { instance, bytes }))
+            keep(
+                alloc,
+                handle,
+                HandleContent::Instance(Living { instance, bytes }),
+            )
         }
         Err(number) => number,
     }
@@ -109,7 +113,7 @@ pub fn open_instance(
         return MISUSE;
     };
     let answer = match &*held {
-        Held::Plugin(ready, bytes) => {
+        HandleContent::Plugin(ready, bytes) => {
             open_into(alloc, instance, ready, bytes.as_slice(), supplies, origin)
         }
         _ => MISUSE,
@@ -119,7 +123,7 @@ pub fn open_instance(
 }
 
 /// Commits an instance's calls of WASI. What is left of it, and whether its device failed.
-fn end_instance(living: Living) -> (Left, u32)
+fn end_instance(living: Living) -> (SessionLeft, u32)
     ensures finishes { FinishesInstance living.instance result.0 result.1 }
     ensures bytes { result.0.bytes ≡ living.bytes }
 {
@@ -132,7 +136,7 @@ fn end_instance(living: Living) -> (Left, u32)
     } = instance.finish();
     let (device, number) = handed_back(volume);
     (
-        Left {
+        SessionLeft {
             bytes,
             device,
             out,
@@ -143,15 +147,15 @@ fn end_instance(living: Living) -> (Left, u32)
 }
 
 /// What an instance becomes where it is finished.
-fn ended_instance(held: Held) -> (Held, u32)
+fn ended_instance(held: HandleContent) -> (HandleContent, u32)
     ensures finished { IfSome (living_in held) (λ s. IsSomeAnd (left_in result.0) (λ e. FinishesInstance s e result.1)) }
     ensures other { is_none (living_in held) ≡ true → (result.1 ≡ 100) × (result.0 ≡ held) }
     ensures bytes { bytes_in result.0 ≡ bytes_in held }
 {
     match held {
-        Held::Instance(living) => {
+        HandleContent::Instance(living) => {
             let (left, number) = end_instance(living);
-            (Held::Left(left), number)
+            (HandleContent::SessionLeft(left), number)
         }
         other => (other, MISUSE),
     }
@@ -169,7 +173,7 @@ pub fn finish_instance(alloc: Global, instance: &mut Handle) -> u32
     let Some(mut held) = instance.take(alloc) else {
         return MISUSE;
     };
-    let (after, answer) = ended_instance(Box::replace(&mut held, Held::Nothing));
+    let (after, answer) = ended_instance(Box::replace(&mut held, HandleContent::Nothing));
     drop(Box::replace(&mut held, after));
     instance.put(held);
     answer

@@ -13,7 +13,7 @@ use stream_answers::Outlet;
 /// Bytes, as many as are allowed at most. What would be more is refused, so that the guest is answered errno 29 then and
 /// ever after.
 #[derive(Drop)]
-pub struct Kept {
+pub struct KeptOutput {
     pub(crate) bytes: Vec<u8>,
     pub(crate) most: u64,
     /// Whether a write was refused since there were as many as are allowed.
@@ -38,14 +38,14 @@ fn widen(bytes: &mut Vec<u8>, more: usize, most: u64) -> Result<(), AllocError>
     bytes.reserve_exact(twice.min(most) as usize - len)
 }
 
-impl Kept {
+impl KeptOutput {
     /// No bytes yet, and this many at most.
-    pub(crate) fn new(alloc: Global, most: u64) -> Kept
+    pub(crate) fn new(alloc: Global, most: u64) -> KeptOutput
         ensures none { result.bytes.items ≡ [] }
         ensures most { result.most ≡ most }
         ensures begins { result.full ≡ false }
     {
-        Kept {
+        KeptOutput {
             bytes: Vec::new(alloc),
             most,
             full: false,
@@ -65,7 +65,7 @@ impl Kept {
     }
 }
 
-impl Write for Kept {
+impl Write for KeptOutput {
     ghost contents = { λ k. Some k.bytes.items };
 
     fn write(&mut self, buf: &[u8]) -> io::Result<usize>
@@ -100,7 +100,7 @@ impl Write for Kept {
     }
 }
 
-impl Outlet for Kept {
+impl Outlet for KeptOutput {
     ghost use Rattle.std.specs.Prelude.{◌++◌};
 
     ghost took = { λ before bytes after. after.bytes.items ≡ before.bytes.items ++ bytes };

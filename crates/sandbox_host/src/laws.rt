@@ -4,7 +4,7 @@ ghost use Rattle.sandbox_host.specs.Headline.{HostHeadline};
 ghost use Rattle.sandbox_host.specs.Carried.{IsCarried, IsCarriedOn};
 ghost use Rattle.sandbox_host.specs.Settled.{IsSettled, IsSettledSoFar, IsSyncSettled, IsRecordKept, IsRecordKeptSoFar};
 
-use crate::kept::Kept;
+use crate::kept::KeptOutput;
 use sandbox_core::laws::{headline, turns_are_safe};
 use sandbox_device::RecordedDevice;
 use sandbox_device::laws::record_is_followed;
@@ -17,8 +17,8 @@ use vol_tree::one_tree;
 pub fn host_headline()
     ensures { HostHeadline }
 {
-    headline::<RecordedDevice, &'static [u8], Kept, Kept>();
-    turns_are_safe::<RecordedDevice, &'static [u8], Kept, Kept>();
+    headline::<RecordedDevice, &'static [u8], KeptOutput, KeptOutput>();
+    turns_are_safe::<RecordedDevice, &'static [u8], KeptOutput, KeptOutput>();
 }
 
 /// Where `finish` answers 0, the sectors that it leaves are opened again as a volume with the same numbers and the tree at the

@@ -5,8 +5,8 @@ ghost use Rattle.sandbox_host.specs.Numbers.{why_of, session_fault, session_numb
 ghost use Rattle.sandbox_host.specs.Numbers.{call_number, misuse_number, told_end, told_event, told_pause};
 
 use plugin_session::Misuse;
-use run_report::{Fault, outcome_number, trap_number};
 use sandbox_core::{HostCall, LoadFault, Outcome, Pause, SessionFault};
+use sandbox_report::{Fault, outcome_number, trap_number};
 use vol_sector::VolumeFault;
 use wasm_interp::Event;
 

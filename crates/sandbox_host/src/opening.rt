@@ -7,8 +7,8 @@ ghost use Rattle.sandbox_host.specs.Supplies.{profile_of};
 ghost use Rattle.sandbox_host.specs.Refusals.{NotLoaded, NotLoadedWith, NotBegun, NotBegunOf, NotOpened};
 
 use crate::handle::Handle;
-use crate::held::{Begun, Held};
-use crate::kept::Kept;
+use crate::held::{HandleContent, OpenSession};
+use crate::kept::KeptOutput;
 use crate::modules::LoadedModule;
 use crate::numbers::{
     MISUSE, OK, OUT_OF_MEMORY, SETTING, Why, session_number, volume_number, why_of,
@@ -17,8 +17,8 @@ use crate::session::{HostSession, OwnSession};
 use crate::sharing::{SharedHostSession, Sharing};
 use crate::supplies::{Supplies, profile_of};
 use crate::volumes::{Origin, VolumeSource, open_volume};
-use module_survey::ModuleBytes;
 use sandbox_core::{RefusedParts, RefusedSession, Session, SharedModule, SharedSession, Valid};
+use sandbox_inspect::ModuleBytes;
 use std::alloc::Global;
 
 /// Why a session doesn't begin, with its module.
@@ -78,7 +78,7 @@ pub(crate) fn begin<'a>(
     };
     let settings = supplies.settings();
     let most = supplies.limits.most_output();
-    let (out, err) = (Kept::new(alloc, most), Kept::new(alloc, most));
+    let (out, err) = (KeptOutput::new(alloc, most), KeptOutput::new(alloc, most));
     match Session::new(alloc, valid, settings, volume, supplies.input, out, err) {
         Ok(mut session) => {
             session.limit_values(supplies.limits.most_values() as usize);
@@ -123,8 +123,8 @@ fn begin_shared<'a>(
     };
     let settings = supplies.settings();
     let most = supplies.limits.most_output();
-    let out = Kept::new(alloc, most);
-    let err = Kept::new(alloc, most);
+    let out = KeptOutput::new(alloc, most);
+    let err = KeptOutput::new(alloc, most);
     match SharedSession::new(alloc, ready, settings, volume, supplies.input, out, err) {
         Ok(mut session) => {
             session.limit_values(supplies.limits.most_values() as usize);
@@ -138,7 +138,7 @@ fn begin_shared<'a>(
 }
 
 /// Puts something into a closed handle, or says that memory was refused.
-pub(crate) fn keep(alloc: Global, handle: &mut Handle, held: Held) -> u32
+pub(crate) fn keep(alloc: Global, handle: &mut Handle, held: HandleContent) -> u32
     requires { is_none handle.old.held ≡ true }
     ensures kept { result ≡ 0 → handle.new.held ≡ Some held }
     ensures refused { result ≢ 0 → (result ≡ 40) × (handle.new.held ≡ None) }
@@ -205,7 +205,11 @@ fn open_from(
         Ok(begun) => {
             let session = HostSession::Own(begun);
             let bytes = ModuleBytes::new(module);
-            keep(alloc, handle, Held::Running(Begun { session, bytes }))
+            keep(
+                alloc,
+                handle,
+                HandleContent::Running(OpenSession { session, bytes }),
+            )
         }
         Err(number) => number,
     }
@@ -273,7 +277,11 @@ pub fn load_module_with(
     match load_with(alloc, bytes, floats) {
         Ok(valid) => {
             let loaded = LoadedModule::Plain(valid);
-            keep(alloc, module, Held::Loaded(loaded, ModuleBytes::new(bytes)))
+            keep(
+                alloc,
+                module,
+                HandleContent::Loaded(loaded, ModuleBytes::new(bytes)),
+            )
         }
         Err(told) => {
             *why = told;
@@ -308,7 +316,12 @@ fn begin_of(
 }
 
 /// What a loaded module becomes: a session that begins, or itself where it is refused.
-fn begun(alloc: Global, held: Held, supplies: &Supplies<'static>, origin: Origin<'_>) -> (Held, u32)
+fn begun(
+    alloc: Global,
+    held: HandleContent,
+    supplies: &Supplies<'static>,
+    origin: Origin<'_>,
+) -> (HandleContent, u32)
     ensures begins { IfSome (loaded_in held) (λ m. result.1 ≡ 0
         → IsSomeAnd (running_in result.0) (Begins m supplies.now origin.entry) × (prepared_in result.0 ≡ prepared_in held)) }
     ensures refused { IfSome (loaded_in held) (λ m. result.1 ≢ 0
@@ -317,9 +330,9 @@ fn begun(alloc: Global, held: Held, supplies: &Supplies<'static>, origin: Origin
     ensures bytes { bytes_in result.0 ≡ bytes_in held }
 {
     match held {
-        Held::Loaded(loaded, bytes) => match begin_of(alloc, loaded, supplies, origin) {
-            Ok(session) => (Held::Running(Begun { session, bytes }), OK),
-            Err((loaded, number)) => (Held::Loaded(loaded, bytes), number),
+        HandleContent::Loaded(loaded, bytes) => match begin_of(alloc, loaded, supplies, origin) {
+            Ok(session) => (HandleContent::Running(OpenSession { session, bytes }), OK),
+            Err((loaded, number)) => (HandleContent::Loaded(loaded, bytes), number),
         },
         other => (other, MISUSE),
     }
@@ -356,7 +369,7 @@ pub fn open_loaded(
     };
     let (after, number) = begun(
         alloc,
-        Box::replace(&mut held, Held::Nothing),
+        Box::replace(&mut held, HandleContent::Nothing),
         supplies,
         origin,
     );

@@ -6,20 +6,24 @@ ghost use Rattle.sandbox_host.specs.Instances.{IsNamed, NotPlugged, NotPluggedWi
 ghost use Rattle.sandbox_host.specs.Supplies.{most_pages, profile_of};
 
 use crate::handle::Handle;
-use crate::held::Held;
+use crate::held::HandleContent;
 use crate::numbers::{MISUSE, OK, OUT_OF_MEMORY, SETTING, Why, session_number};
 use crate::opening::{keep, load_with};
 use crate::preparing::MOST_PAGES;
 use crate::showing::show;
-use crate::supplies::Limits;
-use module_survey::ModuleBytes;
+use crate::supplies::SessionLimits;
 use plugin_session::Plugin;
 use sandbox_core::{SessionFault, Valid};
+use sandbox_inspect::ModuleBytes;
 use std::alloc::Global;
 use wasm_module::Module;
 
 /// Makes all once that the instances of a module with these limits look up.
-fn make_plugin<'a>(alloc: Global, valid: Valid<'a>, limits: &Limits) -> Result<Plugin<'a>, u32>
+fn make_plugin<'a>(
+    alloc: Global,
+    valid: Valid<'a>,
+    limits: &SessionLimits,
+) -> Result<Plugin<'a>, u32>
     ensures ready { IfOk result (λ p. (p.valid ≡ valid.entry) × (p.pages ≡ most_pages limits.now)) }
     ensures refused { IfErr result (NotPlugged valid.entry limits.now) }
     ensures some { IfErr result (λ number. number ≢ 0) }
@@ -46,7 +50,7 @@ pub fn load_plugin(
     alloc: Global,
     plugin: &mut Handle,
     bytes: &'static [u8],
-    limits: &Limits,
+    limits: &SessionLimits,
     floats: u32,
     why: &mut Why,
 ) -> u32
@@ -70,7 +74,11 @@ pub fn load_plugin(
         }
     };
     match make_plugin(alloc, valid, limits) {
-        Ok(ready) => keep(alloc, plugin, Held::Plugin(ready, ModuleBytes::new(bytes))),
+        Ok(ready) => keep(
+            alloc,
+            plugin,
+            HandleContent::Plugin(ready, ModuleBytes::new(bytes)),
+        ),
         Err(number) => number,
     }
 }
@@ -87,7 +95,11 @@ fn share_into(
     ensures refused { result ≢ 0 → (result ≡ 40) × (other.new.held ≡ None) }
 {
     match ready.share() {
-        Ok(shared) => keep(alloc, other, Held::Plugin(shared, ModuleBytes::new(bytes))),
+        Ok(shared) => keep(
+            alloc,
+            other,
+            HandleContent::Plugin(shared, ModuleBytes::new(bytes)),
+        ),
         Err(_) => OUT_OF_MEMORY,
     }
 }
@@ -110,7 +122,7 @@ pub fn share_plugin(alloc: Global, other: &mut Handle, plugin: &mut Handle) -> u
         return MISUSE;
     };
     let answer = match &*held {
-        Held::Plugin(ready, bytes) => share_into(alloc, other, ready, bytes.as_slice()),
+        HandleContent::Plugin(ready, bytes) => share_into(alloc, other, ready, bytes.as_slice()),
         _ => MISUSE,
     };
     plugin.put(held);
@@ -169,7 +181,7 @@ pub fn plugin_name(
         return usize::MAX;
     };
     let length = match &*held {
-        Held::Plugin(ready, _) => show_name(ready.module().module(), part, index, room),
+        HandleContent::Plugin(ready, _) => show_name(ready.module().module(), part, index, room),
         _ => usize::MAX,
     };
     plugin.put(held);

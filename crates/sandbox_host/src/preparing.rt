@@ -6,20 +6,24 @@ ghost use Rattle.sandbox_host.specs.Supplies.{most_pages, profile_of};
 ghost use Rattle.sandbox_host.specs.Refusals.{NotReady, NotPrepared, NotPreparedWith};
 
 use crate::handle::Handle;
-use crate::held::Held;
+use crate::held::HandleContent;
 use crate::modules::LoadedModule;
 use crate::numbers::{MISUSE, OUT_OF_MEMORY, SETTING, Why, session_number};
 use crate::opening::{keep, load_with};
-use crate::supplies::Limits;
-use module_survey::ModuleBytes;
+use crate::supplies::SessionLimits;
 use sandbox_core::{SessionFault, SharedModule, Valid};
+use sandbox_inspect::ModuleBytes;
 use std::alloc::Global;
 
 /// The pages that a memory has at most.
 pub(crate) const MOST_PAGES: u32 = 65_536;
 
 /// Makes all once that the sessions of a module with these limits look up.
-fn make_ready<'a>(alloc: Global, valid: Valid<'a>, limits: &Limits) -> Result<SharedModule<'a>, u32>
+fn make_ready<'a>(
+    alloc: Global,
+    valid: Valid<'a>,
+    limits: &SessionLimits,
+) -> Result<SharedModule<'a>, u32>
     ensures ready { IfOk result (λ m. (m.valid ≡ valid.entry) × (m.pages ≡ most_pages limits.now)) }
     ensures refused { IfErr result (NotReady valid.entry limits.now) }
     ensures some { IfErr result (λ number. number ≢ 0) }
@@ -45,7 +49,7 @@ pub fn prepare(
     alloc: Global,
     module: &mut Handle,
     bytes: &'static [u8],
-    limits: &Limits,
+    limits: &SessionLimits,
     why: &mut Why,
 ) -> u32
     ensures misuse { is_none «module».old.held ≡ false
@@ -66,7 +70,7 @@ pub fn prepare_with(
     alloc: Global,
     module: &mut Handle,
     bytes: &'static [u8],
-    limits: &Limits,
+    limits: &SessionLimits,
     floats: u32,
     why: &mut Why,
 ) -> u32
@@ -93,7 +97,11 @@ pub fn prepare_with(
     match make_ready(alloc, valid, limits) {
         Ok(ready) => {
             let loaded = LoadedModule::Prepared(ready);
-            keep(alloc, module, Held::Loaded(loaded, ModuleBytes::new(bytes)))
+            keep(
+                alloc,
+                module,
+                HandleContent::Loaded(loaded, ModuleBytes::new(bytes)),
+            )
         }
         Err(number) => number,
     }
@@ -114,7 +122,11 @@ fn share_into(
     match ready.share() {
         Ok(shared) => {
             let loaded = LoadedModule::Prepared(shared);
-            keep(alloc, other, Held::Loaded(loaded, ModuleBytes::new(bytes)))
+            keep(
+                alloc,
+                other,
+                HandleContent::Loaded(loaded, ModuleBytes::new(bytes)),
+            )
         }
         Err(_) => OUT_OF_MEMORY,
     }
@@ -138,7 +150,7 @@ pub fn share(alloc: Global, other: &mut Handle, module: &mut Handle) -> u32
         return MISUSE;
     };
     let answer = match &*held {
-        Held::Loaded(LoadedModule::Prepared(ready), bytes) => {
+        HandleContent::Loaded(LoadedModule::Prepared(ready), bytes) => {
             share_into(alloc, other, ready, bytes.as_slice())
         }
         _ => MISUSE,

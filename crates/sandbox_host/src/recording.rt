@@ -4,7 +4,7 @@ ghost use Rattle.std.specs.Prelude.{◌≡◌, None, Some, Option, IfSome, is_no
 ghost use Rattle.sandbox_host.specs.Recording.{operation_of, told_operation, recorded, recorded_on, recorded_in};
 
 use crate::handle::Handle;
-use crate::held::Held;
+use crate::held::HandleContent;
 use crate::numbers::{MISUSE, OK, OUT_OF_MEMORY};
 use sandbox_device::RecordedDevice;
 use std::alloc::Global;
@@ -72,10 +72,10 @@ pub fn operation_at(
         return MISUSE;
     };
     let answer = match &*held {
-        Held::Running(running) => tell_of(running.session.device(), number, told),
-        Held::Finished(ended) => tell_of(&ended.device, number, told),
-        Held::Instance(living) => tell_of(living.instance.device(), number, told),
-        Held::Left(left) => tell_of(&left.device, number, told),
+        HandleContent::Running(running) => tell_of(running.session.device(), number, told),
+        HandleContent::Finished(ended) => tell_of(&ended.device, number, told),
+        HandleContent::Instance(living) => tell_of(living.instance.device(), number, told),
+        HandleContent::SessionLeft(left) => tell_of(&left.device, number, told),
         _ => MISUSE,
     };
     session.put(held);

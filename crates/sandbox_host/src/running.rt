@@ -5,13 +5,13 @@ ghost use Rattle.sandbox_host.specs.Sessions.{running, running_in, finished, fin
 ghost use Rattle.sandbox_host.specs.Sessions.{output, most_of, was_filled, sectors, IsShown, Paused, Finishes, returned_device, commit_number};
 
 use crate::handle::Handle;
-use crate::held::{Begun, Ended, Held};
+use crate::held::{Ended, HandleContent, OpenSession};
 use crate::numbers::{DEVICE_FAILED, MISUSE, OK, Told, told_pause};
 use crate::session::HostSession;
 use crate::showing::show;
-use module_survey::ModuleBytes;
 use sandbox_core::{Finished, Volume};
 use sandbox_device::RecordedDevice;
+use sandbox_inspect::ModuleBytes;
 use std::alloc::Global;
 use vol_sector::Refused;
 
@@ -39,7 +39,7 @@ pub fn resume(alloc: Global, session: &mut Handle, units: u64, told: &mut Told) 
         return MISUSE;
     };
     let answer = match &mut *held {
-        Held::Running(running) => {
+        HandleContent::Running(running) => {
             *told = go_on(&mut running.session, units);
             OK
         }
@@ -143,16 +143,16 @@ fn end(session: HostSession, bytes: ModuleBytes<'static>) -> (Ended, u32)
 }
 
 /// What a session becomes where it is finished.
-fn ended(held: Held) -> (Held, u32)
+fn ended(held: HandleContent) -> (HandleContent, u32)
     ensures finished { IfSome (running_in held) (λ s. IsSomeAnd (finished_in result.0) (λ e. Finishes s e result.1)) }
     ensures other { is_none (running_in held) ≡ true → (result.1 ≡ 100) × (result.0 ≡ held) }
     ensures prepared { prepared_in result.0 ≡ prepared_in held }
     ensures bytes { bytes_in result.0 ≡ bytes_in held }
 {
     match held {
-        Held::Running(Begun { session, bytes }) => {
+        HandleContent::Running(OpenSession { session, bytes }) => {
             let (ended, number) = end(session, bytes);
-            (Held::Finished(ended), number)
+            (HandleContent::Finished(ended), number)
         }
         other => (other, MISUSE),
     }
@@ -171,7 +171,7 @@ pub fn finish(alloc: Global, session: &mut Handle) -> u32
     let Some(mut held) = session.take(alloc) else {
         return MISUSE;
     };
-    let (after, answer) = ended(Box::replace(&mut held, Held::Nothing));
+    let (after, answer) = ended(Box::replace(&mut held, HandleContent::Nothing));
     drop(Box::replace(&mut held, after));
     session.put(held);
     answer

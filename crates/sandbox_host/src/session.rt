@@ -2,17 +2,17 @@
 
 ghost use Rattle.std.specs.Prelude.{◌≡◌, ◌+◌, ◌^◌, ◌<◌, slice_get};
 
-use crate::kept::Kept;
+use crate::kept::KeptOutput;
 use crate::modules::LoadedModule;
 use crate::sharing::Sharing;
 use sandbox_core::{Finished, Frame, Pause, Session, Valid};
 use sandbox_device::RecordedDevice;
 
 /// A session of a module that no other has, over its device, whose output is kept in memory.
-pub type OwnSession<'a> = Session<'a, 'a, 'a, RecordedDevice, &'a [u8], Kept, Kept>;
+pub type OwnSession<'a> = Session<'a, 'a, 'a, RecordedDevice, &'a [u8], KeptOutput, KeptOutput>;
 
 /// What a session leaves beside its module.
-type Left = Finished<RecordedDevice, &'static [u8], Kept, Kept>;
+type SessionLeft = Finished<RecordedDevice, &'static [u8], KeptOutput, KeptOutput>;
 
 /// A session behind a handle.
 #[derive(Drop)]
@@ -72,7 +72,7 @@ impl HostSession {
     }
 
     /// What the guest has written to descriptor 1.
-    pub(crate) fn out(&self) -> &Kept
+    pub(crate) fn out(&self) -> &KeptOutput
         ensures { result.now ≡ (state_of self.now).host.out.writer }
     {
         match self {
@@ -82,7 +82,7 @@ impl HostSession {
     }
 
     /// What the guest has written to descriptor 2.
-    pub(crate) fn err(&self) -> &Kept
+    pub(crate) fn err(&self) -> &KeptOutput
         ensures { result.now ≡ (state_of self.now).host.err.writer }
     {
         match self {
@@ -102,7 +102,7 @@ impl HostSession {
     }
 
     /// Commits its calls, and gives its module back with what it leaves.
-    pub(crate) fn finish(self) -> (LoadedModule, Left)
+    pub(crate) fn finish(self) -> (LoadedModule, SessionLeft)
         ensures module { module_of result.0 ≡ (state_of self).machine.valid }
         ensures ready { ready_of result.0 ≡ ready_with self }
         ensures finishes { FinishesAll (state_of self) result.1 }

@@ -29,18 +29,18 @@ pub(crate) fn profile_of(floats: u32) -> Profile
 /// The most that a guest may have. 0 stands for the default of each.
 #[repr(C)]
 #[derive(Clone, Copy)]
-pub struct Limits {
+pub struct SessionLimits {
     /// Pages of memory, of 65,536 bytes.
     pub pages: u32,
     /// Values on its stack, of 8 bytes.
     pub values: u32,
     /// Bytes that it writes to descriptor 1, and as many to 2.
     pub output: u64,
-    /// Limits to come, each 0.
+    /// SessionLimits to come, each 0.
     pub later: [u64; 6],
 }
 
-impl Limits {
+impl SessionLimits {
     ghost use Rattle.sandbox_host.specs.Supplies.{most_pages, most_values, most_output, is_known};
 
     /// Whether no limit is named that isn't known yet.
@@ -95,7 +95,7 @@ pub struct Supplies<'a> {
     /// What the guest gets where it asks for random bytes.
     pub random: &'a [u8],
     /// The most that it may have.
-    pub limits: Limits,
+    pub limits: SessionLimits,
     /// What it reads.
     pub input: &'a [u8],
 }

@@ -6,7 +6,7 @@ use Rattle.std.proofs.lemmas.List.{get_or_past}
 use Rattle.vol_sector.specs.Disk.{Image, put}
 use Rattle.vol_alloc.specs.declared.sectors.Alloc.{Alloc}
 use Rattle.vol_alloc.specs.Alloc.{first_of, end_of, taken_of}
-use Rattle.vol_body.specs.declared.truncation.Cut.{Cut}
+use Rattle.vol_body.specs.declared.truncation.CutSector.{CutSector}
 use Rattle.vol_body.specs.internal.Truncated.{IsCut, zeroed_from, with_cut}
 
 -- a taken sector is one of the range
@@ -57,14 +57,14 @@ with_some n bytes image k some = pick (n == 0) image (put n bytes image) (test n
     pick false x y is = refl
 
 -- what isn't the sector stays
-pub cut_elsewhere : (c : Cut) (image : Image) (k : ℕ) → (c.sector ≢ 0 → c.sector ≢ k) → with_cut c image k ≡ image k
+pub cut_elsewhere : (c : CutSector) (image : Image) (k : ℕ) → (c.sector ≢ 0 → c.sector ≢ k) → with_cut c image k ≡ image k
 cut_elsewhere c image k other = elim (cases_eq c.sector 0) [
   | inl none ↦ with_none c.sector c.image image k none
   | inr some ↦ with_some c.sector c.image image k some ∙ put_past c.sector k c.image image (λ is. other some (sym is))
 ]
 
 -- the sector is cut
-pub cut_there : (content : Image) (n kept : ℕ) (c : Cut) (image : Image) → IsCut content n kept c → n ≢ 0 → 0 < kept → kept < 512 → image n ≡ content n
+pub cut_there : (content : Image) (n kept : ℕ) (c : CutSector) (image : Image) → IsCut content n kept c → n ≢ 0 → 0 < kept → kept < 512 → image n ≡ content n
     → with_cut c image n ≡ zeroed_from kept (content n)
 cut_there content n kept c image is there some short same = elim (cases_eq c.sector 0) [
   | inl none ↦ with_none c.sector c.image image n none ∙ same ∙ is.same none there some short

@@ -5,7 +5,7 @@ use Rattle.vol_sector.specs.Disk.{Image}
 use Rattle.vol_inode.specs.declared.entry.Entry.{Entry}
 use Rattle.vol_body.specs.declared.pointer_sectors.PointerSector.{PointerSector}
 use Rattle.vol_body.specs.Body.{BlockPosition, data_block, inner_block, double_indirect_block, triple_indirect_block, named, block_bytes}
-use Rattle.vol_body.specs.declared.holding.Held.{Held}
+use Rattle.vol_body.specs.declared.holding.HeldPointers.{HeldPointers}
 use Rattle.vol_body.specs.internal.Writing.{Mirrors, ListedAt, segment}
 use Rattle.vol_body.specs.internal.Holding.{IsHeld}
 use Rattle.vol_body.proofs.Listed.{number_of_bytes}
@@ -43,5 +43,5 @@ listed_in_group j le = go ((j - 58) / 128) (omega arith)
     go zero is = omega (arith, is, le)
     go (suc k) is = omega (arith, is, le)
 
-pub held_in : {one other : Image} (e : Entry) (held : Held) (last : ℕ) → one ≡ other → IsHeld one e held last → IsHeld other e held last
+pub held_in : {one other : Image} (e : Entry) (held : HeldPointers) (last : ℕ) → one ≡ other → IsHeld one e held last → IsHeld other e held last
 held_in e held last same is = subst (λ (m : Image). IsHeld m e held last) same is

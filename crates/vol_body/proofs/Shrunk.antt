@@ -5,7 +5,7 @@ use Rattle.std.proofs.lemmas.List.{ext_get_or, length-append, length-take-le, ge
 use Rattle.vol_sector.specs.Disk.{Image, put}
 use Rattle.vol_inode.specs.declared.entry.Entry.{Entry}
 use Rattle.vol_inode.specs.Space.{blocks_for_size}
-use Rattle.vol_body.specs.declared.truncation.Cut.{Cut}
+use Rattle.vol_body.specs.declared.truncation.CutSector.{CutSector}
 use Rattle.vol_body.specs.declared.truncation.Truncation.{Truncation}
 use Rattle.vol_body.specs.Body.{BlockPosition, data_block, indirect_block, inner_block, double_indirect_block, triple_indirect_block, IsPosition, first_served, named, bytes_of, IsBody, NamesTaken}
 use Rattle.vol_body.specs.Bytes.{resized_bytes}
@@ -83,7 +83,7 @@ module _ (size place first end : ℕ) (content : Image) (e changed : Entry) (tru
   above_there = segment_there (segment_of (size / 512)) (omega (arith, s.shorter, s.small))
 
   -- what is written for one position isn't the sector of another
-  apart : (p q : BlockPosition) (kept : ℕ) (c : Cut) → IsPosition p → IsPosition q → (p ≡ q → ⊥) → named content e p ≢ 0 → IsCut content (named content e q) kept c → c.sector ≢ 0 → c.sector ≢ named content e p
+  apart : (p q : BlockPosition) (kept : ℕ) (c : CutSector) → IsPosition p → IsPosition q → (p ≡ q → ⊥) → named content e p ≢ 0 → IsCut content (named content e q) kept c → c.sector ≢ 0 → c.sector ≢ named content e p
   apart p q kept c a b other some is set same = other (s.body.distinct p q a b some (sym same ∙ is.sector set))
 
   double_there : IsPosition (cut_double size)
@@ -104,7 +104,7 @@ module _ (size place first end : ℕ) (content : Image) (e changed : Entry) (tru
 
   whole_stays : (p : BlockPosition) → IsPosition p → named content e p ≢ 0 → kept_bytes size p ≡ 512 → after (named content e p) ≡ content (named content e p)
   whole_stays p there some whole =
-      let long : (q : BlockPosition) (c : Cut) → IsCut content (named content e q) (kept_bytes size q) c → c.sector ≢ 0 → p ≡ q → ⊥ = λ q c is set same.
+      let long : (q : BlockPosition) (c : CutSector) → IsCut content (named content e q) (kept_bytes size q) c → c.sector ≢ 0 → p ≡ q → ⊥ = λ q c is set same.
       let kept : kept_bytes size p ≡ kept_bytes size q = ap (kept_bytes size) same in omega (arith, is.short set, kept, whole) in
       named_elsewhere p there some
       ∙ untouched (named content e p)

@@ -1,7 +1,7 @@
 -- Bytes in spans of a memory.
 use Rattle.std.proofs.Common.{◌≡◌, ◌≤◌, ◌<◌, ◌-◌, ◌+◌, ◌++◌, ℕ, zero, suc, List, [], ◌∷◌, length, take, drop, min, sym, refl, ◌∙◌, ap, arith, length-append, length-drop}
 use Rattle.std.proofs.lemmas.List.{take_all, drop_all, drop-drop, drop_at, drop-append-le, take-append-le, drop-take, drop_min, length-take-le}
-use Rattle.vol_body.specs.declared.source.Span.{Span}
+use Rattle.vol_body.specs.declared.source.MemorySpan.{MemorySpan}
 use Rattle.vol_body.specs.Source.{gathered}
 
 -- `&spans[1..]` is what is left after the first
@@ -9,7 +9,7 @@ pub tail_of : {X : Type 0} (spans : List X) (n : ℕ) → take (length spans - n
 tail_of spans n = take_all (length spans - n) (drop n spans) (omega (arith, length-drop n spans))
 
 -- where bytes are left that don't stand in the slice, there is a span
-pub some_span : (memory first : List ℕ) (spans : List Span) (n : ℕ) → length first < n → n ≤ length (first ++ gathered memory spans) → 0 < length spans
+pub some_span : (memory first : List ℕ) (spans : List MemorySpan) (n : ℕ) → length first < n → n ≤ length (first ++ gathered memory spans) → 0 < length spans
 some_span memory first [] n more enough = let long = length-append {A = ℕ} first [] in absurd (omega (arith, long))
 some_span memory first (s ∷ spans) n more enough = omega arith
 
@@ -19,14 +19,14 @@ drop_past first rest n le =
     ap (λ (k : ℕ). drop k (first ++ rest)) (sym sum) ∙ (sym (drop-drop (n - length first) (length first) (first ++ rest)) ∙ ap (λ (l : List ℕ). drop (n - length first) l) (drop_at first rest (length first) refl))
 
 -- the slice is left out, and the next span comes
-pub next_enough : (memory first next : List ℕ) (spans rest : List Span) (left : ℕ) → left ≤ length (first ++ gathered memory spans)
+pub next_enough : (memory first next : List ℕ) (spans rest : List MemorySpan) (left : ℕ) → left ≤ length (first ++ gathered memory spans)
     → gathered memory spans ≡ next ++ gathered memory rest → left - length first ≤ length (next ++ gathered memory rest)
 next_enough memory first next spans rest left enough is =
     let long = length-append first (gathered memory spans) in
     let same : length (gathered memory spans) ≡ length (next ++ gathered memory rest) = ap length is in
     omega (arith, long, same)
 
-pub next_rest : (memory first next all : List ℕ) (spans rest : List Span) (left : ℕ) → length first < left → drop left (first ++ gathered memory spans) ≡ all
+pub next_rest : (memory first next all : List ℕ) (spans rest : List MemorySpan) (left : ℕ) → length first < left → drop left (first ++ gathered memory spans) ≡ all
     → gathered memory spans ≡ next ++ gathered memory rest → drop (left - length first) (next ++ gathered memory rest) ≡ all
 next_rest memory first next all spans rest left more before is =
     ap (λ (l : List ℕ). drop (left - length first) l) (sym is) ∙ (sym (drop_past first (gathered memory spans) left (omega arith)) ∙ before)
@@ -39,7 +39,7 @@ take_add (suc m) n (x ∷ xs) le =
     ap (λ (k : ℕ). take k (x ∷ xs)) e ∙ ap (λ (l : List ℕ). x ∷ l) (take_add m n xs (omega arith))
 
 -- the slice is used up, and bytes are wanted: there is a span
-pub more_spans : (memory first all : List ℕ) (spans : List Span) (taken filled room : ℕ) → filled < room → room ≤ length all → taken ≡ length first
+pub more_spans : (memory first all : List ℕ) (spans : List MemorySpan) (taken filled room : ℕ) → filled < room → room ≤ length all → taken ≡ length first
     → drop taken first ++ gathered memory spans ≡ drop filled all → 0 < length spans
 more_spans memory first all spans taken filled room more enough used left =
     let long = length-append (drop taken first) (gathered memory spans) in
@@ -49,7 +49,7 @@ more_spans memory first all spans taken filled room more enough used left =
     some_span memory (drop taken first) spans (length (drop taken first) + 1) (omega arith) (omega (arith, long, none, same, beyond))
 
 -- the buffer is filled further from the next span
-module _ (memory first next all into into' : List ℕ) (spans rest : List Span) (taken filled count : ℕ)
+module _ (memory first next all into into' : List ℕ) (spans rest : List MemorySpan) (taken filled count : ℕ)
     (room : filled < length into) (enough : length into ≤ length all) (used : taken ≡ length first) (left : drop taken first ++ gathered memory spans ≡ drop filled all)
     (is : gathered memory spans ≡ next ++ gathered memory rest) where
   left_is : drop filled all ≡ next ++ gathered memory rest

@@ -13,7 +13,7 @@ ghost use Rattle.vol_body.specs.internal.Holding.{IsHeld};
 ghost use Rattle.vol_body.specs.declared.locate.TheConstants.{LAST};
 ghost use Rattle.vol_inode.specs.declared.pointers.TheConstants.{INNER_BLOCKS, MOST_BLOCKS};
 
-use crate::holding::{Held, read_unless_held};
+use crate::holding::{HeldPointers, read_unless_held};
 use crate::locate::{Numbers, number_at, taken_or_zero};
 use crate::pointer_sectors::PointerSector;
 use vol_alloc::Alloc;
@@ -147,7 +147,7 @@ fn free_inner_blocks<D: Device>(
 fn free_double_indirect_block<D: Device>(
     log: &mut Log<D>,
     sectors: &mut Alloc,
-    held: &Held,
+    held: &HeldPointers,
     double_indirect_block: u32,
     start: u32,
     count: u32,
@@ -189,7 +189,7 @@ fn free_double_indirect_block<D: Device>(
 fn free_double_indirect_blocks<D: Device>(
     log: &mut Log<D>,
     sectors: &mut Alloc,
-    held: &Held,
+    held: &HeldPointers,
     double_indirect_blocks: &Numbers,
     count: u32,
 ) -> Result<(), DeviceFault>
@@ -224,7 +224,7 @@ fn free_double_indirect_blocks<D: Device>(
 fn free_triple_indirect_block<D: Device>(
     log: &mut Log<D>,
     sectors: &mut Alloc,
-    held: &Held,
+    held: &HeldPointers,
     count: u32,
 ) -> Result<(), DeviceFault>
     requires range { end_of sectors.old ≤ log_sectors log.old }
@@ -263,7 +263,7 @@ pub fn free_unkept<D: Device>(
     log: &mut Log<D>,
     sectors: &mut Alloc,
     entry: &Entry,
-    held: &Held,
+    held: &HeldPointers,
     count: u32,
 ) -> Result<(), DeviceFault>
     requires there { end_of sectors.old ≤ log_sectors log.old }

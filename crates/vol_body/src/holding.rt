@@ -21,7 +21,7 @@ use vol_sector::{Device, DeviceFault};
 
 /// The pointer sectors that are held.
 #[derive(Drop)]
-pub struct Held {
+pub struct HeldPointers {
     /// The triple-indirect block.
     pub triple: PointerSector,
     /// The double-indirect block that names `above`, or the first one where the entry names `above` itself.
@@ -40,7 +40,7 @@ pub fn hold<D: Device>(
     entry: &Entry,
     first: u32,
     last: u32,
-) -> Result<Held, DeviceFault>
+) -> Result<HeldPointers, DeviceFault>
     requires small { last < MOST_BLOCKS }
     requires there { end_of sectors.now ≤ log_sectors log.old }
     requires working { has_failed log.old ≡ false }
@@ -56,7 +56,7 @@ pub fn hold<D: Device>(
     let triple = load_triple(log, sectors, entry, last)?;
     let top = load_double(log, sectors, entry, &triple, double_of(group), last)?;
     let above = load_segment(log, sectors, entry, &top, group, last)?;
-    Ok(Held {
+    Ok(HeldPointers {
         triple,
         top,
         group,
@@ -66,7 +66,7 @@ pub fn hold<D: Device>(
 
 /// The sector of a data block, or 0 where it was never written, where the pointer sector that lists it
 /// is held.
-pub fn held_sector(sectors: &Alloc, entry: &Entry, held: &Held, j: u32) -> u32
+pub fn held_sector(sectors: &Alloc, entry: &Entry, held: &HeldPointers, j: u32) -> u32
     requires place { j < MOST_BLOCKS }
     requires group { held.now.group ≡ segment_of j }
     ensures number { (content : Image) (last : ℕ) → j ≤ last
@@ -107,7 +107,7 @@ pub fn read_held<D: Device>(
     log: &mut Log<D>,
     sectors: &Alloc,
     entry: &Entry,
-    held: &mut Held,
+    held: &mut HeldPointers,
     j: u32,
     last: u32,
 ) -> Result<[u8; 512], DeviceFault>
@@ -138,7 +138,7 @@ fn hold_group<D: Device>(
     log: &mut Log<D>,
     sectors: &Alloc,
     entry: &Entry,
-    held: &mut Held,
+    held: &mut HeldPointers,
     group: u32,
     last: u32,
 ) -> Result<(), DeviceFault>
@@ -167,7 +167,7 @@ fn hold_double<D: Device>(
     log: &mut Log<D>,
     sectors: &Alloc,
     entry: &Entry,
-    held: &mut Held,
+    held: &mut HeldPointers,
     d: u32,
     last: u32,
 ) -> Result<(), DeviceFault>

@@ -24,6 +24,6 @@ pub use laws::{
 };
 pub use reading::read_at;
 pub use resizing::set_size;
-pub use source::{Source, Span};
+pub use source::{MemorySpan, Source};
 pub use surveying::survey;
 pub use writing::{PIECE, write_at};

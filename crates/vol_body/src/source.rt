@@ -7,7 +7,7 @@ use std::marker::Model;
 
 /// A part of a memory: an address and a length in bytes.
 #[derive(Clone, Copy)]
-pub struct Span {
+pub struct MemorySpan {
     pub pointer: u32,
     pub len: u32,
 }
@@ -18,7 +18,7 @@ pub struct Span {
 pub struct Source<'a> {
     first: &'a [u8],
     memory: &'a [u8],
-    spans: &'a [Span],
+    spans: &'a [MemorySpan],
     /// How many bytes there are. More may stand there.
     len: usize,
 }
@@ -51,7 +51,7 @@ impl<'a> Source<'a> {
     }
 
     /// The first bytes of those in the spans of a memory.
-    pub fn gather(memory: &'a [u8], spans: &'a [Span], len: usize) -> Source<'a>
+    pub fn gather(memory: &'a [u8], spans: &'a [MemorySpan], len: usize) -> Source<'a>
         requires inside { AreInside memory.now spans.now }
         requires enough { len ≤ length (gathered memory.now spans.now) }
         ensures { result ≡ take len (gathered memory.now spans.now) }
@@ -109,11 +109,11 @@ impl<'a> Source<'a> {
 #[derive(Drop)]
 struct Rest<'a> {
     first: &'a [u8],
-    spans: &'a [Span],
+    spans: &'a [MemorySpan],
 }
 
 /// The bytes of the first of the spans.
-fn first_span<'a>(memory: &'a [u8], spans: &[Span]) -> &'a [u8]
+fn first_span<'a>(memory: &'a [u8], spans: &[MemorySpan]) -> &'a [u8]
     requires inside { AreInside memory.now spans.now }
     requires some { 0 < length spans.now }
     ensures bytes { gathered memory.now spans.now
@@ -139,7 +139,7 @@ fn copy_some(into: &mut [u8], position: usize, bytes: &[u8]) -> usize
 }
 
 /// Leaves out the first bytes of a slice and of spans.
-fn skip<'a>(memory: &'a [u8], first: &'a [u8], spans: &'a [Span], count: usize) -> Rest<'a>
+fn skip<'a>(memory: &'a [u8], first: &'a [u8], spans: &'a [MemorySpan], count: usize) -> Rest<'a>
     requires inside { AreInside memory.now spans.now }
     requires enough { count ≤ length (first.now ++ gathered memory.now spans.now) }
     ensures rest { result.first.now ++ gathered memory.now result.spans.now
@@ -161,7 +161,7 @@ fn skip<'a>(memory: &'a [u8], first: &'a [u8], spans: &'a [Span], count: usize) 
 }
 
 /// Fills the buffer with the first bytes of a slice and of spans, and says what is left.
-fn fill<'a>(into: &mut [u8], memory: &'a [u8], first: &'a [u8], spans: &'a [Span]) -> Rest<'a>
+fn fill<'a>(into: &mut [u8], memory: &'a [u8], first: &'a [u8], spans: &'a [MemorySpan]) -> Rest<'a>
     requires inside { AreInside memory.now spans.now }
     requires enough { length into.old ≤ length (first.now ++ gathered memory.now spans.now) }
     ensures bytes { into.new

@@ -15,7 +15,7 @@ ghost use Rattle.vol_body.specs.declared.locate.TheConstants.{LAST};
 ghost use Rattle.vol_log.specs.declared.layout.TheConstants.{FIRST_AFTER_LOG};
 ghost use Rattle.vol_inode.specs.declared.version.TheConstants.{LARGEST_SIZE};
 
-use crate::holding::{Held, held_sector};
+use crate::holding::{HeldPointers, held_sector};
 use crate::locate::read_taken;
 use crate::pointer_sectors::double_of;
 use vol_alloc::Alloc;
@@ -25,7 +25,7 @@ use vol_sector::{Device, DeviceFault};
 
 /// What is to be written for a sector of which a beginning is kept. Sector 0 stands for nothing.
 #[derive(Drop)]
-pub struct Cut {
+pub struct CutSector {
     pub sector: u32,
     pub image: [u8; 512],
 }
@@ -34,13 +34,13 @@ pub struct Cut {
 #[derive(Drop)]
 pub struct Truncation {
     /// For the data block that the new size ends in.
-    pub data_block: Cut,
+    pub data_block: CutSector,
     /// For the pointer sector that lists this data block.
-    pub above: Cut,
+    pub above: CutSector,
     /// For the double-indirect block that names that one.
-    pub double: Cut,
+    pub double: CutSector,
     /// For the triple-indirect block.
-    pub triple: Cut,
+    pub triple: CutSector,
 }
 
 /// The bytes before a place, and zeros from it on.
@@ -55,21 +55,21 @@ fn cut_at(image: &[u8; 512], kept: usize) -> [u8; 512]
 
 /// What is to be written for a sector of which this many bytes are kept: nothing where it is sector
 /// 0, is kept whole or not at all, or has zeros after them already.
-fn cut_of(number: u32, old: &[u8; 512], kept: u32) -> Cut
+fn cut_of(number: u32, old: &[u8; 512], kept: u32) -> CutSector
     requires within { kept ≤ 512 }
     ensures cut { (content : Image) → old.now ≡ block_bytes content number
         → IsCut content number kept result }
     ensures sector { result.sector ≢ 0 → result.sector ≡ number }
 {
     if number == 0 || kept == 0 || kept == 512 {
-        return Cut {
+        return CutSector {
             sector: 0,
             image: [0; 512],
         };
     }
     let image = cut_at(old, kept as usize);
     let sector = if image == *old { 0 } else { number };
-    Cut { sector, image }
+    CutSector { sector, image }
 }
 
 /// What is to be written for the data block that this size ends in. It is read only where a part of it
@@ -78,9 +78,9 @@ fn cut_of_data_block<D: Device>(
     log: &mut Log<D>,
     sectors: &Alloc,
     entry: &Entry,
-    held: &Held,
+    held: &HeldPointers,
     size: u32,
-) -> Result<Cut, DeviceFault>
+) -> Result<CutSector, DeviceFault>
     requires there { end_of sectors.now ≤ log_sectors log.old }
     requires working { has_failed log.old ≡ false }
     requires small { size < LARGEST_SIZE }
@@ -103,7 +103,7 @@ fn cut_of_data_block<D: Device>(
 }
 
 /// What is to be written for the pointer sector that lists the data block that this size ends in.
-fn cut_of_above(held: &Held, size: u32) -> Cut
+fn cut_of_above(held: &HeldPointers, size: u32) -> CutSector
     requires small { size < LARGEST_SIZE }
     requires group { held.now.group ≡ segment_of (size / 512) }
     ensures cut { (content : Image) (e : Entry) → IsHeld content e held.now LAST
@@ -120,7 +120,7 @@ fn cut_of_above(held: &Held, size: u32) -> Cut
 }
 
 /// What is to be written for the double-indirect block that names that pointer sector.
-fn cut_of_double(held: &Held, size: u32) -> Cut
+fn cut_of_double(held: &HeldPointers, size: u32) -> CutSector
     requires small { size < LARGEST_SIZE }
     requires group { held.now.group ≡ segment_of (size / 512) }
     ensures cut { (content : Image) (e : Entry) → IsHeld content e held.now LAST
@@ -135,7 +135,7 @@ fn cut_of_double(held: &Held, size: u32) -> Cut
 }
 
 /// What is to be written for the triple-indirect block of a file of this size.
-fn cut_of_triple(held: &Held, size: u32) -> Cut
+fn cut_of_triple(held: &HeldPointers, size: u32) -> CutSector
     ensures cut { (content : Image) (e : Entry) → IsHeld content e held.now LAST
         → IsCut content (named content e triple_indirect_block)
         (kept_bytes size triple_indirect_block) result }
@@ -147,7 +147,7 @@ fn cut_of_triple(held: &Held, size: u32) -> Cut
 }
 
 /// Stages what is to be written for a sector, if anything is.
-fn stage_cut<D: Device>(log: &mut Log<D>, cut: &Cut)
+fn stage_cut<D: Device>(log: &mut Log<D>, cut: &CutSector)
     requires after_log { cut.now.sector ≢ 0 → FIRST_AFTER_LOG ≤ cut.now.sector }
     requires there { cut.now.sector ≢ 0 → cut.now.sector < log_sectors log.old }
     requires room { 0 < room_of log.old }
@@ -169,7 +169,7 @@ pub fn read_truncation<D: Device>(
     log: &mut Log<D>,
     sectors: &Alloc,
     entry: &Entry,
-    held: &Held,
+    held: &HeldPointers,
     size: u32,
 ) -> Result<Truncation, DeviceFault>
     requires there { end_of sectors.now ≤ log_sectors log.old }

@@ -29,6 +29,6 @@ pub use laws::{
 };
 pub use stat::{Place, Stat};
 pub use stats::Stats;
-pub use vol_body::{Source, Span};
+pub use vol_body::{MemorySpan, Source};
 pub use vol_inode::Serial;
 pub use volume::Volume;

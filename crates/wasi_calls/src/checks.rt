@@ -17,7 +17,7 @@ use wasm_store::{Errno, Memory};
 
 /// The kinds of descriptors that a call takes.
 #[derive(Clone, Copy)]
-pub(crate) enum Takes {
+pub(crate) enum DescriptorKinds {
     Any,
     Directories,
     /// Files and streams.
@@ -73,7 +73,7 @@ pub(crate) fn described<'t>(descriptors: &Descriptors<'t>, fd: Fd) -> Result<Des
     }
 }
 
-impl Takes {
+impl DescriptorKinds {
     ghost use Rattle.wasi_calls.specs.internal.Bodies.{refusals_of};
 
     /// Whether a call that takes these kinds takes the descriptor.
@@ -83,18 +83,22 @@ impl Takes {
     {
         match descriptor {
             Descriptor::Stream(_) => match self {
-                Takes::Any | Takes::NoDirectories => Ok(()),
-                Takes::Directories => Err(NOTDIR),
-                Takes::Files => Err(SPIPE),
-                Takes::Sized | Takes::NoStreams => Err(Errno::INVAL),
+                DescriptorKinds::Any | DescriptorKinds::NoDirectories => Ok(()),
+                DescriptorKinds::Directories => Err(NOTDIR),
+                DescriptorKinds::Files => Err(SPIPE),
+                DescriptorKinds::Sized | DescriptorKinds::NoStreams => Err(Errno::INVAL),
             },
             Descriptor::Entry(opened) => match opened.kind {
                 EntryKind::Directory => match self {
-                    Takes::Any | Takes::Directories | Takes::NoStreams => Ok(()),
-                    Takes::NoDirectories | Takes::Files | Takes::Sized => Err(ISDIR),
+                    DescriptorKinds::Any
+                    | DescriptorKinds::Directories
+                    | DescriptorKinds::NoStreams => Ok(()),
+                    DescriptorKinds::NoDirectories
+                    | DescriptorKinds::Files
+                    | DescriptorKinds::Sized => Err(ISDIR),
                 },
                 EntryKind::File => match self {
-                    Takes::Directories => Err(NOTDIR),
+                    DescriptorKinds::Directories => Err(NOTDIR),
                     _ => Ok(()),
                 },
             },
@@ -120,7 +124,7 @@ pub(crate) fn check_rights(descriptor: &Descriptor<'_>, rights: Rights) -> Resul
 pub(crate) fn allowed<'t>(
     descriptors: &Descriptors<'t>,
     fd: Fd,
-    takes: Takes,
+    takes: DescriptorKinds,
     rights: Rights,
 ) -> Result<Descriptor<'t>, Errno>
     ensures { (w : World) → w.table ≡ table_of descriptors.now → MatchResult result
@@ -151,7 +155,7 @@ pub(crate) fn opened_of<'t>(descriptor: Descriptor<'t>) -> Result<Opened<'t>, Er
 pub(crate) fn entry_at<'t>(
     descriptors: &Descriptors<'t>,
     fd: Fd,
-    takes: Takes,
+    takes: DescriptorKinds,
     rights: Rights,
 ) -> Result<Opened<'t>, Errno>
     ensures { (w : World) → w.table ≡ table_of descriptors.now → MatchResult result

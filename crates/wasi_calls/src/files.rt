@@ -16,7 +16,7 @@ ghost use Rattle.wasi_calls.specs.Calls.{Answered};
 ghost use Rattle.wasi_calls.specs.host.Worlds.{VolumeStep};
 ghost use Rattle.wasi_calls.specs.internal.Bodies.{KnowsEntries, errno_of, with_volume};
 
-use crate::checks::{Takes, entry_at};
+use crate::checks::{DescriptorKinds, entry_at};
 use crate::errno::refused;
 use vol_sector::Device;
 use vol_tree::{Serial, Volume};
@@ -38,7 +38,7 @@ pub(crate) fn sync<D: Device>(
     ensures durable { D.honest volume.old.device → errno_of result ≡ 0 → (c : Image)
         → (D.disk volume.new.device).may_leave c → StandsAs c volume.new.numbers volume.new.tree }
 {
-    if let Err(errno) = entry_at(descriptors, fd, Takes::NoStreams, right) {
+    if let Err(errno) = entry_at(descriptors, fd, DescriptorKinds::NoStreams, right) {
         return Err(errno);
     }
     match volume.sync() {
@@ -61,7 +61,12 @@ pub(crate) fn set_size<D: Device>(
         → w ≡ with_volume volume.old w
         → Answered (λ v. set_size_row v fd size) w m (with_volume volume.new w) m (errno_of result) }
 {
-    match entry_at(descriptors, fd, Takes::Sized, Rights::FD_FILESTAT_SET_SIZE) {
+    match entry_at(
+        descriptors,
+        fd,
+        DescriptorKinds::Sized,
+        Rights::FD_FILESTAT_SET_SIZE,
+    ) {
         Ok(opened) => match volume.set_size(Serial::new(opened.serial), size) {
             Ok(()) => Ok(()),
             Err(errno) => Err(refused(errno)),

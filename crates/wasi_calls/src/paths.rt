@@ -27,7 +27,7 @@ ghost use Rattle.wasi_calls.specs.internal.Asking.{Passes, Stops};
 ghost use Rattle.wasi_calls.specs.internal.paths.Walks.{StillWorks, ReachesFrom, Places, FindsBytes, starting_directory, reached_from};
 ghost use Rattle.wasi_calls.specs.paths.Rows.{path_filestat_get as stat_row, path_create_directory as create_row};
 
-use crate::checks::{Takes, check_range, entry_at, write_bytes};
+use crate::checks::{DescriptorKinds, check_range, entry_at, write_bytes};
 use crate::descriptors::stat::stat_entry;
 use crate::errno::{EXIST, NOENT, refused};
 use path_walk::{Path, Reached, walk};
@@ -74,7 +74,7 @@ pub(crate) fn enter<'t, 'm>(
         (λ e. starting_directory w memory.now fd (bits_of rights) path len ≡ Err e.0) }
     ensures text { IfOk result (λ p. p.1.now ≡ bytes_at memory.now path len) }
 {
-    let opened = entry_at(descriptors, fd, Takes::Directories, rights)?;
+    let opened = entry_at(descriptors, fd, DescriptorKinds::Directories, rights)?;
     check_range(memory, path, len)?;
     match memory.slice(path, len) {
         Some(text) => Ok((opened, text)),

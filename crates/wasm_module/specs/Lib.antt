@@ -1,6 +1,6 @@
 -- What public contracts cite, in reading order: the grammar of the binary format from integers up to `Spells` of
 -- `Module`, which `decode` promises at success, and the table of loads and stores (`Accesses`). `Reading` has a part of
--- the grammar as readers from the front, by which `module_survey` finds sections; `internal` serves private contracts
+-- the grammar as readers from the front, by which `sandbox_inspect` finds sections; `internal` serves private contracts
 -- and proofs.
 pub mod Number
 pub mod Grammar

@@ -8,7 +8,7 @@ ghost use Rattle.wasm_module.specs.Reading.{Gives, Reader, byte_at, number_at, u
 use crate::fault::LoadFault;
 use crate::instruction::Instruction;
 use crate::items::{Bytes, Items, Name};
-use crate::number::{Sign, Span, last, number};
+use crate::number::{NumberSpan, Sign, last, number};
 use crate::open_blocks::OpenBlocks;
 use crate::profile::Profile;
 use std::alloc::Global;
@@ -180,8 +180,8 @@ impl<'a> Cursor<'a> {
         self.expect(0x00, LoadFault::BadByte { offset })
     }
 
-    fn span(&self) -> Span {
-        Span {
+    fn span(&self) -> NumberSpan {
+        NumberSpan {
             begin: self.offset(),
             end: self.end(),
         }

@@ -14,7 +14,7 @@ pub enum Sign {
 
 /// Where a number begins in the input, and where the bytes that it may take end.
 #[derive(Clone, Copy)]
-pub struct Span {
+pub struct NumberSpan {
     pub begin: u32,
     pub end: u32,
 }
@@ -22,7 +22,7 @@ pub struct Span {
 /// The number of this many bits that ends in this byte.
 #[inline(always)]
 #[tactic(auto, using(crate::proofs::Powers::double, crate::proofs::Powers::half_is))]
-pub fn last(sign: Sign, bits: u32, byte: u8, span: Span) -> Result<u64, LoadFault>
+pub fn last(sign: Sign, bits: u32, byte: u8, span: NumberSpan) -> Result<u64, LoadFault>
     requires byte { byte < 128 }
     requires some { 0 < bits }
     requires fits { bits ≤ 64 }
@@ -41,7 +41,12 @@ pub fn last(sign: Sign, bits: u32, byte: u8, span: Span) -> Result<u64, LoadFaul
 
 /// The number of this many bits at the front, modulo 2 to that power, and the bytes after it.
 #[tactic(auto, using(crate::proofs::Powers::seven, crate::proofs::Powers::below_64))]
-pub fn number(sign: Sign, bits: u32, bytes: &[u8], span: Span) -> Result<(u64, &[u8]), LoadFault>
+pub fn number(
+    sign: Sign,
+    bits: u32,
+    bytes: &[u8],
+    span: NumberSpan,
+) -> Result<(u64, &[u8]), LoadFault>
     requires some { 0 < bits }
     requires fits { bits ≤ 64 }
     ensures value { Gives (λ x. (x.0, x.1.now)) result (number_at sign bits bytes.now) }

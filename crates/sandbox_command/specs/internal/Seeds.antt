@@ -5,7 +5,7 @@ use Rattle.std.specs.Prelude.{ℕ, Option, option_map}
 use Rattle.wasi_calls.specs.declared.streams.Terminals.{Terminals}
 use Rattle.wasi_calls.specs.supplies.Random.{seeded}
 use Rattle.sandbox_core.specs.Session.{SessionState}
-use Rattle.sandbox_words.specs.declared.request.Run.{Run}
+use Rattle.sandbox_args.specs.declared.request.Run.{Run}
 use Rattle.sandbox_command.specs.Supplies.{terminals_of}
 
 -- the same session, whose random bytes are those of a generator where there is a seed

@@ -11,8 +11,8 @@ use Rattle.sandbox_core.specs.declared.tally.Tally.{Tally}
 use Rattle.sandbox_core.specs.Session.{SessionState, limited_to}
 use Rattle.observed_run.specs.Telling.{TellsFrames}
 use Rattle.run_profile.specs.Stacks.{Stacks}
-use Rattle.run_report.specs.declared.counted.Counted.{Counted}
-use Rattle.sandbox_words.specs.declared.request.Run.{Run}
+use Rattle.sandbox_report.specs.declared.counted.Counted.{Counted}
+use Rattle.sandbox_args.specs.declared.request.Run.{Run}
 use Rattle.sandbox_command.specs.declared.program.Executed.{Executed}
 use Rattle.sandbox_command.specs.declared.stopping.Stopped.{Stopped}
 use Rattle.sandbox_command.specs.Profiling.{IsUseWith, ReportsCharged, slice_of}

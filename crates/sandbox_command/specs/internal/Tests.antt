@@ -5,15 +5,15 @@ use Rattle.std.specs.Io.KnownBytes.{Appends}
 use Rattle.std.specs.declared.io.ErrorKind.{ErrorKind}
 use Rattle.std.specs.declared.io.Write.{Ghosts as Writer}
 use Rattle.wasm_steps.specs.declared.pause.Outcome.{Outcome}
-use Rattle.run_report.specs.declared.end.End.TheVariants.{Ran, Refused}
-use Rattle.run_report.specs.declared.fault.Fault.{Fault}
-use Rattle.run_report.specs.declared.summary.Summary.{Summary}
-use Rattle.run_report.specs.Reporting.{report_text}
-use Rattle.sandbox_words.specs.declared.request.Run.{Run}
-use Rattle.sandbox_words.specs.Request.{Text}
+use Rattle.sandbox_report.specs.declared.end.End.TheVariants.{Ran, Refused}
+use Rattle.sandbox_report.specs.declared.fault.Fault.{Fault}
+use Rattle.sandbox_report.specs.declared.summary.Summary.{Summary}
+use Rattle.sandbox_report.specs.Reporting.{report_text}
+use Rattle.sandbox_args.specs.declared.request.Run.{Run}
+use Rattle.sandbox_args.specs.Request.{Text}
 use Rattle.sandbox_command.specs.declared.places.Places.{Ghosts}
-use Rattle.sandbox_command.specs.declared.testing.Prepared.{Prepared}
-use Rattle.sandbox_command.specs.declared.testing.Test.{Test}
+use Rattle.sandbox_command.specs.declared.testing.PreparedTest.{PreparedTest}
+use Rattle.sandbox_command.specs.declared.testing.TestFiles.{TestFiles}
 use Rattle.sandbox_command.specs.Beginning.{IsImage}
 use Rattle.sandbox_command.specs.Places.{Access, Chain, ChainWithFailure, IsOfImage, Prints}
 use Rattle.sandbox_command.specs.Testing.{IsWord, stream_accesses}
@@ -23,7 +23,7 @@ abbrev pub BeginsWithNoWord : Text → Type 0
 BeginsWithNoWord text = (word rest : Text) → text ≡ word ++ (32 ∷ rest) → IsWord word → ⊥
 
 -- the files of a test, which were asked for in turn
-pub record IsPrepared {P I O V : Type 0} (places : Ghosts P I O V) (run : Run) (t : Test) (p q : P) (prepared : Prepared I O) : Type 0 where
+pub record IsPrepared {P I O V : Type 0} (places : Ghosts P I O V) (run : Run) (t : TestFiles) (p q : P) (prepared : PreparedTest I O) : Type 0 where
   pub asked_for : Chain places.asked (stream_accesses run t) p q
   pub input : places.is_input t.input.now prepared.streams.input
   pub out : places.is_output t.output.now prepared.streams.out

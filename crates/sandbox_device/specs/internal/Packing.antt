@@ -1,5 +1,5 @@
 -- Sectors in memory, of which one that was never anything but zeros takes no room but for a number. `IsPacked` is part
--- of the invariant of the type `Part` (`crates/sandbox_device/src/part.rt`), and `sectors_at` is its view, the
+-- of the invariant of the type `SectorBlock` (`crates/sandbox_device/src/part.rt`), and `sectors_at` is its view, the
 -- list of sectors that it stands for.
 use Rattle.std.specs.Prelude.{◌≡◌, ◌≢◌, ◌+◌, ◌-◌, ◌≤◌, ◌==◌, ℕ, Bool, List, length, map, replicate, get_or, if◌then◌else◌}
 use Rattle.std.specs.List.{count_by}

@@ -2,21 +2,21 @@
 
 use super::guests::{DEEP, FILES, WIDE};
 use super::sessions::assert_none;
-use machine_tests::HELLO;
 use sandbox_core::Preopen;
 use sandbox_host::{
-    Handle, Limits, MISUSE, OK, Supplies, Told, VolumeOperation, VolumeSource, Why, check, close,
-    finish, format, format_huge, full, load_module_with, open, operation_at, output, resume, text,
-    unload, volume_out,
+    Handle, MISUSE, OK, SessionLimits, Supplies, Told, VolumeOperation, VolumeSource, Why, check,
+    close, finish, format, format_huge, full, load_module_with, open, operation_at, output, resume,
+    text, unload, volume_out,
 };
 use std::alloc::Global;
 use std::process::Abort;
+use wasm_tests::HELLO;
 
 /// `HELLO`, which a session keeps.
 static HI: [u8; 168] = HELLO;
 
 /// The limits that are taken where none is named.
-static DEFAULTS: Limits = Limits {
+static DEFAULTS: SessionLimits = SessionLimits {
     pages: 0,
     values: 0,
     output: 0,
@@ -33,7 +33,7 @@ static SUPPLIES: Supplies<'static> = Supplies {
     }],
     moment: 0,
     random: b"",
-    limits: Limits {
+    limits: SessionLimits {
         pages: 0,
         values: 0,
         output: 0,
@@ -126,7 +126,7 @@ fn opened(alloc: Global, module: &'static [u8], volume: &VolumeSource<'_>) -> (H
 fn opened_within(
     alloc: Global,
     module: &'static [u8],
-    limits: Limits,
+    limits: SessionLimits,
     volume: &VolumeSource<'_>,
 ) -> (Handle, u32) {
     let mut session = Handle::empty(alloc);
@@ -307,7 +307,7 @@ static LIMITED: [(&[u8], u32, u32, u64, u32, &[u8], u32); 14] = [
 fn ends_so(
     alloc: Global,
     guest: &'static [u8],
-    limits: Limits,
+    limits: SessionLimits,
     kind: u32,
     written: &[u8],
     filled: u32,
@@ -339,7 +339,7 @@ fn ends_so(
 /// The first row that a guest doesn't end by.
 fn wrong_limit(alloc: Global) -> Option<usize> {
     for (i, (guest, pages, values, output, kind, written, filled)) in LIMITED.iter().enumerate() {
-        let limits = Limits {
+        let limits = SessionLimits {
             pages: *pages,
             values: *values,
             output: *output,
@@ -369,7 +369,7 @@ static OPENED: [(u32, u64, u32); 5] = [
 /// The first row that isn't answered so.
 fn wrong_opening(alloc: Global) -> Option<usize> {
     for (i, (pages, last, want)) in OPENED.iter().enumerate() {
-        let limits = Limits {
+        let limits = SessionLimits {
             pages: *pages,
             values: 0,
             output: 0,

@@ -4,7 +4,6 @@
 use super::guests::{DEEP, FILES, WIDE};
 use super::sessions::{NoSession, PLAIN, Ran, Small, faulty, formatted, made, mounted, whole_run};
 use super::writer::Bounded;
-use machine_tests::HELLO;
 use sandbox_core::{
     HostParts, LoadFault, Outcome, RefusedSession, SessionFault, Valid, Volume, load,
 };
@@ -12,6 +11,7 @@ use std::alloc::Global;
 use std::process::Abort;
 use std::test::Fail;
 use vol_sector::{Device, MemoryDevice, Refused, VolumeFault};
+use wasm_tests::HELLO;
 
 /// More than any guest here uses.
 const FUEL: u64 = 1_000_000;

@@ -3,7 +3,7 @@
 ghost use Rattle.std.specs.Prelude.{decimal};
 
 use observed_run::{run_profiled, run_told};
-use run_profile::{Names, Profile};
+use run_profile::{FuelProfile, Names};
 use sandbox_core::{
     Frame, Outcome, Preopen, Resumable, Session, Settings, SharedModule, SharedSession, Trap,
     Valid, Volume, load,
@@ -149,7 +149,7 @@ impl Names for Indices {
 fn has_profile(rt: &impl Abort, alloc: Global, every: u64, wanted: &[u8]) -> bool {
     let session = owning(alloc).expect(rt, "a session");
     assert!(rt; session.used() == 0);
-    let mut profile = Profile::new(alloc, 100).expect(rt, "a profile");
+    let mut profile = FuelProfile::new(alloc, 100).expect(rt, "a profile");
     let told = run_profiled(alloc, session, 100, every, &mut profile, &mut []);
     let used = told.report.used;
     drop(told);

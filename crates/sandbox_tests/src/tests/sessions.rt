@@ -1,7 +1,6 @@
 //! Settings, and sessions of one program.
 
 use super::writer::Bounded;
-use machine_tests::HELLO;
 use sandbox_core::{
     Errno, Finished, HostCall, HostParts, InstanceFault, Outcome, Pause, Preopen, RefusedSession,
     Report, Session, SessionFault, Settings, Valid, Volume, load, run,
@@ -11,6 +10,7 @@ use std::io::ErrorKind;
 use std::process::Abort;
 use stream_answers::{Inlet, Outlet};
 use vol_sector::{Device, FlakyDevice, FuseDevice, MemoryDevice};
+use wasm_tests::HELLO;
 
 fn settings<'a, 't>(
     args: &'a [&'t [u8]],

@@ -3,8 +3,8 @@
 use super::sessions::{PLAIN, formatted};
 use super::writer::Bounded;
 use crate::worked::resumed_twice_on;
-use machine_tests::HELLO;
 use sandbox_core::{Errno, HostCall, Outcome, Pause, load};
+use wasm_tests::HELLO;
 
 static HI: [u8; 168] = HELLO;
 

@@ -5,7 +5,7 @@ use Rattle.vol_sector.specs.Disk.{Image, put}
 use Rattle.vol_inode.specs.Space.{blocks_for_size, inner_blocks_for, double_blocks_for}
 use Rattle.vol_inode.specs.declared.entry.Entry.{Entry}
 use Rattle.vol_inode.specs.declared.pointers.TheConstants.{DIRECT, LISTED, TWICE_LISTED, NUMBERS, SERVED}
-use Rattle.vol_body.specs.declared.truncation.Cut.{Cut}
+use Rattle.vol_body.specs.declared.truncation.CutSector.{CutSector}
 use Rattle.vol_body.specs.declared.truncation.Truncation.{Truncation}
 use Rattle.vol_body.specs.Body.{BlockPosition, data_block, indirect_block, inner_block, double_indirect_block, triple_indirect_block, IsPosition, first_served, named, number_in}
 use Rattle.vol_body.specs.internal.Writing.{segment, segment_of, double_of}
@@ -37,14 +37,14 @@ abbrev pub zeroed_from : ℕ → List ℕ → List ℕ
 zeroed_from kept bytes = take kept bytes ++ replicate (512 - kept) 0
 
 -- what is to be written for a sector of which a beginning is kept; sector 0 stands for nothing
-pub record IsCut (content : Image) (n kept : ℕ) (c : Cut) : Type 0 where
+pub record IsCut (content : Image) (n kept : ℕ) (c : CutSector) : Type 0 where
   pub sector : c.sector ≢ 0 → c.sector ≡ n
   pub image : c.sector ≢ 0 → c.image ≡ zeroed_from kept (content n)
   pub short : c.sector ≢ 0 → kept < 512
   pub same : c.sector ≡ 0 → n ≢ 0 → 0 < kept → kept < 512 → content n ≡ zeroed_from kept (content n)
 
 -- the image with what is to be written
-abbrev pub with_cut : Cut → Image → Image
+abbrev pub with_cut : CutSector → Image → Image
 with_cut c image = if c.sector == 0 then image else put c.sector c.image image
 
 -- what is to be written for a file of this size

@@ -2,7 +2,7 @@
 use Rattle.std.proofs.Common.{◌≡◌, ◌≢◌, ◌≤◌, ℕ, List, Option, Ok, Err, true, false, refl, sym, ap, ◌∙◌, subst, vec_capacity}
 use Rattle.std.proofs.lemmas.Bool.{false≢true}
 use Rattle.vol_sector.specs.Disk.{Disk}
-use Rattle.vol_body.specs.declared.source.Span.{Span}
+use Rattle.vol_body.specs.declared.source.MemorySpan.{MemorySpan}
 use Rattle.wasi_fd.specs.declared.descriptor.Descriptor.{Descriptor}
 use Rattle.wasi_fd.specs.Table.{Table, table_of}
 use Rattle.wasm_store.specs.declared.call.HostCall.{HostCall}
@@ -49,14 +49,14 @@ module _ {D R W1 W2 X : Type 0} (honest : D → Type 0) (disk : D → Disk) (sec
         refused room e place (not_29 (usable m q.iovs q.count q.result_at) e (usable_never m q.iovs q.count q.result_at) is)
         (λ w table. same w ∙ (goes_on _ _ x (passes w table) ∙ (usable_row m q.iovs q.count q.result_at (rest w x) ∙ stops _ _ e is)))
 
-    pub after_buffers : (found shown : List Span) → shown ≡ found → usable m q.iovs q.count q.result_at ≡ Ok (list_of found)
+    pub after_buffers : (found shown : List MemorySpan) → shown ≡ found → usable m q.iovs q.count q.result_at ≡ Ok (list_of found)
         → (w : World) → w.table ≡ table_of old.descriptors → row c w m used args ≡ rest w x (list_of shown)
     after_buffers found shown whole is w table =
         same w ∙ (goes_on _ _ x (passes w table) ∙ (usable_row m q.iovs q.count q.result_at (rest w x) ∙ goes_on _ _ (list_of shown) (is ∙ ap Ok (ap list_of (sym whole)))))
 
 -- the buffers that were found, as a slice of the room shows them
-pub shown_usable : (m : List ℕ) (found shown : List Span) (at : ℕ) → shown ≡ found → AreUsable m (list_of found) at → AreUsable m (list_of shown) at
-shown_usable m found shown at whole usable = subst (λ (bs : List Span). AreUsable m (list_of bs) at) (sym whole) usable
+pub shown_usable : (m : List ℕ) (found shown : List MemorySpan) (at : ℕ) → shown ≡ found → AreUsable m (list_of found) at → AreUsable m (list_of shown) at
+shown_usable m found shown at whole usable = subst (λ (bs : List MemorySpan). AreUsable m (list_of bs) at) (sym whole) usable
 
 -- a descriptor that passed its check has the rights
 pub lacks_right : {P : Type 0} (table : Table) (fd : ℕ) (r : Refusals) (rights : ℕ) (d e : Descriptor) → ((w : World) → w.table ≡ table → descriptor w fd r rights ≡ Ok d) → d ≡ e → has e rights ≡ false → P

@@ -11,7 +11,7 @@ use Rattle.std.specs.List.{list_all}
 use Rattle.byteorder.specs.Endian.{little_number}
 use Rattle.wasm_store.specs.Bytes.{bytes_at}
 use Rattle.vol_body.specs.Source as source
-use Rattle.vol_body.specs.declared.source.Span.{Span}
+use Rattle.vol_body.specs.declared.source.MemorySpan.{MemorySpan}
 use Rattle.vol_body.specs.declared.writing.TheConstants.{PIECE}
 use Rattle.wasi_calls.specs.Checks.{Checked, Buffer, buffers, and_then, guard, range, buffers_in, total, is_inside, gathered}
 use Rattle.wasi_calls.specs.internal.checks.Buffers.{pair_of, list_of}
@@ -29,7 +29,7 @@ buffers_from array count i h =
     rw one_more (ap (λ (bytes : List ℕ). buffer_at (drop (8 * i) array) ∷ buffers_in (count - (i + 1)) bytes) moved)
 
 -- one more is read
-pub read_more : (room : List Span) (array : List ℕ) (count i : ℕ) (b : Span) → i < count → pair_of b ≡ buffer_at (drop (8 * i) array)
+pub read_more : (room : List MemorySpan) (array : List ℕ) (count i : ℕ) (b : MemorySpan) → i < count → pair_of b ≡ buffer_at (drop (8 * i) array)
     → list_of (room ++ b ∷ []) ++ buffers_in (count - (i + 1)) (drop (8 * (i + 1)) array) ≡ list_of room ++ buffers_in (count - i) (drop (8 * i) array)
 read_more room array count i b below is =
     let rest : List Buffer = buffers_in (count - (i + 1)) (drop (8 * (i + 1)) array) in
@@ -41,20 +41,20 @@ bool_or : (b : Bool) → (b ≡ true) ⊎ (b ≡ false)
 bool_or true = inl refl
 bool_or false = inr refl
 
-listed_more : (bs : List Span) (i : ℕ) (d : Span) → i < length bs → list_of (take (i + 1) bs) ≡ list_of (take i bs) ++ pair_of (get_or bs i d) ∷ []
+listed_more : (bs : List MemorySpan) (i : ℕ) (d : MemorySpan) → i < length bs → list_of (take (i + 1) bs) ≡ list_of (take i bs) ++ pair_of (get_or bs i d) ∷ []
 listed_more bs i d h = ap list_of (rw add-one (take-suc bs i d h)) ∙ map-append pair_of (take i bs) (get_or bs i d ∷ [])
 
-pub total_more : (bs : List Span) (i : ℕ) (d : Span) → i < length bs → total (list_of (take (i + 1) bs)) ≡ total (list_of (take i bs)) + (get_or bs i d).len
+pub total_more : (bs : List MemorySpan) (i : ℕ) (d : MemorySpan) → i < length bs → total (list_of (take (i + 1) bs)) ≡ total (list_of (take i bs)) + (get_or bs i d).len
 total_more bs i d h =
     let f : Buffer → ℕ = λ b. b.1 in
     ap total (listed_more bs i d h) ∙ (sum_by-append f (list_of (take i bs)) (pair_of (get_or bs i d) ∷ []) ∙ ap (λ (n : ℕ). total (list_of (take i bs)) + n) (sum_by-cons f (pair_of (get_or bs i d)) [] ∙ add-zero _))
 
-pub all_inside : (memory : List ℕ) (bs : List Span) → list_all (is_inside memory) (list_of bs) ≡ list_all (λ b. is_inside memory (pair_of b)) bs
+pub all_inside : (memory : List ℕ) (bs : List MemorySpan) → list_all (is_inside memory) (list_of bs) ≡ list_all (λ b. is_inside memory (pair_of b)) bs
 all_inside memory bs = list_all-map (is_inside memory) pair_of bs
 
-pub inside_at : (memory : List ℕ) (bs : List Span) (i : ℕ) (d : Span) → list_all (is_inside memory) (list_of bs) ≡ true → i < length bs → (get_or bs i d).pointer + (get_or bs i d).len ≤ length memory
+pub inside_at : (memory : List ℕ) (bs : List MemorySpan) (i : ℕ) (d : MemorySpan) → list_all (is_inside memory) (list_of bs) ≡ true → i < length bs → (get_or bs i d).pointer + (get_or bs i d).len ≤ length memory
 inside_at memory bs i d all h =
-    let p : Span → Bool = λ b. is_inside memory (pair_of b) in
+    let p : MemorySpan → Bool = λ b. is_inside memory (pair_of b) in
     elim (bool_or (p (get_or bs i d))) [
       | inl is ↦ leb-true _ _ is
       | inr not_so ↦ absurd (false≢true (sym (list_all_at p bs i d h not_so) ∙ (sym (all_inside memory bs) ∙ all)))
@@ -80,11 +80,11 @@ found_row m iovs count result all few inside is =
 
 -- ---- from one buffer on
 
-pub gathered_from : (memory bytes : List ℕ) (bs : List Span) (i : ℕ) (d : Span) → i < length bs → bytes ≡ bytes_at memory (get_or bs i d).pointer (get_or bs i d).len
+pub gathered_from : (memory bytes : List ℕ) (bs : List MemorySpan) (i : ℕ) (d : MemorySpan) → i < length bs → bytes ≡ bytes_at memory (get_or bs i d).pointer (get_or bs i d).len
     → gathered memory (list_of (drop i bs)) ≡ bytes ++ gathered memory (list_of (drop (i + 1) bs))
 gathered_from memory bytes bs i d h read =
     let next : drop i bs ≡ get_or bs i d ∷ drop (i + 1) bs = rw add-one (drop-cons bs i d h) in
-    ap (λ (l : List Span). gathered memory (list_of l)) next
+    ap (λ (l : List MemorySpan). gathered memory (list_of l)) next
     ∙ ap (λ (l : List ℕ). l ++ gathered memory (list_of (drop (i + 1) bs))) (sym read)
 
 pub gathered_length : (memory : List ℕ) (bs : List Buffer) → list_all (is_inside memory) bs ≡ true → length (gathered memory bs) ≡ total bs
@@ -101,18 +101,18 @@ gathered_length memory (b ∷ bs) h =
 
 -- ---- as a volume sees them
 
-pub source_bytes : (memory : List ℕ) (bs : List Span) → source.gathered memory bs ≡ gathered memory (list_of bs)
+pub source_bytes : (memory : List ℕ) (bs : List MemorySpan) → source.gathered memory bs ≡ gathered memory (list_of bs)
 source_bytes memory [] = refl
 source_bytes memory (b ∷ bs) = ap (λ (l : List ℕ). bytes_at memory b.pointer b.len ++ l) (source_bytes memory bs)
 
-pub source_inside : (memory : List ℕ) (bs : List Span) → list_all (is_inside memory) (list_of bs) ≡ true → source.AreInside memory bs
+pub source_inside : (memory : List ℕ) (bs : List MemorySpan) → list_all (is_inside memory) (list_of bs) ≡ true → source.AreInside memory bs
 source_inside memory [] h = tt
 source_inside memory (b ∷ bs) h =
     let both = and_parts (is_inside memory (pair_of b)) (list_all (is_inside memory) (list_of bs)) h in
     (leb-true _ _ both.0, source_inside memory bs both.1)
 
 -- the bytes that are written at once
-pub source_taken : (memory : List ℕ) (bs : List Span) (len : ℕ) → list_all (is_inside memory) (list_of bs) ≡ true → len ≡ min (total (list_of bs)) PIECE
+pub source_taken : (memory : List ℕ) (bs : List MemorySpan) (len : ℕ) → list_all (is_inside memory) (list_of bs) ≡ true → len ≡ min (total (list_of bs)) PIECE
     → (len ≤ length (source.gathered memory bs)) × (take len (source.gathered memory bs) ≡ take PIECE (gathered memory (list_of bs))) × (len ≡ length (take PIECE (gathered memory (list_of bs))))
 source_taken memory bs len inside is =
     let all : List ℕ = gathered memory (list_of bs) in

@@ -7,8 +7,8 @@ use Rattle.wasi_fd.specs.declared.descriptor.Descriptor.{Descriptor}
 use Rattle.wasi_fd.specs.declared.descriptor.Descriptor.TheVariants.{Stream, Entry}
 use Rattle.wasi_fd.specs.declared.descriptor.EntryKind.{EntryKind}
 use Rattle.wasi_fd.specs.declared.descriptor.EntryKind.TheVariants as kinds
-use Rattle.wasi_calls.specs.declared.checks.Takes.{Takes}
-use Rattle.wasi_calls.specs.declared.checks.Takes.TheVariants as takes
+use Rattle.wasi_calls.specs.declared.checks.DescriptorKinds.{DescriptorKinds}
+use Rattle.wasi_calls.specs.declared.checks.DescriptorKinds.TheVariants as takes
 use Rattle.wasi_calls.specs.declared.paths.opening.OpenCall.{OpenCall}
 use Rattle.wasi_calls.specs.declared.paths.renaming.RenameCall.{RenameCall}
 use Rattle.wasi_calls.specs.declared.files.listing.ListCall.{ListCall}
@@ -41,7 +41,7 @@ ends_never x is = cc
 pub get_never : (w : World) (fd : ℕ) → get w fd ≢ Err 29
 get_never w fd = ok_never (w.table fd) 8 (λ is. absurd (omega (arith, is)))
 
-pub kind_never : (t : Takes) (d : Descriptor) → of_kind (refusals_of t) d ≢ Err 29
+pub kind_never : (t : DescriptorKinds) (d : Descriptor) → of_kind (refusals_of t) d ≢ Err 29
 kind_never takes.Any (Stream s) is = cc
 kind_never takes.Directories (Stream s) is = let same : ◌≡◌ {A = ℕ} 54 29 = cc in absurd (omega (arith, same))
 kind_never takes.NoDirectories (Stream s) is = cc
@@ -50,7 +50,7 @@ kind_never takes.Sized (Stream s) is = let same : ◌≡◌ {A = ℕ} 28 29 = cc
 kind_never takes.NoStreams (Stream s) is = let same : ◌≡◌ {A = ℕ} 28 29 = cc in absurd (omega (arith, same))
 kind_never t (Entry o) is = entry_kind t o.kind is
   where
-    entry_kind : (t : Takes) (k : EntryKind) → of_kind (refusals_of t) (Entry (record o { kind = k })) ≡ Err 29 → ⊥
+    entry_kind : (t : DescriptorKinds) (k : EntryKind) → of_kind (refusals_of t) (Entry (record o { kind = k })) ≡ Err 29 → ⊥
     entry_kind takes.Any kinds.Directory is = cc
     entry_kind takes.Any kinds.File is = cc
     entry_kind takes.Directories kinds.Directory is = cc
@@ -64,7 +64,7 @@ kind_never t (Entry o) is = entry_kind t o.kind is
     entry_kind takes.NoStreams kinds.Directory is = cc
     entry_kind takes.NoStreams kinds.File is = cc
 
-pub descriptor_never : (fd : ℕ) (t : Takes) (rights : ℕ) (w : World) → descriptor w fd (refusals_of t) rights ≢ Err 29
+pub descriptor_never : (fd : ℕ) (t : DescriptorKinds) (rights : ℕ) (w : World) → descriptor w fd (refusals_of t) rights ≢ Err 29
 descriptor_never fd t rights w =
     never_after (get w fd) _ (get_never w fd) (λ d _. never_after (of_kind (refusals_of t) d) _ (kind_never t d)
     (λ _ _. never_after (guard (has d rights) 76) _ (guards _ 76 refl) (λ _ _. ends_never d)))
@@ -73,7 +73,7 @@ pub opened_never : (d : Descriptor) → opened_entry d ≢ Err 29
 opened_never (Stream s) is = let same : ◌≡◌ {A = ℕ} 8 29 = cc in absurd (omega (arith, same))
 opened_never (Entry o) is = cc
 
-pub entry_never : (fd : ℕ) (t : Takes) (rights : ℕ) (w : World) → entry_at w fd (refusals_of t) rights ≢ Err 29
+pub entry_never : (fd : ℕ) (t : DescriptorKinds) (rights : ℕ) (w : World) → entry_at w fd (refusals_of t) rights ≢ Err 29
 entry_never fd t rights w = never_after (descriptor w fd (refusals_of t) rights) opened_entry (descriptor_never fd t rights w) (λ d _. opened_never d)
 
 pub range_never : (m : List ℕ) (pointer len : ℕ) → range m pointer len ≢ Err 29

@@ -8,7 +8,7 @@ use Rattle.wasm_store.specs.declared.call.HostCall.{HostCall}
 use Rattle.wasm_store.specs.declared.call.HostCall.TheVariants as call
 use Rattle.wasi_fd.specs.declared.descriptor.Descriptor.TheVariants.{Entry}
 use Rattle.wasi_fd.specs.declared.descriptor.Opened.{Opened}
-use Rattle.wasi_calls.specs.declared.checks.Takes.TheVariants as takes
+use Rattle.wasi_calls.specs.declared.checks.DescriptorKinds.TheVariants as takes
 use Rattle.wasi_calls.specs.World.{World}
 use Rattle.wasi_calls.specs.Checks.{Checked, Done, guard, get, of_kind, has, only_files, opened_entry, range}
 use Rattle.wasi_calls.specs.supplies.Random.{has_left}

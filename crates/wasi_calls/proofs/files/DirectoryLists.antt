@@ -20,7 +20,7 @@ use Rattle.wasi_calls.specs.Checks.{Checked, Done, and_then, range, entry_at, on
 use Rattle.wasi_calls.specs.files.Rows.{dirent, dirents, type_of_node, fd_readdir}
 use Rattle.wasi_calls.specs.Calls.{IsMixed, filled, Answered, by_row, volume_fails}
 use Rattle.wasi_calls.specs.declared.files.listing.ListCall.{ListCall}
-use Rattle.wasi_calls.specs.declared.files.listing.Told.{Told}
+use Rattle.wasi_calls.specs.declared.files.listing.ToldEntry.{ToldEntry}
 use Rattle.wasi_calls.specs.internal.Bodies.{with_volume, type_of_entry}
 use Rattle.wasi_calls.specs.internal.files.Reading.{IsBegun}
 use Rattle.wasi_calls.specs.internal.files.Listing.{listable, header, dirent_of, told_bytes, TellsNext, HasTold}
@@ -47,7 +47,7 @@ same_dirent serial e s is long few =
     let count : s.name_length ≡ length e.name = (let n : s.name_length ≡ length (take s.name_length s.name) = omega (arith, all) in n) ∙ ap length is.name in
     λ i. header serial (count i) ((ap type_of_entry is.kind ∙ same_type e.node) i) ++ is.name i
 
-pub told_next : (T : Tree) (directory after serial : ℕ) (e : TreeEntry) (t : Told) → next_child T directory after ≡ Some serial → entry T serial ≡ Some e
+pub told_next : (T : Tree) (directory after serial : ℕ) (e : TreeEntry) (t : ToldEntry) → next_child T directory after ≡ Some serial → entry T serial ≡ Some e
     → t.serial ≡ serial → told_bytes t ≡ dirent serial e → TellsNext T directory after (Some t)
 told_next T directory after serial e t next used same bytes =
     let on = list_goes_on T directory after serial next in
@@ -82,7 +82,7 @@ module _ (T : Tree) (directory cookie : ℕ) (before : List ℕ) where
 
   module _ (after place : ℕ) (part : List ℕ) (h : HasTold T directory cookie after place before part) where
     -- an entry more
-    pub tells_more : (t : Told) (end : ℕ) (next : List ℕ) → place < length before → length part ≡ length before → TellsNext T directory after (Some t)
+    pub tells_more : (t : ToldEntry) (end : ℕ) (next : List ℕ) → place < length before → length part ≡ length before → TellsNext T directory after (Some t)
         → end ≡ min (length part) (place + length (told_bytes t)) → take end next ≡ take place part ++ take (end - place) (told_bytes t) → drop end next ≡ drop end part
         → HasTold T directory cookie t.serial end before next
     tells_more t end next room long told is first rest =

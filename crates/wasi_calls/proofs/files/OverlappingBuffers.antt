@@ -8,7 +8,7 @@ use Rattle.wasi_calls.specs.Checks.{Buffer, put, total, is_inside, scattered}
 use Rattle.wasi_calls.specs.internal.files.Reading.{limited_buffers, covered, HalfFilled}
 use Rattle.wasi_calls.specs.Calls.{IsMixed}
 use Rattle.std.proofs.Math.Seq.{drop-cons, take-append_seam}
-use Rattle.vol_body.specs.declared.source.Span.{Span}
+use Rattle.vol_body.specs.declared.source.MemorySpan.{MemorySpan}
 use Rattle.wasi_calls.specs.internal.checks.Buffers.{pair_of, list_of}
 use Rattle.wasm_store.specs.Bytes.{written}
 use Rattle.wasm_store.specs.Lending.{rewritten}
@@ -157,7 +157,7 @@ pub half_done : (old last memory : List ℕ) → length last ≡ length old → 
 half_done old last memory same h = ext_get_or 0 memory last (h.as_long ∙ sym same) (λ at _. h.each at)
 
 -- one buffer more is cut
-pub cut_more : (bs bs0 : List Span) (i left left' : ℕ) (y d : Span) → i < length bs → length bs ≡ length bs0 → drop i bs ≡ drop i bs0
+pub cut_more : (bs bs0 : List MemorySpan) (i left left' : ℕ) (y d : MemorySpan) → i < length bs → length bs ≡ length bs0 → drop i bs ≡ drop i bs0
     → y ≡ record (get_or bs i d) { len = min (get_or bs i d).len left } → left' ≡ left - (get_or bs i d).len
     → list_of (take (i + 1) (set bs i y)) ++ limited_buffers left' (list_of (drop (i + 1) bs0)) ≡ list_of (take i bs) ++ limited_buffers left (list_of (drop i bs0))
 cut_more bs bs0 i left left' y d h long same is less =
@@ -167,12 +167,12 @@ cut_more bs bs0 i left left' y d h long same is less =
     let both : drop i bs ≡ x ∷ drop (i + 1) bs = rw add-one (drop-cons bs i d h) in
     let equal : x ∷ drop (i + 1) bs ≡ get_or bs0 i d ∷ drop (i + 1) bs0 = sym both ∙ (same ∙ next) in
     let first : x ≡ get_or bs0 i d = cc in
-    ap (λ (l : List Span). list_of l ++ rest) (take_more_set bs i y h)
+    ap (λ (l : List MemorySpan). list_of l ++ rest) (take_more_set bs i y h)
     ∙ (ap (λ (l : List Buffer). l ++ rest) (map-append pair_of (take i bs) (y ∷ []))
     ∙ (append_assoc (list_of (take i bs)) (pair_of y ∷ []) rest
     ∙ ((λ j. list_of (take i bs) ++ (pair_of (is j) ∷ limited_buffers (less j) (list_of (drop (i + 1) bs0))))
     ∙ ((λ j. list_of (take i bs) ++ limited_buffers left (list_of (first j ∷ drop (i + 1) bs0)))
-    ∙ ap (λ (l : List Span). list_of (take i bs) ++ limited_buffers left (list_of l)) (sym next)))))
+    ∙ ap (λ (l : List MemorySpan). list_of (take i bs) ++ limited_buffers left (list_of l)) (sym next)))))
 
 -- ---- places in later buffers
 
@@ -180,7 +180,7 @@ abbrev pub is_in : ℕ → Buffer → Bool
 is_in at b = nat_le b.0 at && nat_lt at (b.0 + b.1)
 
 -- a place in one of them
-pub covered_by : (at : ℕ) (bs : List Span) (i : ℕ) (d : Span) → i < length bs → (get_or bs i d).pointer ≤ at → at < (get_or bs i d).pointer + (get_or bs i d).len
+pub covered_by : (at : ℕ) (bs : List MemorySpan) (i : ℕ) (d : MemorySpan) → i < length bs → (get_or bs i d).pointer ≤ at → at < (get_or bs i d).pointer + (get_or bs i d).len
     → covered at (list_of bs) ≡ true
 covered_by at [] i d h le lt = absurd (omega arith)
 covered_by at (b ∷ bs) zero d h le lt = ap (λ (t : Bool). t || covered at (list_of bs)) (both_so (nat_le b.pointer at) (nat_lt at (b.pointer + b.len)) (le-leb b.pointer at le) (lt-ltb at (b.pointer + b.len) lt))

@@ -28,8 +28,8 @@ use Rattle.wasi_calls.specs.Checks.{Checked, Done, and_then, guard, tree_call, n
 use Rattle.wasi_calls.specs.paths.Rows.{path_open, path_at, open_checks, open_entry, new_number, is_set, trunc, creat, excl, new_descriptor}
 use Rattle.byteorder.specs.Endian.{little_bytes}
 use Rattle.wasi_calls.specs.declared.paths.opening.OpenCall.{OpenCall}
-use Rattle.wasi_calls.specs.declared.paths.opening.Target.{Target}
-use Rattle.wasi_calls.specs.declared.paths.opening.Target.TheVariants as targets
+use Rattle.wasi_calls.specs.declared.paths.opening.PathTarget.{PathTarget}
+use Rattle.wasi_calls.specs.declared.paths.opening.PathTarget.TheVariants as targets
 use Rattle.wasi_calls.specs.internal.Bodies.{with_volume}
 use Rattle.wasi_calls.specs.internal.Asking.{Passes, Stops, StopsNext}
 use Rattle.wasi_calls.specs.internal.paths.Opening.{open_part, open_entered, found_checked, missing_checked, ChecksAs, ReachesTarget as Finds, IsTarget, made, with_serial, target_is_directory, with_both, AreSerials}
@@ -163,7 +163,7 @@ mapped (Ok T) serial = refl
 mapped (Err e) serial = refl
 
 -- in a world whose volume works
-pub opens_as : (w : World) (oflags : ℕ) (r : Reached) (t : Target) → w.volume_failed ≡ false → IsTarget w.tree oflags r t → open_entry w oflags r ≡ numbered (made w.volume w.tree t)
+pub opens_as : (w : World) (oflags : ℕ) (r : Reached) (t : PathTarget) → w.volume_failed ≡ false → IsTarget w.tree oflags r t → open_entry w oflags r ≡ numbered (made w.volume w.tree t)
 opens_as w oflags r (targets.Entry serial kind) alive h =
     ap (open_entry w oflags) h.0 ∙ cond-false (not (directory_at w.tree serial) && is_set oflags trunc) _ _ h.2
 opens_as w oflags r (targets.Cut serial) alive h =
@@ -231,7 +231,7 @@ pair_is : (T U : Tree) (a b : ℕ) → ◌≡◌ {A = Result (Tree × ℕ) Errno
 pair_is T U a b h = cc
 
 -- what it is in the tree that the call leaves
-pub opened_is : (volume : Geometry) (T U : Tree) (oflags : ℕ) (r : Reached) (t : Target) (serial : ℕ) → IsTarget T oflags r t → made volume T t ≡ Ok (U, serial)
+pub opened_is : (volume : Geometry) (T U : Tree) (oflags : ℕ) (r : Reached) (t : PathTarget) (serial : ℕ) → IsTarget T oflags r t → made volume T t ≡ Ok (U, serial)
     → directory_at U serial ≡ target_is_directory t
 opened_is volume T U oflags r (targets.Entry s kind) serial h is =
     let both : ◌≡◌ {A = Tree × ℕ} (T, s) (U, serial) = pair_is T U s serial is in
@@ -274,10 +274,10 @@ opened_world w between new old table n k d e shown numbers failed alive same num
 module _ {D : Type 0} (between new : OpenedVolume D) (w : World) (m : List ℕ) (a : OpenCall) (o : Opened) (text : List ℕ) (bytes : text ≡ bytes_at m a.path a.len)
     (enters : (v : World) → v.table ≡ w.table → open_entered v m a ≡ Ok o) (r : Reached) (walked : Passes (λ v. path_at v m o a.path a.len) w between r) where
   -- what the checks on what was reached say
-  abbrev Checks : Result Target Number → Type 0
+  abbrev Checks : Result PathTarget Number → Type 0
   Checks result = (v : World) (names : List Name) → path_read text ≡ Ok names → v.volume_failed ≡ false → v ≡ with_volume between v → ChecksAs a.oflags (wants_directory text) r v new result
 
-  checked : (result : Result Target Number) → Checks result → ChecksAs a.oflags (wants_directory (bytes_at m a.path a.len)) r w new result
+  checked : (result : Result PathTarget Number) → Checks result → ChecksAs a.oflags (wants_directory (bytes_at m a.path a.len)) r w new result
   checked result checks =
       let to = walked_to w o (bytes_at m a.path a.len) r walked.is in
       subst (λ (l : List ℕ). ChecksAs a.oflags (wants_directory l) r w new result) bytes (checks w to.0 (ap path_read bytes ∙ to.1) walked.working (sym walked.same))
@@ -294,12 +294,12 @@ module _ {D : Type 0} (between new : OpenedVolume D) (w : World) (m : List ℕ) 
   pub checks_refuse : (e : Number) → Checks (Err e) → Stops (λ v. open_part v m a) w new e.0
   checks_refuse e checks = stops_open e.0 (checks_stop w a m o between new r e.0 walked (checked (Err e) checks))
 
-  pub no_place : (t : Target) → Checks (Ok t) → new_number w ≡ Err 33 → Stops (λ v. open_part v m a) w new 33
+  pub no_place : (t : PathTarget) → Checks (Ok t) → new_number w ≡ Err 33 → Stops (λ v. open_part v m a) w new 33
   no_place t checks none =
       let holds = checked (Ok t) checks in
       stops_open 33 (refuses_on w (λ v. path_at v m o a.path a.len) (λ v. after_walk v a m o) between r walked new 33 holds.2 (goes_on _ _ tt holds.0 ∙ stops _ _ 33 none))
 
-  pub finds_target : (t : Target) → Checks (Ok t) → (n : ℕ) × (new_number w ≡ Ok n) → Finds m a w new o t
+  pub finds_target : (t : PathTarget) → Checks (Ok t) → (n : ℕ) × (new_number w ≡ Ok n) → Finds m a w new o t
   finds_target t checks (n, free) =
       let holds = checked (Ok t) checks in
       record {

@@ -54,10 +54,10 @@ module _ {H : Type 0} (disk : H → Disk) (numbers : H → Superblock) (tree : H
     now = λ image may. inl may;
   })
 
-  abbrev Told : Pause → H → H → Type 0
-  Told p h h' = IsTurn (disk h) (disk h') (numbers h) (tree h) (tree h') × PauseSynced disk numbers tree honest p h' × honest h' × (numbers h' ≡ numbers h)
+  abbrev ToldEntry : Pause → H → H → Type 0
+  ToldEntry p h h' = IsTurn (disk h) (disk h') (numbers h) (tree h) (tree h') × PauseSynced disk numbers tree honest p h' × honest h' × (numbers h' ≡ numbers h)
 
-  pub told : (p : Pause) (i : Instance) (h h' : H) (c d : Configuration) → Paused H Calls i p h c h' d → honest h → Told p h h'
+  pub told : (p : Pause) (i : Instance) (h h' : H) (c d : Configuration) → Paused H Calls i p h c h' d → honest h → ToldEntry p h h'
   told (Called x e) i h h' c d (before, run, step) is_honest =
       let (m, m', used, args, a) = step_changes Calls i 0 h before (answers x e) h' d step in
       (k.turn h h' m m' used x args e a is_honest, k.synced h h' m m' used x args e a is_honest, k.stays_honest h h' m m' used x args e a is_honest, k.same_numbers h h' m m' used x args e a)

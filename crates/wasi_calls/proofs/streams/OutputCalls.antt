@@ -43,7 +43,7 @@ beginning had taken missing all parts = sym (ap (λ (l : List ℕ). take (length
     ∙ (ap (λ (l : List ℕ). take (length (had ++ taken)) l) (sym (append_assoc had taken missing)) ∙ take-append_seam (had ++ taken) missing))
 
 -- One of a host's outputs takes bytes, and nothing else of the host changes. Of these bytes `out` and `err` are what each output gets.
-pub record Takes {D R W1 W2 W : Type 0} (remaining : R → Option (List ℕ)) (out_contents : W1 → Option (List ℕ)) (err_contents : W2 → Option (List ℕ)) (contents : W → Option (List ℕ))
+pub record DescriptorKinds {D R W1 W2 W : Type 0} (remaining : R → Option (List ℕ)) (out_contents : W1 → Option (List ℕ)) (err_contents : W2 → Option (List ℕ)) (contents : W → Option (List ℕ))
     (s : StreamValue) (old new : HostState D R W1 W2) (before after : OutputValue W) : Type 0 where
   out : List ℕ → List ℕ
   err : List ℕ → List ℕ
@@ -61,7 +61,7 @@ pub record Takes {D R W1 W2 W : Type 0} (remaining : R → Option (List ℕ)) (o
   fails : (run : World → Checked Done) (w : World) (m : List ℕ) (w' : World) (m' : List ℕ) (e : ℕ) → OutputFails s run w m w' m' e → Answered run w m w' m' e
 
 module _ {D R W1 W2 : Type 0} (remaining : R → Option (List ℕ)) (out_contents : W1 → Option (List ℕ)) (err_contents : W2 → Option (List ℕ)) (old : HostState D R W1 W2) where
-  pub out_takes : (o : OutputValue W1) → Takes remaining out_contents err_contents out_contents Output old (record old { out = o }) old.out o
+  pub out_takes : (o : OutputValue W1) → DescriptorKinds remaining out_contents err_contents out_contents Output old (record old { out = o }) old.out o
   out_takes o = record {
     out = λ taken. taken;
     err = λ taken. [];
@@ -76,7 +76,7 @@ module _ {D R W1 W2 : Type 0} (remaining : R → Option (List ℕ)) (out_content
     fails = λ run w m w' m' e h. output_fails h;
   }
 
-  pub err_takes : (o : OutputValue W2) → Takes remaining out_contents err_contents err_contents Error old (record old { err = o }) old.err o
+  pub err_takes : (o : OutputValue W2) → DescriptorKinds remaining out_contents err_contents err_contents Error old (record old { err = o }) old.err o
   err_takes o = record {
     out = λ taken. [];
     err = λ taken. taken;
@@ -96,7 +96,7 @@ module _ {D R W1 W2 W : Type 0} (honest : D → Type 0) (disk : D → Disk) (sec
     (c : HostCall) (used : ℕ) (args : List ℕ) (old new : Inner D R W1 W2) (m m' : List ℕ) (fd : ℕ) (all : List ℕ) (result : ℕ)
     (h : IsSetUp remaining old) (buffers : MOST_BUFFERS ≤ vec_capacity new.buffers) (piece : INPUT_PIECE ≤ vec_capacity new.piece)
     (state : state_of new ≡ state_of (record old { out = new.out; err = new.err }))
-    (s : StreamValue) (before after : OutputValue W) (takes : Takes remaining out_contents err_contents contents s (state_of old) (state_of new) before after)
+    (s : StreamValue) (before after : OutputValue W) (takes : DescriptorKinds remaining out_contents err_contents contents s (state_of old) (state_of new) before after)
     (same : (v : World) → v.table ≡ table_of old.descriptors → row c v m used args ≡ written_to v fd (Stream s) all result)
     (cause : after.failed ≡ true → HasFailed c (state_of new)) (hears : HearsStreams ear (state_of old) (state_of new)) where
   abbrev run : World → Checked Done

@@ -7,7 +7,7 @@ use Rattle.std.proofs.lemmas.Bool.{lt-ltb, le-ltb}
 use Rattle.std.proofs.lemmas.List.Sums.{sum_by-cons, sum_by-append}
 use Rattle.std.specs.Io.KnownBytes.{Consumes}
 use Rattle.wasm_store.specs.Bytes.{written}
-use Rattle.vol_body.specs.declared.source.Span.{Span}
+use Rattle.vol_body.specs.declared.source.MemorySpan.{MemorySpan}
 use Rattle.wasi_calls.specs.Checks.{Buffer, put, total, scattered}
 use Rattle.wasi_calls.specs.internal.checks.Buffers.{pair_of, list_of}
 use Rattle.wasi_calls.specs.internal.streams.Inputs.{Came, SomeCame, Dealt, SomeDealt}
@@ -162,17 +162,17 @@ dealt_rest a b m m1 bs rest n x =
 
 -- ---- the buffers of a call
 
-push_listed : (bs : List Span) (i : ℕ) (d : Span) → i < length bs → list_of (take (i + 1) bs) ≡ list_of (take i bs) ++ pair_of (get_or bs i d) ∷ []
+push_listed : (bs : List MemorySpan) (i : ℕ) (d : MemorySpan) → i < length bs → list_of (take (i + 1) bs) ≡ list_of (take i bs) ++ pair_of (get_or bs i d) ∷ []
 push_listed bs i d h = ap list_of (rw add-one (take-suc bs i d h)) ∙ map-append pair_of (take i bs) (get_or bs i d ∷ [])
 
-pub dealt_more : (a b c : Option (List ℕ)) (m m1 m2 : List ℕ) (bs : List Span) (i n k : ℕ) (d : Span) → i < length bs
+pub dealt_more : (a b c : Option (List ℕ)) (m m1 m2 : List ℕ) (bs : List MemorySpan) (i n k : ℕ) (d : MemorySpan) → i < length bs
     → Dealt a b m (list_of (take i bs)) m1 n → Came b c m1 (get_or bs i d).pointer (get_or bs i d).len m2 k → (n ≡ total (list_of (take i bs))) ⊎ (k ≡ 0)
     → Dealt a c m (list_of (take (i + 1) bs)) m2 (n + k)
 dealt_more a b c m m1 m2 bs i n k d h x y full =
     subst (λ (l : List Buffer). Dealt a c m l m2 (n + k)) (sym (push_listed bs i d h)) (dealt_push a b c m m1 m2 (list_of (take i bs)) (pair_of (get_or bs i d)) n k x y full)
 
 -- the reader failed in this buffer
-pub dealt_fails : (a b c : Option (List ℕ)) (m m1 m2 : List ℕ) (bs : List Span) (i n : ℕ) (d : Span) → i < length bs
+pub dealt_fails : (a b c : Option (List ℕ)) (m m1 m2 : List ℕ) (bs : List MemorySpan) (i n : ℕ) (d : MemorySpan) → i < length bs
     → Dealt a b m (list_of (take i bs)) m1 n → SomeCame b c m1 (get_or bs i d).pointer (get_or bs i d).len m2 → n ≡ total (list_of (take i bs)) → SomeDealt a c m (list_of bs) m2
 dealt_fails a b c m m1 m2 bs i n d h x y full =
     let some = dealt_more a b c m m1 m2 bs i n y.count d h x y.came (inl full) in

@@ -5,7 +5,7 @@ use Rattle.std.proofs.lemmas.Bool.{false≢true}
 use Rattle.std.proofs.lemmas.List.{map-append}
 use Rattle.std.proofs.lemmas.List.Sums.{sum_by-append}
 use Rattle.std.specs.Io.KnownBytes.{Consumes}
-use Rattle.vol_body.specs.declared.source.Span.{Span}
+use Rattle.vol_body.specs.declared.source.MemorySpan.{MemorySpan}
 use Rattle.wasi_calls.specs.World.{most_read, least_read, pieces_after}
 use Rattle.wasi_calls.specs.Checks.{Buffer, total}
 use Rattle.wasi_calls.specs.internal.checks.Buffers.{pair_of, list_of}
@@ -15,11 +15,11 @@ use Rattle.wasi_calls.proofs.streams.ReaderBytes.{put_none, dealt_rest, dealt_mo
 
 -- ---- the buffers
 
-parts_of : (bs : List Span) (n : ℕ) → list_of (take n bs) ++ list_of (drop n bs) ≡ list_of bs
+parts_of : (bs : List MemorySpan) (n : ℕ) → list_of (take n bs) ++ list_of (drop n bs) ≡ list_of bs
 parts_of bs n = sym (map-append pair_of (take n bs) (drop n bs)) ∙ ap list_of (take-append-drop n bs)
 
 -- one buffer has no more room than all
-pub room_at : (bs : List Span) (i : ℕ) (d : Span) → i < length bs → (get_or bs i d).len ≤ total (list_of bs)
+pub room_at : (bs : List MemorySpan) (i : ℕ) (d : MemorySpan) → i < length bs → (get_or bs i d).len ≤ total (list_of bs)
 room_at bs i d h =
     let f : Buffer → ℕ = λ b. b.1 in
     let sum = total_more bs i d h in
@@ -35,7 +35,7 @@ pub untouched : (a : Option (List ℕ)) (m : List ℕ) (bs : List Buffer) → De
 untouched a m bs = nothing_dealt a a m m bs (Consumes-nil a) refl
 
 -- what came stands in a buffer before which none has room
-pub dealt_once : (a c : Option (List ℕ)) (m m2 : List ℕ) (bs : List Span) (i k : ℕ) (d : Span) → i < length bs → total (list_of (take i bs)) ≡ 0
+pub dealt_once : (a c : Option (List ℕ)) (m m2 : List ℕ) (bs : List MemorySpan) (i k : ℕ) (d : MemorySpan) → i < length bs → total (list_of (take i bs)) ≡ 0
     → Came a c m (get_or bs i d).pointer (get_or bs i d).len m2 k → Dealt a c m (list_of bs) m2 k
 dealt_once a c m m2 bs i k d h empty came =
     let before : Dealt a a m (list_of (take i bs)) m 0 = untouched a m (list_of (take i bs)) in

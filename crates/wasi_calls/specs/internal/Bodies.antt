@@ -16,8 +16,8 @@ use Rattle.wasi_fd.specs.Table.{Table, table_of}
 use Rattle.wasm_store.specs.declared.call.Errno.{Errno}
 use Rattle.wasm_store.specs.declared.call.HostCall.{HostCall}
 use Rattle.wasi_calls.specs.Checks.{Refusals, any_kind, only_directories, no_directories, only_files, sized, no_streams}
-use Rattle.wasi_calls.specs.declared.checks.Takes.{Takes}
-use Rattle.wasi_calls.specs.declared.checks.Takes.TheVariants as takes
+use Rattle.wasi_calls.specs.declared.checks.DescriptorKinds.{DescriptorKinds}
+use Rattle.wasi_calls.specs.declared.checks.DescriptorKinds.TheVariants as takes
 use Rattle.wasi_calls.specs.declared.host.inner.Inner.{Inner}
 use Rattle.wasi_calls.specs.host.Settings.{settings_fit}
 use Rattle.wasi_calls.specs.World.{World}
@@ -37,7 +37,7 @@ errno_of (Ok x) = 0
 errno_of (Err e) = e.0
 
 -- what a call refuses, by the kinds that it takes
-abbrev pub refusals_of : Takes → Refusals
+abbrev pub refusals_of : DescriptorKinds → Refusals
 refusals_of takes.Any = any_kind
 refusals_of takes.Directories = only_directories
 refusals_of takes.NoDirectories = no_directories

@@ -10,7 +10,7 @@ ghost use Rattle.wasi_calls.specs.internal.checks.Buffers.{pair_of, list_of, fit
 use crate::arguments::{descriptor, word};
 use crate::checks::{check_range, check_that};
 use byteorder::{ByteOrder, LittleEndian};
-use vol_tree::Span;
+use vol_tree::MemorySpan;
 use wasi_fd::Fd;
 use wasm_store::{Errno, Memory};
 
@@ -21,18 +21,18 @@ pub(crate) const MOST_BUFFERS: usize = 1_024;
 const ENTRY_BYTES: u32 = 8;
 
 /// The buffer that an array begins with.
-fn buffer_in(array: &[u8]) -> Span
+fn buffer_in(array: &[u8]) -> MemorySpan
     requires { 8 ≤ length array.now }
     ensures { pair_of result ≡ (little_number 4 array.now, little_number 4 (drop 4 array.now)) }
 {
-    Span {
+    MemorySpan {
         pointer: LittleEndian::read_u32(array),
         len: LittleEndian::read_u32(&array[4..]),
     }
 }
 
 /// Reads this many buffers of an array into the room, which has the place.
-fn read_buffers(room: &mut Vec<Span>, array: &[u8], count: usize)
+fn read_buffers(room: &mut Vec<MemorySpan>, array: &[u8], count: usize)
     requires place { count ≤ vec_capacity room.old }
     requires whole { length array.now ≡ 8 * count }
     ensures read { list_of room.new.items ≡ buffers_in count array.now }
@@ -46,7 +46,7 @@ fn read_buffers(room: &mut Vec<Span>, array: &[u8], count: usize)
 }
 
 /// How many bytes all of them have.
-pub(crate) fn total_len(buffers: &[Span]) -> u64
+pub(crate) fn total_len(buffers: &[MemorySpan]) -> u64
     requires { length buffers.now ≤ MOST_BUFFERS }
     ensures { result ≡ total (list_of buffers.now) }
 {
@@ -58,21 +58,21 @@ pub(crate) fn total_len(buffers: &[Span]) -> u64
 }
 
 /// Whether all of them end in this many bytes.
-fn end_within(buffers: &[Span], len: usize) -> bool
+fn end_within(buffers: &[MemorySpan], len: usize) -> bool
     ensures { result ≡ list_all (λ b. nat_le (b.pointer + b.len) len) buffers.now }
 {
     buffers.iter().all(|buffer| buffer.pointer as usize + buffer.len as usize <= len)
 }
 
 /// Whether all of them lie in memory.
-fn are_inside(buffers: &[Span], memory: &Memory) -> bool
+fn are_inside(buffers: &[MemorySpan], memory: &Memory) -> bool
     ensures { result ≡ list_all (is_inside memory.now) (list_of buffers.now) }
 {
     end_within(buffers, memory.len())
 }
 
 /// Reads an array of buffers of this length and at this address.
-fn read_array(room: &mut Vec<Span>, memory: &Memory, iovs: u32, count: u32)
+fn read_array(room: &mut Vec<MemorySpan>, memory: &Memory, iovs: u32, count: u32)
     requires place { MOST_BUFFERS ≤ vec_capacity room.old }
     requires few { count ≤ MOST_BUFFERS }
     requires inside { iovs + 8 * count ≤ length memory.now }
@@ -88,7 +88,7 @@ fn read_array(room: &mut Vec<Span>, memory: &Memory, iovs: u32, count: u32)
 
 /// Whether the buffers have few enough bytes and lie in memory.
 #[tactic(auto, using(crate::proofs::checks::Chains::goes_on, crate::proofs::checks::Chains::stops))]
-fn check_buffers(buffers: &[Span], memory: &Memory) -> Result<(), Errno>
+fn check_buffers(buffers: &[MemorySpan], memory: &Memory) -> Result<(), Errno>
     requires { length buffers.now ≤ MOST_BUFFERS }
     ensures fit { MatchResult result (λ _. fit memory.now (list_of buffers.now) ≡ Ok (list_of buffers.now))
         (λ e. fit memory.now (list_of buffers.now) ≡ Err e.0) }
@@ -133,7 +133,7 @@ impl Request {
     /// Reads the buffers into the room, where all of them and the place of the result lie in memory. It takes no memory: the room
     /// has the place for as many as a call can name.
     #[tactic(auto, using(crate::proofs::checks::Chains::goes_on, crate::proofs::checks::Chains::stops))]
-    pub fn find_buffers(&self, room: &mut Vec<Span>, memory: &Memory) -> Result<(), Errno>
+    pub fn find_buffers(&self, room: &mut Vec<MemorySpan>, memory: &Memory) -> Result<(), Errno>
         requires { MOST_BUFFERS ≤ vec_capacity room.old }
         ensures found { MatchResult result
             (λ _. usable memory.now self.now.iovs self.now.count self.now.result_at ≡ Ok (list_of room.new.items))

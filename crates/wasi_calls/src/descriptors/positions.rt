@@ -14,7 +14,7 @@ ghost use Rattle.wasi_calls.specs.host.Worlds.{VolumeStep};
 ghost use Rattle.wasi_calls.specs.internal.Bodies.{KnowsEntries, NoMoreEntries, IsFileOf, errno_of, with_volume, with_table};
 ghost use Rattle.wasi_calls.specs.internal.descriptors.Positions.{seekable, position_at, TellsFrom, FailsFrom, IsOpenAs};
 
-use crate::checks::{Takes, check_range, check_that, described, opened_of, write_bytes};
+use crate::checks::{DescriptorKinds, check_range, check_that, described, opened_of, write_bytes};
 use crate::errno::{NOTCAPABLE, OVERFLOW, refused};
 use crate::numbers::le64;
 use bitflags::Flags;
@@ -59,7 +59,7 @@ fn file_to_move<'t>(
         (λ e. seekable w memory.now fd delta whence result_at ≡ Err e.0) }
 {
     let descriptor = described(descriptors, fd)?;
-    Takes::Files.check(&descriptor)?;
+    DescriptorKinds::Files.check(&descriptor)?;
     check_seek(&descriptor, delta, whence)?;
     check_that(whence <= 2, Errno::INVAL)?;
     check_range(memory, result_at, 8)?;
@@ -223,7 +223,7 @@ pub(crate) fn fd_tell(
     ensures { (w : World) → w.table ≡ table_of descriptors.now → Answers (tell w memory.old fd result_at) w memory.old w memory.new (errno_of result) }
 {
     let descriptor = described(descriptors, fd)?;
-    Takes::Files.check(&descriptor)?;
+    DescriptorKinds::Files.check(&descriptor)?;
     check_tell(&descriptor)?;
     check_range(memory, result_at, 8)?;
     let opened = opened_of(descriptor)?;

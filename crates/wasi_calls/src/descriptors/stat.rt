@@ -12,7 +12,7 @@ ghost use Rattle.wasi_calls.specs.Calls.{Answered, is_entry};
 ghost use Rattle.wasi_calls.specs.host.Worlds.{VolumeStep};
 ghost use Rattle.wasi_calls.specs.internal.Bodies.{KnowsEntries, errno_of, with_volume, type_of_entry};
 
-use crate::checks::{Takes, allowed, check_range, write_bytes};
+use crate::checks::{DescriptorKinds, allowed, check_range, write_bytes};
 use crate::errno::refused;
 use crate::numbers::le64;
 use crate::streams::Terminals;
@@ -93,7 +93,12 @@ pub(crate) fn filestat_get<D: Device>(
         → w.interactive ≡ interactive
         → Answered (λ v. stat_row v memory.old fd result_at) w memory.old (with_volume volume.new w) memory.new (errno_of result) }
 {
-    let descriptor = match allowed(descriptors, fd, Takes::Any, Rights::FD_FILESTAT_GET) {
+    let descriptor = match allowed(
+        descriptors,
+        fd,
+        DescriptorKinds::Any,
+        Rights::FD_FILESTAT_GET,
+    ) {
         Ok(descriptor) => descriptor,
         Err(errno) => return Err(errno),
     };

@@ -8,7 +8,7 @@ ghost use Rattle.wasm_store.specs.declared.call.HostCall.TheVariants as call;
 
 use crate::arguments::{descriptor, long};
 use crate::checks::buffers::Request;
-use crate::checks::{Takes, allowed};
+use crate::checks::{DescriptorKinds, allowed};
 use crate::errno::NOTCAPABLE;
 use crate::files;
 use crate::files::listing::ListCall;
@@ -31,7 +31,7 @@ impl<'s, 't, D: Device, R: Inlet, W1: Outlet, W2: Outlet> Inner<'s, 't, D, R, W1
         ensures { (used : _) → Serves D.honest D.disk D.size D.failures D.goes_on R.remaining W1.contents W2.contents (hearing R.gave R.refused W1.took W1.refused W2.took W2.refused) call.FdRead used arguments.now self.old memory.old self.new memory.new (errno_of result) }
     {
         let request = Request::new(arguments, 3);
-        let takes = Takes::NoDirectories;
+        let takes = DescriptorKinds::NoDirectories;
         let target = match allowed(&self.descriptors, request.fd, takes, Rights::FD_READ) {
             Ok(target) => target,
             Err(errno) => return Err(errno),
@@ -85,7 +85,7 @@ impl<'s, 't, D: Device, R: Inlet, W1: Outlet, W2: Outlet> Inner<'s, 't, D, R, W1
         ensures { (used : _) → Serves D.honest D.disk D.size D.failures D.goes_on R.remaining W1.contents W2.contents (hearing R.gave R.refused W1.took W1.refused W2.took W2.refused) call.FdWrite used arguments.now self.old memory.old self.new memory.new (errno_of result) }
     {
         let request = Request::new(arguments, 3);
-        let takes = Takes::NoDirectories;
+        let takes = DescriptorKinds::NoDirectories;
         let target = match allowed(&self.descriptors, request.fd, takes, Rights::FD_WRITE) {
             Ok(target) => target,
             Err(errno) => return Err(errno),

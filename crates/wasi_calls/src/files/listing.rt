@@ -17,7 +17,7 @@ ghost use Rattle.wasi_calls.specs.internal.files.Reading.{IsBegun};
 ghost use Rattle.wasi_calls.specs.internal.files.Listing.{listable, header, told_bytes, TellsNext};
 
 use crate::arguments::{descriptor, long, word};
-use crate::checks::{Takes, check_range, entry_at, write_bytes};
+use crate::checks::{DescriptorKinds, check_range, entry_at, write_bytes};
 use crate::descriptors::stat::type_of_entry;
 use crate::errno::refused;
 use crate::numbers::{le32, le64};
@@ -55,7 +55,7 @@ impl ListCall {
 
 /// An entry that is told: its serial, and bytes that begin with its `dirent`.
 #[derive(Clone, Copy)]
-struct Told {
+struct ToldEntry {
     serial: Serial,
     /// How many bytes the `dirent` has, from 24 to 279.
     len: usize,
@@ -85,7 +85,7 @@ fn join(bytes: &mut [u8], beginning: &[u8], rest: &[u8])
 }
 
 /// The `dirent` of an entry.
-fn describe(serial: Serial, stat: &Stat) -> Told
+fn describe(serial: Serial, stat: &Stat) -> ToldEntry
     ensures serial { result.serial ≡ serial }
     ensures least { 24 ≤ result.len }
     ensures most { result.len ≤ 279 }
@@ -95,7 +95,7 @@ fn describe(serial: Serial, stat: &Stat) -> Told
     let mut bytes = [0; 279];
     join(&mut bytes, &beginning, &stat.name);
     let len = 24 + stat.name_length as usize;
-    Told { serial, len, bytes }
+    ToldEntry { serial, len, bytes }
 }
 
 /// The entry that a list goes on with after a serial.
@@ -103,7 +103,7 @@ fn next_told<D: Device>(
     volume: &mut Volume<D>,
     directory: Serial,
     after: u32,
-) -> Result<Option<Told>, vol_tree::Errno>
+) -> Result<Option<ToldEntry>, vol_tree::Errno>
     ensures asked { Asked D.honest D.disk D.size D.failures D.goes_on volume.old volume.new
         (is_io result) }
     ensures told { D.honest volume.old.device → MatchResult result
@@ -253,7 +253,7 @@ fn directory_to_list<'t>(
     let opened = entry_at(
         descriptors,
         asked.fd,
-        Takes::Directories,
+        DescriptorKinds::Directories,
         Rights::FD_READDIR,
     )?;
     check_range(memory, asked.buffer, asked.len)?;

@@ -18,18 +18,18 @@ ghost use Rattle.wasi_calls.specs.internal.files.Reading.{limited_buffers, IsStr
 ghost use Rattle.wasi_calls.specs.declared.checks.buffers.TheConstants.{MOST_BUFFERS};
 
 use crate::checks::buffers::{Request, total_len};
-use crate::checks::{Takes, entry_at, write_bytes};
+use crate::checks::{DescriptorKinds, entry_at, write_bytes};
 use crate::descriptors::positions::{move_to, size_of};
 use crate::errno::refused;
 use crate::numbers::le32;
 use bitflags::Flags;
 use vol_sector::Device;
-use vol_tree::{Serial, Span, Volume};
+use vol_tree::{MemorySpan, Serial, Volume};
 use wasi_fd::{Descriptor, Descriptors, Fd, Opened, Rights};
 use wasm_store::{Errno, Memory};
 
 /// Cuts the buffers to this many bytes in all.
-pub(crate) fn cut_to(buffers: &mut [Span], len: u32)
+pub(crate) fn cut_to(buffers: &mut [MemorySpan], len: u32)
     ensures { list_of buffers.new ≡ limited_buffers len (list_of buffers.old) }
 {
     let mut left = len;
@@ -50,7 +50,7 @@ enum Stretch {
 }
 
 /// How far the places from one on are all in later buffers, or none of them is.
-fn stretch_from(at: usize, end: usize, later: &[Span]) -> Stretch
+fn stretch_from(at: usize, end: usize, later: &[MemorySpan]) -> Stretch
     requires { at < end }
     ensures { IsStretch at end (list_of later.now) result }
 {
@@ -104,7 +104,7 @@ fn fill_stretch<D: Device>(
     memory: &mut Memory,
     place: usize,
     end: usize,
-    later: &[Span],
+    later: &[MemorySpan],
 ) -> Result<usize, vol_tree::Errno>
     requires file { IsFileOf D.honest volume.old serial }
     requires works { volume.old.failed ≡ false }
@@ -137,8 +137,8 @@ fn fill_buffer<D: Device>(
     serial: Serial,
     from: u64,
     memory: &mut Memory,
-    buffer: Span,
-    later: &[Span],
+    buffer: MemorySpan,
+    later: &[MemorySpan],
 ) -> Result<(), vol_tree::Errno>
     requires file { IsFileOf D.honest volume.old serial }
     requires works { volume.old.failed ≡ false }
@@ -172,7 +172,7 @@ fn fill_buffers<D: Device>(
     serial: Serial,
     from: u64,
     memory: &mut Memory,
-    buffers: &[Span],
+    buffers: &[MemorySpan],
 ) -> Result<(), vol_tree::Errno>
     requires file { IsFileOf D.honest volume.old serial }
     requires works { volume.old.failed ≡ false }
@@ -216,7 +216,7 @@ pub(crate) fn read_at<D: Device>(
     serial: Serial,
     from: u64,
     memory: &mut Memory,
-    buffers: &mut [Span],
+    buffers: &mut [MemorySpan],
 ) -> Result<u32, vol_tree::Errno>
     requires file { IsFileOf D.honest volume.old serial }
     requires few { length buffers.old ≤ MOST_BUFFERS }
@@ -254,7 +254,7 @@ pub(crate) fn file_to_read<'t>(descriptors: &Descriptors<'t>, fd: Fd) -> Result<
         (λ e. entry w fd only_files (2 ^ 1 + 2 ^ 2) ≡ Err e.0) }
 {
     let rights = Rights::FD_READ.union(Rights::FD_SEEK);
-    entry_at(descriptors, fd, Takes::Files, rights)
+    entry_at(descriptors, fd, DescriptorKinds::Files, rights)
 }
 
 /// Reads the bytes of an open file from a place on into the buffers of a call, which are cut to what was read, and then writes
@@ -265,7 +265,7 @@ pub(crate) fn read_placed<D: Device>(
     opened: &Opened<'_>,
     from: u64,
     request: &Request,
-    buffers: &mut [Span],
+    buffers: &mut [MemorySpan],
 ) -> Result<(), Errno>
     requires file { IsFileOf D.honest volume.old opened.now.serial }
     requires few { length buffers.old ≤ MOST_BUFFERS }
@@ -292,7 +292,7 @@ pub(crate) fn read_file<'t, D: Device>(
     memory: &mut Memory,
     opened: &Opened<'t>,
     request: &Request,
-    buffers: &mut [Span],
+    buffers: &mut [MemorySpan],
 ) -> Result<(), Errno>
     requires file { IsFileOf D.honest volume.old opened.now.serial }
     requires open { table_of descriptors.old request.now.fd ≡ Some (Descriptor.Entry opened.now) }

@@ -19,14 +19,14 @@ ghost use Rattle.wasi_calls.specs.internal.descriptors.Positions.{IsOpenAs};
 ghost use Rattle.wasi_calls.specs.declared.checks.buffers.TheConstants.{MOST_BUFFERS};
 
 use crate::checks::buffers::{Request, total_len};
-use crate::checks::{Takes, entry_at, write_bytes};
+use crate::checks::{DescriptorKinds, entry_at, write_bytes};
 use crate::descriptors::positions::{move_to, size_of};
 use crate::errno::refused;
 use crate::numbers::le32;
 use bitflags::Flags;
 use vol_body::PIECE;
 use vol_sector::Device;
-use vol_tree::{Serial, Source, Span, Volume};
+use vol_tree::{MemorySpan, Serial, Source, Volume};
 use wasi_fd::{Descriptor, Descriptors, Fd, Opened, Rights};
 use wasm_store::{Errno, Memory};
 
@@ -36,7 +36,7 @@ fn put_bytes<D: Device>(
     serial: Serial,
     at: u64,
     memory: &Memory,
-    buffers: &[Span],
+    buffers: &[MemorySpan],
 ) -> Result<u32, vol_tree::Errno>
     requires file { IsFileOf D.honest volume.old serial }
     requires few { length buffers.now ≤ MOST_BUFFERS }
@@ -66,7 +66,7 @@ pub(crate) fn file_to_write<'t>(descriptors: &Descriptors<'t>, fd: Fd) -> Result
         (λ e. entry w fd only_files (2 ^ 6 + 2 ^ 2) ≡ Err e.0) }
 {
     let rights = Rights::FD_WRITE.union(Rights::FD_SEEK);
-    entry_at(descriptors, fd, Takes::Files, rights)
+    entry_at(descriptors, fd, DescriptorKinds::Files, rights)
 }
 
 /// Writes what stands in the buffers to an open file at a place, and then how many bytes that is.
@@ -75,7 +75,7 @@ pub(crate) fn write_at<D: Device>(
     memory: &mut Memory,
     opened: &Opened<'_>,
     at: u64,
-    buffers: &[Span],
+    buffers: &[MemorySpan],
     result_at: u32,
 ) -> Result<(), Errno>
     requires file { IsFileOf D.honest volume.old opened.now.serial }
@@ -130,7 +130,7 @@ fn write_on<'t, D: Device>(
     memory: &mut Memory,
     opened: &Opened<'t>,
     request: &Request,
-    buffers: &[Span],
+    buffers: &[MemorySpan],
 ) -> Result<(), Errno>
     requires file { IsFileOf D.honest volume.old opened.now.serial }
     requires open { IsOpenAs (table_of descriptors.old) request.now.fd opened.now }
@@ -163,7 +163,7 @@ pub(crate) fn write_file<'t, D: Device>(
     memory: &mut Memory,
     opened: &Opened<'t>,
     request: &Request,
-    buffers: &[Span],
+    buffers: &[MemorySpan],
 ) -> Result<(), Errno>
     requires file { IsFileOf D.honest volume.old opened.now.serial }
     requires open { table_of descriptors.old request.now.fd ≡ Some (Descriptor.Entry opened.now) }

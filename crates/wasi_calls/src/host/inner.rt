@@ -7,7 +7,7 @@ use crate::host::wasi_host::HostParts;
 use crate::streams::{Input, Output, Terminals};
 use rand_chacha::ChaCha20Rng;
 use vol_sector::Device;
-use vol_tree::{Span, Volume};
+use vol_tree::{MemorySpan, Volume};
 use wasi_fd::Descriptors;
 
 /// What a host keeps, of which nothing is known.
@@ -25,7 +25,7 @@ pub(crate) struct Inner<'s, 't, D: Device, R, W1, W2> {
     /// Which streams are terminals, where reads of the input give what is there.
     pub interactive: Option<Terminals>,
     /// Place for the buffers of a call.
-    pub buffers: Vec<Span>,
+    pub buffers: Vec<MemorySpan>,
     /// Place for the bytes of a call.
     pub piece: Vec<u8>,
 }

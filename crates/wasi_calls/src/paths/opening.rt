@@ -21,7 +21,7 @@ ghost use Rattle.path_walk.specs.Walk.{Asked};
 ghost use Rattle.wasi_calls.specs.internal.paths.Opening.{flags_checked, found_checked, missing_checked, open_entered, IsTarget, LeadsToSerial, CanOpen, made, ChecksAs, Targets, AreSerials, with_both};
 
 use crate::arguments::{descriptor, long, word};
-use crate::checks::{Takes, check_range, check_that, entry_at, write_bytes};
+use crate::checks::{DescriptorKinds, check_range, check_that, entry_at, write_bytes};
 use crate::errno::{EXIST, ISDIR, MFILE, NOENT, NOTDIR, NOTSUP, refused};
 use crate::numbers::le32;
 use crate::paths::reach;
@@ -80,7 +80,7 @@ impl OpenCall {
 
 /// What a path opens.
 #[derive(Drop)]
-pub(crate) enum Target<'p> {
+pub(crate) enum PathTarget<'p> {
     /// An entry as it is.
     Entry { serial: Serial, kind: EntryKind },
     /// A file, whose bytes go.
@@ -137,7 +137,7 @@ fn enter_open<'t, 'm>(
     ensures inside { OnOk result (asked.now.result_at + 4 ≤ length memory.now) }
 {
     let rights = open_rights(asked.oflags);
-    let opened = entry_at(descriptors, asked.fd, Takes::Directories, rights)?;
+    let opened = entry_at(descriptors, asked.fd, DescriptorKinds::Directories, rights)?;
     check_flags(asked.oflags, asked.fdflags)?;
     check_range(memory, asked.path, asked.len)?;
     check_range(memory, asked.result_at, 4)?;
@@ -172,22 +172,22 @@ fn check_missing(oflags: u32, slash: bool) -> Result<(), Errno>
 }
 
 /// How a directory, or a file, is opened.
-fn found_as<'p>(oflags: u32, serial: Serial, is_directory: bool) -> Target<'p>
+fn found_as<'p>(oflags: u32, serial: Serial, is_directory: bool) -> PathTarget<'p>
     ensures at { LeadsToSerial serial result }
     ensures target { (T : Tree) → directory_at T serial ≡ is_directory → IsTarget T oflags (Found serial) result }
 {
     if is_directory {
         let kind = EntryKind::Directory;
-        return Target::Entry { serial, kind };
+        return PathTarget::Entry { serial, kind };
     }
     if is_set(oflags, TRUNC) {
-        return Target::Cut(serial);
+        return PathTarget::Cut(serial);
     }
     let kind = EntryKind::File;
-    Target::Entry { serial, kind }
+    PathTarget::Entry { serial, kind }
 }
 
-impl<'p> Target<'p> {
+impl<'p> PathTarget<'p> {
     ghost use Rattle.wasi_calls.specs.internal.paths.Opening.{target_is_directory as is_directory_row};
 
     /// Whether it is a directory.
@@ -195,7 +195,7 @@ impl<'p> Target<'p> {
         ensures { result ≡ is_directory_row self.now }
     {
         match self {
-            Target::Entry { serial: _, kind } => match kind {
+            PathTarget::Entry { serial: _, kind } => match kind {
                 EntryKind::Directory => true,
                 EntryKind::File => false,
             },
@@ -249,7 +249,7 @@ fn found_target<'p, D: Device>(
     volume: &mut Volume<D>,
     oflags: u32,
     serial: Serial,
-) -> Result<Target<'p>, Errno>
+) -> Result<PathTarget<'p>, Errno>
     requires { IsEntryOf D.honest volume.old serial }
     ensures step { VolumeStep D.honest D.disk D.size D.failures D.goes_on volume.old volume.new }
     ensures io { errno_of result ≡ 29 → volume.new.failed ≡ true }
@@ -274,7 +274,7 @@ fn reached_target<'p, D: Device>(
     oflags: u32,
     text: &[u8],
     reached: Reached<'p>,
-) -> Result<Target<'p>, Errno>
+) -> Result<PathTarget<'p>, Errno>
     requires works { volume.old.failed ≡ false }
     requires reached { IsReached D.honest volume.old reached }
     requires place { D.honest volume.old.device → Places volume.old.tree (Ok reached) }
@@ -288,7 +288,7 @@ fn reached_target<'p, D: Device>(
     match reached {
         Reached::Found(serial) => found_target(volume, oflags, Serial::new(serial)),
         Reached::Missing { parent, name } => match check_missing(oflags, ends_open(text)) {
-            Ok(()) => Ok(Target::New {
+            Ok(()) => Ok(PathTarget::New {
                 parent: Serial::new(parent),
                 name,
             }),
@@ -303,7 +303,7 @@ fn find_target<'t, 'm, D: Device>(
     descriptors: &Descriptors<'t>,
     memory: &'m Memory,
     asked: &OpenCall,
-) -> Result<(Opened<'t>, Target<'m>), Errno>
+) -> Result<(Opened<'t>, PathTarget<'m>), Errno>
     requires { KnowsEntries D.honest volume.old (table_of descriptors.now) }
     ensures step { VolumeStep D.honest D.disk D.size D.failures D.goes_on volume.old volume.new }
     ensures io { errno_of result ≡ 29 → volume.new.failed ≡ true }
@@ -332,7 +332,10 @@ fn find_target<'t, 'm, D: Device>(
 }
 
 /// Makes the file or cuts it, and says which entry is opened.
-fn settle<D: Device>(volume: &mut Volume<D>, target: &Target<'_>) -> Result<Serial, vol_tree::Errno>
+fn settle<D: Device>(
+    volume: &mut Volume<D>,
+    target: &PathTarget<'_>,
+) -> Result<Serial, vol_tree::Errno>
     requires works { volume.old.failed ≡ false }
     requires can { CanOpen D.honest volume.old target.now }
     ensures answer { D.honest volume.old.device
@@ -344,12 +347,12 @@ fn settle<D: Device>(volume: &mut Volume<D>, target: &Target<'_>) -> Result<Seri
     ensures goes_on { GoesOn D.goes_on volume.old volume.new }
 {
     match target {
-        Target::Entry { serial, kind: _ } => Ok(*serial),
-        Target::Cut(serial) => match volume.set_size(*serial, 0) {
+        PathTarget::Entry { serial, kind: _ } => Ok(*serial),
+        PathTarget::Cut(serial) => match volume.set_size(*serial, 0) {
             Ok(()) => Ok(*serial),
             Err(errno) => Err(errno),
         },
-        Target::New { parent, name } => volume.create_file(*parent, name),
+        PathTarget::New { parent, name } => volume.create_file(*parent, name),
     }
 }
 

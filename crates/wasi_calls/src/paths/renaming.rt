@@ -23,7 +23,7 @@ ghost use Rattle.wasi_calls.specs.internal.paths.Renaming.{AreFacts, replace_che
 ghost use Rattle.wasi_calls.specs.internal.paths.Climbing.{IsAbove};
 
 use crate::arguments::{descriptor, word};
-use crate::checks::{Takes, check_range, check_rights, check_that, described, opened_of};
+use crate::checks::{DescriptorKinds, check_range, check_rights, check_that, described, opened_of};
 use crate::errno::{BUSY, ISDIR, NOENT, NOTDIR, NOTEMPTY, refused};
 use crate::paths::reach;
 use crate::paths::removing::is_held;
@@ -347,8 +347,8 @@ fn both_allowed<'t>(
 {
     let source = described(descriptors, asked.from_fd)?;
     let target = described(descriptors, asked.to_fd)?;
-    Takes::Directories.check(&source)?;
-    Takes::Directories.check(&target)?;
+    DescriptorKinds::Directories.check(&source)?;
+    DescriptorKinds::Directories.check(&target)?;
     check_rights(&source, Rights::PATH_RENAME_SOURCE)?;
     match check_rights(&target, Rights::PATH_RENAME_TARGET) {
         Ok(()) => Ok((source, target)),

@@ -15,7 +15,7 @@ use crate::checks::write_bytes;
 use crate::numbers::le32;
 use crate::streams::Input;
 use stream_answers::Inlet;
-use vol_tree::Span;
+use vol_tree::MemorySpan;
 use wasm_store::{Errno, Memory};
 
 /// How many bytes a call takes from the input at once. They come into a piece of our own, and from there into memory, since no
@@ -142,7 +142,7 @@ fn fill_next<R: Inlet>(
     input: &mut Input<R>,
     piece: &mut [u8],
     memory: &mut Memory,
-    buffer: Span,
+    buffer: MemorySpan,
 ) -> Result<usize, ReaderFailed>
     // The groups of `fill`, with how many bytes there may be (`small`) and `none` after the end.
     requires room { 0 < length piece.old }
@@ -172,7 +172,7 @@ fn fill_buffers<R: Inlet>(
     input: &mut Input<R>,
     piece: &mut [u8],
     memory: &mut Memory,
-    buffers: &[Span],
+    buffers: &[MemorySpan],
 ) -> Result<usize, ReaderFailed>
     // The groups of `fill_next`, for all buffers: asked for (`room` to `end`); of an `Ok` (`dealt`, `full`, `short`, `none`); of an
     // `Err` (`still`, `broke`); of both (`long`, `end`, `mark`).
@@ -202,7 +202,7 @@ fn fill_buffers<R: Inlet>(
 }
 
 /// The place of the first buffer that has room.
-fn first_with_room(buffers: &[Span]) -> Option<usize>
+fn first_with_room(buffers: &[MemorySpan]) -> Option<usize>
     ensures { MatchOption result (total (list_of buffers.now) ≡ 0) (IsFirstWithRoom buffers.now) }
 {
     for index in 0..buffers.len() {
@@ -219,7 +219,7 @@ fn read_once<R: Inlet>(
     input: &mut Input<R>,
     piece: &mut [u8],
     memory: &mut Memory,
-    buffers: &[Span],
+    buffers: &[MemorySpan],
 ) -> Result<usize, ReaderFailed>
     // The groups of `fill_buffers`: asked for (`room` to `end`); of an `Ok` (`dealt`, `some`, `short`, `none`); of an `Err` (`still`,
     // `broke`); of both (`long`, `end`, `mark`).
@@ -262,7 +262,7 @@ fn read_buffers<R: Inlet>(
     input: &mut Input<R>,
     piece: &mut [u8],
     memory: &mut Memory,
-    buffers: &[Span],
+    buffers: &[MemorySpan],
     short: bool,
 ) -> Result<usize, ReaderFailed>
     // The groups of `fill_buffers`.
@@ -294,7 +294,7 @@ pub(crate) fn read_stream<R: Inlet>(
     input: &mut Input<R>,
     piece: &mut [u8],
     memory: &mut Memory,
-    buffers: &[Span],
+    buffers: &[MemorySpan],
     result_at: u32,
     short: bool,
 ) -> Result<(), Errno>

@@ -16,7 +16,7 @@ use crate::checks::write_bytes;
 use crate::numbers::le32;
 use crate::streams::Output;
 use stream_answers::Outlet;
-use vol_tree::Span;
+use vol_tree::MemorySpan;
 use wasm_store::{Errno, Memory};
 
 /// A writer has failed.
@@ -46,7 +46,7 @@ fn hand<W: Outlet>(writer: &mut W, bytes: &[u8]) -> Result<(), WriterFailed>
 fn hand_buffers<W: Outlet>(
     writer: &mut W,
     memory: &Memory,
-    buffers: &[Span],
+    buffers: &[MemorySpan],
 ) -> Result<(), WriterFailed>
     requires { list_all (is_inside memory.now) (list_of buffers.now) ≡ true }
     ensures all { OnOk result (Appends (W.contents writer.old) (W.contents writer.new) (gathered memory.now (list_of buffers.now))) }
@@ -68,7 +68,7 @@ fn hand_buffers<W: Outlet>(
 pub(crate) fn write_stream<W: Outlet>(
     output: &mut Output<W>,
     memory: &mut Memory,
-    buffers: &[Span],
+    buffers: &[MemorySpan],
     result_at: u32,
 ) -> Result<(), Errno>
     requires few { length buffers.now ≤ MOST_BUFFERS }

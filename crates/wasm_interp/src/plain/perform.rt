@@ -12,7 +12,7 @@ use crate::plain::halt::Halt;
 use crate::plain::operands::{operand, pop, push, unwind};
 use crate::plain::work::work;
 use crate::state::State;
-use wasm_branch::{Table as BodyTargets, Target};
+use wasm_branch::{Target, TargetTable as BodyTargets};
 use wasm_module::Instruction;
 
 impl State {

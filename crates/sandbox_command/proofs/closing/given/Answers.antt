@@ -1,7 +1,7 @@
 use Rattle.std.proofs.Common.{List, ℕ, Option, Some, codes, inr, sym, subst}
 use Rattle.std.specs.Borrow.{Bor}
-use Rattle.sandbox_words.specs.Request.{Text}
-use Rattle.volume_tasks.specs.Exporting.{PerformsExport}
+use Rattle.sandbox_args.specs.Request.{Text}
+use Rattle.vol_commands.specs.Exporting.{PerformsExport}
 use Rattle.sandbox_command.specs.Alone.{Gives, IsHandedOver}
 use Rattle.sandbox_command.specs.Around.{in_memory}
 use Rattle.sandbox_command.proofs.closing.given.Goals as goal

@@ -1,6 +1,6 @@
 use Rattle.std.proofs.Common.{◌∙◌, Result, ap, refl, sym, subst}
 use Rattle.std.specs.Prelude.{option_map}
-use Rattle.volume_tasks.specs.declared.exporting.ExportFailure.{ExportFailure}
+use Rattle.vol_commands.specs.declared.exporting.ExportFailure.{ExportFailure}
 use Rattle.sandbox_command.specs.Alone.{IsHandedOver, ungiven}
 use Rattle.sandbox_command.specs.Status.{export_status}
 use Rattle.sandbox_command.proofs.closing.handed_over.Goals as goal

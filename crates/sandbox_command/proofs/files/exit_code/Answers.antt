@@ -2,9 +2,9 @@ use Rattle.std.proofs.Common.{ℕ, List, Option, Some, None, IsSomeAnd, inl, inr
 use Rattle.std.specs.IoError.{error_kind}
 use Rattle.clap.specs.Values.{kind_of}
 use Rattle.clap.specs.Words.{Row, subcommand_of}
-use Rattle.sandbox_words.specs.declared.request.Invocation.{Invocation}
-use Rattle.sandbox_words.specs.CommandLine.{AsksFor, program}
-use Rattle.sandbox_words.specs.Request.{Text}
+use Rattle.sandbox_args.specs.declared.request.Invocation.{Invocation}
+use Rattle.sandbox_args.specs.CommandLine.{AsksFor, program}
+use Rattle.sandbox_args.specs.Request.{Text}
 use Rattle.sandbox_command.specs.Around.{calling, flushing}
 use Rattle.sandbox_command.specs.Files.{IsAnswered}
 use Rattle.stream_answers.specs.System.{HasRefused, WasGiven}

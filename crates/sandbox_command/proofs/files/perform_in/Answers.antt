@@ -1,6 +1,6 @@
 use Rattle.std.proofs.Common.{Option, sym, subst, true≢false, ◌∙◌}
 use Rattle.std.specs.Borrow.{Bor}
-use Rattle.sandbox_words.specs.Request.{Text}
+use Rattle.sandbox_args.specs.Request.{Text}
 use Rattle.sandbox_command.specs.Around.{around, calling, flushing}
 use Rattle.sandbox_command.specs.Files.{RunsNamed}
 use Rattle.sandbox_command.proofs.Finishing.{alone_within, run_performed}

@@ -1,14 +1,14 @@
 use Rattle.std.proofs.Common.{◌≡◌, true, sym, subst}
 use Rattle.stream_answers.specs.Hearing.{Hears, Moves}
-use Rattle.volume_tasks.specs.Blame.{IsCause}
-use Rattle.volume_tasks.specs.Doing.{Performs, reads_input}
-use Rattle.volume_tasks.specs.Going.{FormatsWithin, KeepsWithin}
-use Rattle.volume_tasks.specs.Exporting.{PerformsExport}
-use Rattle.volume_tasks.specs.Importing.{PerformsImport, blames_input}
+use Rattle.vol_commands.specs.Blame.{IsCause}
+use Rattle.vol_commands.specs.Doing.{Performs, reads_input}
+use Rattle.vol_commands.specs.Going.{FormatsWithin, KeepsWithin}
+use Rattle.vol_commands.specs.Exporting.{PerformsExport}
+use Rattle.vol_commands.specs.Importing.{PerformsImport, blames_input}
 use Rattle.sandbox_command.specs.declared.work.VolumeWork.{VolumeWork}
 use Rattle.sandbox_command.specs.Around.{calls_of}
 use Rattle.sandbox_command.specs.Execution.{Executes, StaysWithin}
-use Rattle.volume_tasks.proofs.Flushed.{performs_flushed}
+use Rattle.vol_commands.proofs.Flushed.{performs_flushed}
 use Rattle.sandbox_command.proofs.AfterFlush.{export_flushed}
 use Rattle.sandbox_command.proofs.program.execute.Goals as goal
 

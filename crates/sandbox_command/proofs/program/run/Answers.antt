@@ -3,7 +3,7 @@ use Rattle.wasm_module.specs.declared.profile.Profile.{Profile}
 use Rattle.wasm_module.specs.declared.module.Module.{Module}
 use Rattle.wasm_module.specs.Module.{SpellsWith}
 use Rattle.wasm_valid.specs.Validity.{IsValid}
-use Rattle.run_report.specs.declared.fault.Fault.{Fault}
+use Rattle.sandbox_report.specs.declared.fault.Fault.{Fault}
 use Rattle.wasi_calls.specs.host.Worlds.{hearing}
 use Rattle.sandbox_command.specs.Execution.{IsUntouched}
 use Rattle.sandbox_command.specs.Modules.{profile_for}

@@ -20,7 +20,7 @@ pub returns-then-count-eq0 : goal.returns-then-count-eq0
 returns-then-count-eq0 g c =
     let came = c.in_ok-count.ensures.gave in
     inr (at_end g.R.Inlet.gave _ c.loop-left.bytes.items c.loop-left.input came.0 c.read_more.new.bytes.items c.read_more.new.input c.in_ok-count.count
-        came.1 c.if-count-eq0.true came.2 came.3 c.loop-left.invariant.gave)
+    came.1 c.if-count-eq0.true came.2 came.3 c.loop-left.invariant.gave)
 
 pub returns : goal.returns
 returns g c = inl (c.loop-left.invariant.gave, omega (arith, c.loop-left.invariant.count, c.loop-left-test.false))

@@ -1,6 +1,6 @@
 use Rattle.std.proofs.Common.{ℕ, List, Option, None, Some, subst, sym}
-use Rattle.run_report.specs.declared.summary.Summary.{Summary}
-use Rattle.sandbox_command.specs.declared.closing.Left.{Left}
+use Rattle.sandbox_report.specs.declared.summary.Summary.{Summary}
+use Rattle.sandbox_command.specs.declared.closing.RunLeft.{RunLeft}
 use Rattle.sandbox_command.specs.declared.streams.Sink.{Sink as SinkValue}
 use Rattle.sandbox_command.specs.Alone.{IsProfiled, file_of}
 use Rattle.sandbox_command.specs.Archive.{unfilled}
@@ -8,7 +8,7 @@ use Rattle.sandbox_command.specs.Sources.{sink_contents}
 use Rattle.sandbox_command.specs.Status.{import_status}
 use Rattle.sandbox_command.specs.Stopping.{AreLinesOfNone}
 use Rattle.sandbox_command.specs.Streams.{AppendsSome}
-use Rattle.sandbox_words.specs.Request.{Text}
+use Rattle.sandbox_args.specs.Request.{Text}
 use Rattle.sandbox_command.proofs.Charged.{its_file, untold}
 use Rattle.sandbox_command.proofs.Lines.{lines_then}
 use Rattle.sandbox_command.proofs.runs.end_unfilled.Goals as goal
@@ -51,7 +51,7 @@ returns g c archive why =
       own = c.told-status.new.err;
       lines = subst (λ (own : SinkValue _ _). AppendsSome (sink_contents g.P.Output.Write.contents g.W2.Write.contents own) (sink_contents g.P.Output.Write.contents g.W2.Write.contents c.told-status.new.err)) c.apart-own.ensures.own
           (lines_then _ _ _ c.refuse_archive-status.ensures.lines (lines_then _ _ _ c.profiled-ending.ensures.lines c.told-status.ensures.lines));
-      ended = subst (λ (guest : Option (SinkValue _ _)). g.P.Places.ended {X = Left _ _ _ _ _ _} (record {
+      ended = subst (λ (guest : Option (SinkValue _ _)). g.P.Places.ended {X = RunLeft _ _ _ _ _ _} (record {
         device = tt;
         input = wired.streams.input;
         out = wired.streams.out;

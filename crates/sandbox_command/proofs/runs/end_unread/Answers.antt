@@ -1,9 +1,9 @@
 use Rattle.std.proofs.Common.{ℕ, Some, subst, sym}
 use Rattle.std.specs.IoError.{error_kind}
-use Rattle.run_report.specs.declared.summary.Summary.{Summary}
+use Rattle.sandbox_report.specs.declared.summary.Summary.{Summary}
 use Rattle.sandbox_command.specs.Alone.{IsTold}
 use Rattle.sandbox_command.specs.Beginning.{unread}
-use Rattle.sandbox_words.specs.Request.{Text}
+use Rattle.sandbox_args.specs.Request.{Text}
 use Rattle.sandbox_command.specs.Stopping.{AreLinesOfNone}
 use Rattle.sandbox_command.proofs.Lines.{lines_then}
 use Rattle.sandbox_command.proofs.runs.end_unread.Goals as goal

@@ -1,6 +1,6 @@
 use Rattle.std.proofs.Common.{◌≡◌, ℕ, List, Result, inl, inr, subst}
 use Rattle.sandbox_device.specs.declared.ram_device.RamDevice.{RamDevice}
-use Rattle.volume_tasks.specs.declared.importing.ImportFailure.{ImportFailure}
+use Rattle.vol_commands.specs.declared.importing.ImportFailure.{ImportFailure}
 use Rattle.sandbox_command.specs.Archive.{Fills}
 use Rattle.sandbox_command.proofs.runs.run_filled.Goals as goal
 

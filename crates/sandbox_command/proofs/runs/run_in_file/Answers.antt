@@ -2,7 +2,7 @@ use Rattle.std.proofs.Common.{Option, ap, refl, subst, sym}
 use Rattle.sandbox_command.specs.declared.stopping.Stopped.{Stopped}
 use Rattle.sandbox_command.specs.Alone.{IsProfiled, KeepsIt, file_of}
 use Rattle.sandbox_command.specs.Around.{around, calling, flushing}
-use Rattle.sandbox_words.specs.Request.{Text}
+use Rattle.sandbox_args.specs.Request.{Text}
 use Rattle.sandbox_command.specs.Modules.{profile_for}
 use Rattle.sandbox_command.specs.Stopping.{TellsLines}
 use Rattle.sandbox_command.proofs.Charged.{its_file, new_stacks, told_with}

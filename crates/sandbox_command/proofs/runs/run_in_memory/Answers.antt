@@ -1,13 +1,13 @@
 use Rattle.std.proofs.Common.{ℕ, Option, ap, subst, sym}
-use Rattle.run_report.specs.declared.summary.Summary.{Summary}
+use Rattle.sandbox_report.specs.declared.summary.Summary.{Summary}
 use Rattle.sandbox_device.specs.declared.ram_device.RamDevice.{RamDevice}
 use Rattle.sandbox_command.specs.declared.stopping.Stopped.{Stopped}
-use Rattle.sandbox_command.specs.declared.closing.Left.{Left}
+use Rattle.sandbox_command.specs.declared.closing.RunLeft.{RunLeft}
 use Rattle.sandbox_command.specs.Sources.{sink_contents}
 use Rattle.sandbox_command.specs.Streams.{AppendsSome}
 use Rattle.sandbox_command.specs.Alone.{HandsAll, IsProfiled, file_of}
 use Rattle.sandbox_command.specs.Around.{around, calling, flushing, in_memory}
-use Rattle.sandbox_words.specs.Request.{Text}
+use Rattle.sandbox_args.specs.Request.{Text}
 use Rattle.sandbox_command.specs.Modules.{profile_for}
 use Rattle.sandbox_command.specs.Stopping.{TellsLines}
 use Rattle.sandbox_command.proofs.Charged.{its_file, new_stacks, told_with}
@@ -44,7 +44,7 @@ returns g c =
     _ _ _ _ c.as_slice-module.ensures.value c.as_slice-random.ensures.value ended c.run-ended.ensures.runs c.run-ended.ensures.answered
     finished.left.0 finished.left.1 c.finished-stopped.result.2 finished.left.2 c.told-status.new.err
     (lines_then _ _ _ delivered.ensures.rest.2
-    (lines_then _ _ _ (subst (λ (l : Left _ _ _ _ _ _). AppendsSome (sink_contents g.P.Output.Write.contents g.W2.Write.contents l.own) (sink_contents g.P.Output.Write.contents g.W2.Write.contents c.profiled-ending.new.err))
+    (lines_then _ _ _ (subst (λ (l : RunLeft _ _ _ _ _ _). AppendsSome (sink_contents g.P.Output.Write.contents g.W2.Write.contents l.own) (sink_contents g.P.Output.Write.contents g.W2.Write.contents c.profiled-ending.new.err))
     delivered.ensures.rest.1 c.profiled-ending.ensures.lines) c.told-status.ensures.lines))
     c.as_slice-lines.result.now (subst (λ (text : Text). TellsLines (profile_for run.floats) bytes run.frames ended.stopped text) (sym c.as_slice-lines.ensures.value) c.run-ended.ensures.lines)
     after said.status said.summary ending.status ending.summary p handed profiled c.told-status.new.places c.end.new.self c.told-status.result
@@ -55,4 +55,4 @@ returns g c =
     (subst (λ (s : Option Stopped). IsProfiled g.P.Places g.P.Output.Write bytes s run.profile (file_of c.args.wired.profile) said.status said.summary handed profiled ending.status ending.summary) finished.stopped
     (subst (λ (f : Option _). IsProfiled g.P.Places g.P.Output.Write bytes c.finished-stopped.result.1 run.profile f said.status said.summary handed profiled ending.status ending.summary) c.parted-stacks.ensures.file
     c.profiled-ending.ensures.profile))
-    c.told-status.ensures.tells (subst (λ (l : Left _ _ _ _ _ _). g.P.Places.ended (record l { own = c.told-status.new.err }) c.told-status.new.places c.end.new.self) delivered.ensures.rest.1 c.end.ensures)
+    c.told-status.ensures.tells (subst (λ (l : RunLeft _ _ _ _ _ _). g.P.Places.ended (record l { own = c.told-status.new.err }) c.told-status.new.places c.end.new.self) delivered.ensures.rest.1 c.end.ensures)

@@ -1,5 +1,5 @@
 use Rattle.std.proofs.Common.{◌≡◌, ◌++◌, take}
-use Rattle.sandbox_words.specs.Request.{Text}
+use Rattle.sandbox_args.specs.Request.{Text}
 use Rattle.sandbox_command.specs.Stopping.{AreFrameLines}
 use Rattle.sandbox_command.proofs.stopping.add_frames.Given as goal
 

@@ -1,5 +1,5 @@
 use Rattle.std.proofs.Common.{◌≡◌, ◌∷◌, take}
-use Rattle.sandbox_words.specs.Request.{argument_0, texts}
+use Rattle.sandbox_args.specs.Request.{argument_0, texts}
 use Rattle.sandbox_command.proofs.supplies.arguments.Given as goal
 
 -- the words so far

@@ -1,5 +1,5 @@
 use Rattle.std.proofs.Common.{◌≡◌, take}
-use Rattle.sandbox_words.specs.Request.{texts}
+use Rattle.sandbox_args.specs.Request.{texts}
 use Rattle.sandbox_command.proofs.supplies.environment.Given as goal
 
 -- the texts so far

@@ -2,7 +2,7 @@ use Rattle.std.proofs.Common.{◌≡◌, ◌<◌, ℕ, zero, suc, List, [], ◌�
 use Rattle.std.specs.Borrow.{Bor}
 use Rattle.std.specs.List.{Contains}
 use Rattle.std.proofs.lemmas.Grind.{common_steps}
-use Rattle.sandbox_words.specs.Request.{Text, texts}
+use Rattle.sandbox_args.specs.Request.{Text, texts}
 use Rattle.sandbox_command.specs.Supplies.{split_at_equals}
 use Rattle.sandbox_command.proofs.supplies.preopens.Goals as goal
 

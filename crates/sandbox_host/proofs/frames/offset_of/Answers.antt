@@ -4,7 +4,7 @@ use Rattle.std.proofs.lemmas.Option.{slice_get-get_or}
 use Rattle.wasm_module.specs.declared.module.Body.{Body}
 use Rattle.wasm_module.specs.declared.module.Module.{Module}
 use Rattle.wasm_module.proofs.Laws.{some_is}
-use Rattle.module_survey.proofs.Spelled.{spelled_instruction}
+use Rattle.sandbox_inspect.proofs.Spelled.{spelled_instruction}
 use Rattle.sandbox_host.proofs.frames.offset_of.Goals as goal
 
 pub returns-in-Some-instruction_offset-clause-told : goal.returns-in-Some-instruction_offset-clause-told

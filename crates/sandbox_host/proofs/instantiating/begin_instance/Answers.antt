@@ -4,7 +4,7 @@ use Rattle.sandbox_core.specs.Session.{given}
 use Rattle.sandbox_core.proofs.Limiting.{shares_limited}
 use Rattle.plugin_session.specs.Instance.{IsRefused, Opens, session_of}
 use Rattle.plugin_session.proofs.Limiting.{opens_limited}
-use Rattle.sandbox_host.specs.Host.{IsHonest, Parts, Shares, known}
+use Rattle.sandbox_host.specs.Host.{IsHonest, HandleParts, Shares, known}
 use Rattle.sandbox_host.specs.Instances.{Living}
 use Rattle.sandbox_host.specs.Supplies.{settings_of}
 use Rattle.sandbox_host.proofs.Working.{no_device}
@@ -15,7 +15,7 @@ pub returns-in-Ok-new-clause-begins : goal.returns-in-Ok-new-clause-begins
 returns-in-Ok-new-clause-begins c =
     let made = c.in-Ok-new.ensures in
     let new : Living = c.in-Ok-new.instance in
-    let parts : Parts = given (settings_of c.args.supplies.now) c.in-Ok.volume c.args.supplies.now.input c.new-out.result c.new-err.result in
+    let parts : HandleParts = given (settings_of c.args.supplies.now) c.in-Ok.volume c.args.supplies.now.input c.new-out.result c.new-err.result in
     record {
       known_limits = sym c.is_known.ensures ∙ c.if-not-is_known.false;
       volume = c.in-Ok.volume;

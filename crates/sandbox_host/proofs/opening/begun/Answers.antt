@@ -1,6 +1,6 @@
 use Rattle.std.proofs.Common.{refl, ap}
 use Rattle.std.proofs.lemmas.Bool.{false≢true}
-use Rattle.sandbox_host.specs.declared.held.Held.TheVariants.{Loaded}
+use Rattle.sandbox_host.specs.declared.held.HandleContent.TheVariants.{Loaded}
 use Rattle.sandbox_host.specs.declared.modules.LoadedModule.{LoadedModule}
 use Rattle.sandbox_host.proofs.opening.begun.Goals as goal
 

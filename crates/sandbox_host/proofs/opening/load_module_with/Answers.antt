@@ -2,7 +2,7 @@ use Rattle.std.proofs.Common.{◌≡◌, ◌∙◌, Option, true, false, refl, a
 use Rattle.std.proofs.lemmas.Bool.{false≢true}
 use Rattle.std.specs.Option.{IsSomeAnd, is_none}
 use Rattle.sandbox_host.specs.declared.handle.Handle.{Handle}
-use Rattle.sandbox_host.specs.declared.held.Held.{Held}
+use Rattle.sandbox_host.specs.declared.held.HandleContent.{HandleContent}
 use Rattle.sandbox_host.specs.Sessions.{loaded, prepared, bytes_of, IsLoadedWith}
 use Rattle.sandbox_host.specs.Supplies.{profile_of}
 use Rattle.sandbox_host.proofs.Closed.{none_of}
@@ -13,7 +13,7 @@ returns-in-Ok c =
     let closed : is_none c.args.module.now.held ≡ true = sym c.is_closed.ensures.0 ∙ c.if-not-is_closed.false in
     record {
       misuse = λ is_open. absurd (false≢true (sym is_open ∙ closed));
-      loaded = λ _ e. (subst (λ (h : Option Held). IsSomeAnd (loaded h) (IsLoadedWith (profile_of c.args.floats) c.args.bytes.now)) (sym (c.keep.ensures.kept e)) c.in-Ok.ensures.loaded, ap prepared (c.keep.ensures.kept e), refl);
+      loaded = λ _ e. (subst (λ (h : Option HandleContent). IsSomeAnd (loaded h) (IsLoadedWith (profile_of c.args.floats) c.args.bytes.now)) (sym (c.keep.ensures.kept e)) c.in-Ok.ensures.loaded, ap prepared (c.keep.ensures.kept e), refl);
       refused = λ _ e. let no = c.keep.ensures.refused e in (no.1, inr (no.0, refl));
       bytes = λ e. ap bytes_of (c.keep.ensures.kept e) ∙ c.new.ensures;
     }

@@ -1,6 +1,6 @@
 use Rattle.std.proofs.Common.{Option, sym, subst, inr}
 use Rattle.std.specs.Option.{IsSomeAnd}
-use Rattle.sandbox_host.specs.declared.held.Held.{Held}
+use Rattle.sandbox_host.specs.declared.held.HandleContent.{HandleContent}
 use Rattle.sandbox_host.specs.Sessions.{running, BeginsFrom}
 use Rattle.sandbox_host.proofs.Closed.{none_of}
 use Rattle.sandbox_host.proofs.opening.open_from.Goals as goal
@@ -8,7 +8,7 @@ use Rattle.sandbox_host.proofs.opening.open_from.Goals as goal
 pub returns-in-Ok-clause-opened : goal.returns-in-Ok-clause-opened
 returns-in-Ok-clause-opened c = λ e.
     let begun = c.in-Ok.ensures.begins in
-    (subst (λ (h : Option Held). IsSomeAnd (running h) (BeginsFrom c.args.module.now c.args.supplies.now c.args.origin)) (sym (c.keep.ensures.kept e)) begun.0, begun.1)
+    (subst (λ (h : Option HandleContent). IsSomeAnd (running h) (BeginsFrom c.args.module.now c.args.supplies.now c.args.origin)) (sym (c.keep.ensures.kept e)) begun.0, begun.1)
 
 -- memory for the handle was refused
 pub returns-in-Ok-clause-refused : goal.returns-in-Ok-clause-refused

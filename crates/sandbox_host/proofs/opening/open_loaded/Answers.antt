@@ -3,7 +3,7 @@ use Rattle.std.proofs.lemmas.Bool.{false≢true}
 use Rattle.std.proofs.lemmas.Option.{IfSome_then}
 use Rattle.std.specs.Option.{IsSomeAnd, is_none}
 use Rattle.sandbox_host.specs.declared.handle.Handle.{Handle}
-use Rattle.sandbox_host.specs.declared.held.Held.{Held}
+use Rattle.sandbox_host.specs.declared.held.HandleContent.{HandleContent}
 use Rattle.sandbox_host.specs.Sessions.{running, loaded, loaded_in, prepared, bytes_of, Begins}
 use Rattle.sandbox_host.specs.Volumes.{origin_of}
 use Rattle.sandbox_host.proofs.opening.open_loaded.Goals as goal
@@ -22,7 +22,7 @@ returns-then-number-eq-OK c =
         | inr none ↦ let other = begun.other (sym (ap (λ o. is_none (loaded o)) had) ∙ none) in absurd (omega (arith, other.0, c.if-number-eq-OK.true))
       ];
       opened = λ _. rw (named, had) (IfSome_then (loaded_in c.replace.result) begun.begins (λ m begins none. let both = begins none in (
-        subst (λ (h : Option Held). IsSomeAnd (running h) (Begins m c.args.supplies.now c.in-Some.origin)) (sym has) both.0,
+        subst (λ (h : Option HandleContent). IsSomeAnd (running h) (Begins m c.args.supplies.now c.in-Some.origin)) (sym has) both.0,
         c.take.ensures.closed,
         ap prepared has ∙ both.1,
       )));

@@ -6,7 +6,7 @@ use Rattle.vol_log.proofs.Readings.{reads_same, reads_then}
 use Rattle.vol_alloc.specs.Alloc.{taken_of}
 use Rattle.vol_body.specs.Body.{double_indirect_block, triple_indirect_block, NamesTaken}
 use Rattle.vol_body.specs.internal.Writing.{Mirrors, segment, double_of}
-use Rattle.vol_body.specs.declared.holding.Held.{Held}
+use Rattle.vol_body.specs.declared.holding.HeldPointers.{HeldPointers}
 use Rattle.vol_body.proofs.Loads.{mirrors_in}
 use Rattle.vol_body.proofs.holding.hold_group.Goals as goal
 
@@ -65,7 +65,7 @@ returns g c =
           let has_top = λ (reaches : 186 + 16384 * double_of c.args.group ≤ c.args.last).
           subst (λ (k : ℕ). Mirrors content e (double_indirect_block k) now.top.number now.top.image) c.double_of.ensures (first.top h names was (omega (arith, reaches, c.double_of.ensures))) in
           record {
-            triple = λ reaches. subst (λ (x : Held). Mirrors content e triple_indirect_block x.triple.number x.triple.image) (sym first.rest) (was.triple reaches);
+            triple = λ reaches. subst (λ (x : HeldPointers). Mirrors content e triple_indirect_block x.triple.number x.triple.image) (sym first.rest) (was.triple reaches);
             top = has_top;
             above = λ reaches. mirrors_in e (segment c.args.group) above.number above.image one
                 (second.right (first.reads.honest.0 h) (subst (λ (m : Image). NamesTaken (taken_of c.args.sectors.now) m e) (sym one) names) reaches

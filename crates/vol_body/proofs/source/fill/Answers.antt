@@ -1,7 +1,7 @@
 use Rattle.std.proofs.Common.{◌≡◌, ◌∙◌, ◌-◌, ◌+◌, ◌++◌, ◌<◌, ◌≤◌, ℕ, List, length, take, drop, sym, ap, subst, arith}
 use Rattle.std.proofs.lemmas.List.{length-drop, drop-append-le, take-append-le}
 use Rattle.std.proofs.lemmas.Grind.{common_steps}
-use Rattle.vol_body.specs.declared.source.Span.{Span}
+use Rattle.vol_body.specs.declared.source.MemorySpan.{MemorySpan}
 use Rattle.vol_body.specs.Source.{gathered, AreInside}
 use Rattle.vol_body.proofs.Sources.{tail_of, more_spans, filled_bytes, filled_rest}
 use Rattle.vol_body.proofs.source.fill.Goals as goal
@@ -57,10 +57,10 @@ loop-filled-preserved c =
     let spans = c.loop-filled.spans.now in
     let next = c.first_span-first.result.now in
     let all = c.args.first.now ++ gathered memory c.args.spans.now in
-    let rest : List Span = take (length spans - 1) (drop 1 spans) in
+    let rest : List MemorySpan = take (length spans - 1) (drop 1 spans) in
     let tail : rest ≡ drop 1 spans = tail_of spans 1 in
     let before = c.loop-filled.invariant in
-    let is : gathered memory spans ≡ next ++ gathered memory rest = c.first_span-first.ensures.bytes ∙ ap (λ (l : List Span). next ++ gathered memory l) (sym tail) in
+    let is : gathered memory spans ≡ next ++ gathered memory rest = c.first_span-first.ensures.bytes ∙ ap (λ (l : List MemorySpan). next ++ gathered memory l) (sym tail) in
     let used = before.used c.loop-filled-test.true in
     let copied = c.copy_some-taken-in-loop-filled in
     let count = copied.ensures.count in
@@ -75,7 +75,7 @@ loop-filled-preserved c =
       used = λ more. omega (arith, count, same, more);
       bytes = filled_bytes memory first next all into into' spans rest c.loop-filled.taken c.loop-filled.filled copied.result c.loop-filled-test.true enough used before.rest is count before.bytes copied.ensures.bytes;
       rest = filled_rest memory first next all into into' spans rest c.loop-filled.taken c.loop-filled.filled copied.result c.loop-filled-test.true enough used before.rest is count;
-      inside = subst (λ (l : List Span). AreInside memory l) (sym tail) c.first_span-first.ensures.inside;
+      inside = subst (λ (l : List MemorySpan). AreInside memory l) (sym tail) c.first_span-first.ensures.inside;
     }
 
 pub returns-clause-bytes : goal.returns-clause-bytes

@@ -1,6 +1,6 @@
 use Rattle.std.proofs.Common.{◌≡◌, ◌∙◌, ◌-◌, ◌++◌, List, length, take, drop, sym, ap, subst, arith}
 use Rattle.std.proofs.lemmas.List.{length-drop}
-use Rattle.vol_body.specs.declared.source.Span.{Span}
+use Rattle.vol_body.specs.declared.source.MemorySpan.{MemorySpan}
 use Rattle.vol_body.specs.Source.{gathered, AreInside}
 use Rattle.vol_body.proofs.Sources.{tail_of, some_span, next_enough, next_rest}
 use Rattle.vol_body.proofs.source.skip.Goals as goal
@@ -26,12 +26,12 @@ loop-first-preserved c =
     let first = c.loop-first.first.now in
     let spans = c.loop-first.spans.now in
     let next = c.first_span-first.result.now in
-    let rest : List Span = take (length spans - 1) (drop 1 spans) in
+    let rest : List MemorySpan = take (length spans - 1) (drop 1 spans) in
     let tail : rest ≡ drop 1 spans = tail_of spans 1 in
     let before = c.loop-first.invariant in
-    let is : gathered memory spans ≡ next ++ gathered memory rest = c.first_span-first.ensures.bytes ∙ ap (λ (l : List Span). next ++ gathered memory l) (sym tail) in
+    let is : gathered memory spans ≡ next ++ gathered memory rest = c.first_span-first.ensures.bytes ∙ ap (λ (l : List MemorySpan). next ++ gathered memory l) (sym tail) in
     record {
       enough = next_enough memory first next spans rest c.loop-first.left before.enough is;
       rest = next_rest memory first next _ spans rest c.loop-first.left c.loop-first-test.true before.rest is;
-      inside = subst (λ (l : List Span). AreInside memory l) (sym tail) c.first_span-first.ensures.inside;
+      inside = subst (λ (l : List MemorySpan). AreInside memory l) (sym tail) c.first_span-first.ensures.inside;
     }

@@ -1,7 +1,7 @@
 use Rattle.std.proofs.Common.{◌^◌, ℕ, refl, sym, subst, ◌∙◌}
 use Rattle.vol_tree.specs.Calls.{resized}
 use Rattle.wasi_fd.specs.Table.{table_of}
-use Rattle.wasi_calls.specs.declared.checks.Takes.TheVariants as takes
+use Rattle.wasi_calls.specs.declared.checks.DescriptorKinds.TheVariants as takes
 use Rattle.wasi_calls.proofs.checks.CausesOf29.{asked_29, check_not_29, no_29_at_0}
 use Rattle.wasi_calls.proofs.checks.NoneAnswers29.{entry_never}
 use Rattle.wasi_calls.specs.World.{with_volume_failed}

@@ -1,7 +1,7 @@
 use Rattle.std.proofs.Common.{◌≡◌, ℕ, false, not, Ok, Err, inl, inr, refl, sym, ap, ◌∙◌, subst}
 use Rattle.vol_tree.specs.declared.errno.Errno.TheVariants as errno
 use Rattle.wasi_fd.specs.Rights.{bits_of}
-use Rattle.wasi_calls.specs.declared.checks.Takes.TheVariants as takes
+use Rattle.wasi_calls.specs.declared.checks.DescriptorKinds.TheVariants as takes
 use Rattle.wasi_calls.proofs.checks.CausesOf29.{asked_29, check_not_29, no_29_at_0}
 use Rattle.wasi_calls.proofs.checks.NoneAnswers29.{entry_never}
 use Rattle.wasi_calls.specs.World.{World, with_volume_failed}

@@ -2,14 +2,14 @@
 -- checks, and `AreUsable` is what the bodies after it may rely on.
 use Rattle.std.specs.Prelude.{◌≡◌, ℕ, ◌+◌, ◌^◌, ◌<◌, ◌≤◌, nat_lt, true, List, length, map, Ok}
 use Rattle.std.specs.List.{list_all}
-use Rattle.vol_body.specs.declared.source.Span.{Span}
+use Rattle.vol_body.specs.declared.source.MemorySpan.{MemorySpan}
 use Rattle.wasi_calls.specs.Checks.{Checked, Buffer, ◌>>=◌, ◌>>◌, guard, buffers, range, total, is_inside}
 use Rattle.wasi_calls.specs.Errnos.{FAULT, INVAL}
 
-abbrev pub pair_of : Span → Buffer
+abbrev pub pair_of : MemorySpan → Buffer
 pair_of b = (b.pointer, b.len)
 
-abbrev pub list_of : List Span → List Buffer
+abbrev pub list_of : List MemorySpan → List Buffer
 list_of bs = map pair_of bs
 
 -- few enough bytes, all of them in memory

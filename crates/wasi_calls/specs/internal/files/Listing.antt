@@ -12,7 +12,7 @@ use Rattle.wasi_calls.specs.Checks.{Checked, ◌>>=◌, ◌>>◌, entry_at, only
 use Rattle.wasi_calls.specs.files.Rows.{dirents}
 use Rattle.wasi_calls.specs.Calls.{word, long}
 use Rattle.wasi_calls.specs.declared.files.listing.ListCall.{ListCall}
-use Rattle.wasi_calls.specs.declared.files.listing.Told.{Told}
+use Rattle.wasi_calls.specs.declared.files.listing.ToldEntry.{ToldEntry}
 use Rattle.wasi_calls.specs.internal.Bodies.{type_of_entry}
 use Rattle.wasi_calls.specs.internal.paths.Walks.{StillWorks}
 
@@ -42,11 +42,11 @@ header serial name_length type = little_bytes 8 serial ++ little_bytes 8 serial 
 abbrev pub dirent_of : ℕ → Stat → List ℕ
 dirent_of serial s = header serial s.name_length (type_of_entry s.kind) ++ take s.name_length s.name
 
-abbrev pub told_bytes : Told → List ℕ
+abbrev pub told_bytes : ToldEntry → List ℕ
 told_bytes t = take t.len t.bytes
 
 -- the entry that is told next, or the list's end
-abbrev pub TellsNext : Tree → ℕ → ℕ → Option Told → Type 0
+abbrev pub TellsNext : Tree → ℕ → ℕ → Option ToldEntry → Type 0
 TellsNext T directory after None = dirents T directory after ≡ []
 TellsNext T directory after (Some t) = dirents T directory after ≡ told_bytes t ++ dirents T directory t.serial
 

@@ -1,4 +1,4 @@
--- The parts of `path_open`. `open_part` comes first and changes nothing; after it a `Target` says whether an entry is
+-- The parts of `path_open`. `open_part` comes first and changes nothing; after it a `PathTarget` says whether an entry is
 -- opened as it is, cut to no bytes, or made.
 use Rattle.std.specs.Prelude.{◌≡◌, ◌≤◌, ℕ, ◌+◌, not, ◌==◌, ◌&&◌, ◌||◌, nat_le, List, [], Bool, true, false, Some, Result, Ok, Err, if◌then◌else◌, bit_and}
 use Rattle.vol_inode.specs.Name.{IsName}
@@ -19,8 +19,8 @@ use Rattle.wasi_calls.specs.Checks.{Checked, ◌>>=◌, ◌>>◌, guard, entry_a
 use Rattle.wasi_calls.specs.paths.Rows.{open_rights, is_set, creat, directory_only, excl, trunc, path_at, open_checks, new_number}
 use Rattle.wasi_calls.specs.Calls.{word, long}
 use Rattle.wasi_calls.specs.declared.paths.opening.OpenCall.{OpenCall}
-use Rattle.wasi_calls.specs.declared.paths.opening.Target.{Target}
-use Rattle.wasi_calls.specs.declared.paths.opening.Target.TheVariants.{Entry, Cut, New}
+use Rattle.wasi_calls.specs.declared.paths.opening.PathTarget.{PathTarget}
+use Rattle.wasi_calls.specs.declared.paths.opening.PathTarget.TheVariants.{Entry, Cut, New}
 use Rattle.wasi_calls.specs.internal.Bodies.{with_volume, is_directory_kind, IsFileOf}
 use Rattle.wasi_calls.specs.internal.Asking.{StopsNext, Passes, Stops}
 use Rattle.wasi_calls.specs.Errnos.{EXIST, INVAL, ISDIR, NOENT, NOTDIR, NOTSUP}
@@ -78,17 +78,17 @@ open_part w memory a = do
   Ok (directory, reached, number)
 
 -- how what was reached is opened
-abbrev pub IsTarget : Tree → ℕ → Reached → Target → Type 0
+abbrev pub IsTarget : Tree → ℕ → Reached → PathTarget → Type 0
 IsTarget T oflags r (Entry serial kind) = (r ≡ Found serial) × (directory_at T serial ≡ is_directory_kind kind) × ((not (directory_at T serial) && is_set oflags trunc) ≡ false)
 IsTarget T oflags r (Cut serial) = (r ≡ Found serial) × (directory_at T serial ≡ false) × (is_set oflags trunc ≡ true)
 IsTarget T oflags r (New parent name) = r ≡ Missing parent name.now
 
-abbrev pub LeadsToSerial : ℕ → Target → Type 0
+abbrev pub LeadsToSerial : ℕ → PathTarget → Type 0
 LeadsToSerial serial (Entry s kind) = s ≡ serial
 LeadsToSerial serial (Cut s) = s ≡ serial
 LeadsToSerial serial (New parent name) = ⊥
 
-abbrev pub target_is_directory : Target → Bool
+abbrev pub target_is_directory : PathTarget → Bool
 target_is_directory (Entry s kind) = is_directory_kind kind
 target_is_directory (Cut s) = false
 target_is_directory (New parent name) = false
@@ -100,7 +100,7 @@ pub record MayMake {D : Type 0} (honest : D → Type 0) (v : OpenedVolume D) (pa
   pub directory : honest v.device → IsDirectory v.tree parent
 
 -- the call of the tree may be made
-abbrev pub CanOpen : {D : Type 0} → (D → Type 0) → OpenedVolume D → Target → Type 0
+abbrev pub CanOpen : {D : Type 0} → (D → Type 0) → OpenedVolume D → PathTarget → Type 0
 CanOpen honest v (Entry serial kind) = IsSerial v.numbers serial
 CanOpen honest v (Cut serial) = IsFileOf honest v serial
 CanOpen honest v (New parent name) = MayMake honest v parent name.now
@@ -110,25 +110,25 @@ with_serial serial (Ok T) = Ok (T, serial)
 with_serial serial (Err e) = Err e
 
 -- the tree and the entry that is opened in it
-abbrev pub made : Geometry → Tree → Target → Result (Tree × ℕ) Errno
+abbrev pub made : Geometry → Tree → PathTarget → Result (Tree × ℕ) Errno
 made volume T (Entry serial kind) = Ok (T, serial)
 made volume T (Cut serial) = with_serial serial (resized volume T serial 0)
 made volume T (New parent name) = created T parent name.now (File [])
 
 -- the checks on what was reached, in a world whose volume works
-abbrev pub ChecksAs : {D : Type 0} → ℕ → Bool → Reached → World → OpenedVolume D → Result Target Number → Type 0
+abbrev pub ChecksAs : {D : Type 0} → ℕ → Bool → Reached → World → OpenedVolume D → Result PathTarget Number → Type 0
 ChecksAs oflags slash r w new (Ok t) = (open_checks w oflags slash r ≡ Ok tt) × IsTarget w.tree oflags r t × (with_volume new w ≡ w)
 ChecksAs oflags slash r w new (Err e) = StopsNext (λ v. open_checks v oflags slash r) w new e.0
 
 -- what comes before anything is changed, and how the entry is opened
-pub record ReachesTarget {D : Type 0} (memory : List ℕ) (a : OpenCall) (w : World) (new : OpenedVolume D) (directory : Opened) (t : Target) : Type 0 where
+pub record ReachesTarget {D : Type 0} (memory : List ℕ) (a : OpenCall) (w : World) (new : OpenedVolume D) (directory : Opened) (t : PathTarget) : Type 0 where
   pub reached : Reached
   pub number : ℕ
   pub free : new_number w ≡ Ok number
   pub passes : Passes (λ v. open_part v memory a) w new (directory, reached, number)
   pub target : IsTarget w.tree a.oflags reached t
 
-abbrev pub Targets : {D : Type 0} → List ℕ → OpenCall → World → OpenedVolume D → Result (Opened × Target) Number → Type 0
+abbrev pub Targets : {D : Type 0} → List ℕ → OpenCall → World → OpenedVolume D → Result (Opened × PathTarget) Number → Type 0
 Targets memory a w new (Ok p) = ReachesTarget memory a w new p.0 p.1
 Targets memory a w new (Err e) = Stops (λ v. open_part v memory a) w new e.0
 

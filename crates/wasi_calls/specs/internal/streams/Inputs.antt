@@ -4,7 +4,7 @@ use Rattle.std.specs.Prelude.{◌≡◌, ◌<◌, ◌≤◌, ℕ, Bool, List, []
 use Rattle.std.specs.Io.KnownBytes.{Consumes}
 use Rattle.byteorder.specs.Endian.{little_bytes}
 use Rattle.wasm_store.specs.Bytes.{written}
-use Rattle.vol_body.specs.declared.source.Span.{Span}
+use Rattle.vol_body.specs.declared.source.MemorySpan.{MemorySpan}
 use Rattle.wasi_fd.specs.declared.descriptor.Descriptor.{Descriptor}
 use Rattle.wasi_calls.specs.declared.streams.Input.{Input}
 use Rattle.wasi_calls.specs.World.{World, least_read}
@@ -38,7 +38,7 @@ pub record SomeDealt (before after : Option (List ℕ)) (old : List ℕ) (bs : L
   pub dealt : Dealt before after old bs memory count
 
 -- the place of the first buffer that has room
-pub record IsFirstWithRoom (bs : List Span) (i : ℕ) : Type 0 where
+pub record IsFirstWithRoom (bs : List MemorySpan) (i : ℕ) : Type 0 where
   pub inside : i < length bs
   pub before : total (list_of (take i bs)) ≡ 0
   pub room : 0 < (get_or bs i (record { pointer = 0; len = 0 })).len

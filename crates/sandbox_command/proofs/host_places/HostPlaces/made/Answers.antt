@@ -1,5 +1,5 @@
 use Rattle.std.proofs.Common.{◌≡◌, inl, false}
-use Rattle.sandbox_device.specs.declared.opening.Output.{Output}
+use Rattle.sandbox_device.specs.declared.opening.FileOutput.{FileOutput}
 use Rattle.sandbox_device.specs.Opening.{StandsApart}
 use Rattle.sandbox_device.specs.Named.{WasOpened}
 use Rattle.sandbox_command.proofs.OfName.{told}
@@ -7,6 +7,6 @@ use Rattle.sandbox_command.proofs.host_places.HostPlaces.made.Goals as goal
 
 pub returns-clause-named : goal.returns-clause-named
 returns-clause-named c =
-    let is = told (λ (it : Output). StandsApart it.on.file × WasOpened c.args.name.now it.on.file × (it.on.is_cut ≡ false))
+    let is = told (λ (it : FileOutput). StandsApart it.on.file × WasOpened c.args.name.now it.on.file × (it.on.is_cut ≡ false))
     c.open.result c.in_ok-file.file c.in_ok-file.ensures c.open.ensures in
     inl is.1

@@ -1,5 +1,5 @@
 use Rattle.std.proofs.Common.{◌++◌}
-use Rattle.run_report.specs.Reporting.{report_text}
+use Rattle.sandbox_report.specs.Reporting.{report_text}
 use Rattle.sandbox_command.specs.Places.{Prints}
 use Rattle.sandbox_command.proofs.Given.{nothing_told, refused, taken}
 use Rattle.sandbox_command.proofs.host_places.HostPlacesPlaces.print.Goals as goal

@@ -1,7 +1,7 @@
 use Rattle.std.proofs.Common.{ℕ, Result, Ok, Err, None, OnOk}
 use Rattle.std.specs.Io.KnownBytes.{Appends}
 use Rattle.run_profile.specs.Stacks.{Stacks}
-use Rattle.sandbox_words.specs.Request.{Text}
+use Rattle.sandbox_args.specs.Request.{Text}
 use Rattle.sandbox_command.specs.Places.{Prints, Took, took}
 use Rattle.sandbox_command.specs.Profiling.{IsProfile}
 use Rattle.sandbox_command.proofs.Given.{refused}

@@ -1,6 +1,6 @@
 use Rattle.std.proofs.Common.{sym, subst}
 use Rattle.sandbox_device.specs.Named.{IsForName}
-use Rattle.sandbox_words.specs.Request.{Text}
+use Rattle.sandbox_args.specs.Request.{Text}
 use Rattle.sandbox_command.proofs.receiver.Receiver.open.Goals as goal
 
 pub invariant_of-result : goal.invariant_of-result

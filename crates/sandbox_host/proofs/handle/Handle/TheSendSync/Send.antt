@@ -13,13 +13,13 @@ use Rattle.std_heap.proofs.Global.TheSendSync as global
 use Rattle.std_heap.specs.declared.Global.{Global}
 use Rattle.std_heap.specs.contracts.GlobalAllocator.TheImpl.{ghosts}
 use Rattle.sandbox_host.specs.Handles.{handle_owns}
-use Rattle.sandbox_host.specs.contracts.held.Held as Held
+use Rattle.sandbox_host.specs.contracts.held.HandleContent as HandleContent
 use Rattle.sandbox_host.proofs.held.Held.TheSendSync.{the_send as held}
 use Rattle.sandbox_host.specs.contracts.handle.Handle.{the_row, the_type}
 
-owns : (a : Global) (p : Ptr) (h : Option Held.the_row.Denot) → Keyless (handle_owns (ghosts.dealloc_token a) p h)
+owns : (a : Global) (p : Ptr) (h : Option HandleContent.the_row.Denot) → Keyless (handle_owns (ghosts.dealloc_token a) p h)
 owns a p None = tt
-owns a p (Some x) = (lies Held.the_row held p x, heap.frees.frees a (raw (lone Held.the_row.mir)) p)
+owns a p (Some x) = (lies HandleContent.the_row held p x, heap.frees.frees a (raw (lone HandleContent.the_row.mir)) p)
 
 pub send : IsSend the_row
 send =

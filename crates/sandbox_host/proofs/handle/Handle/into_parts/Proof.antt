@@ -24,7 +24,7 @@ use denote.Triple.Table.{entered}
 use denote.Triple.Walked.{says, Stays, stay_dropped, walk_of, ends_at, Goes-dropped, walk_Meets}
 use Rattle.std.specs.Prelude.{Option, None, Some, is_none, false}
 use mathlib.Core.Bool.{true≢false}
-use Rattle.sandbox_host.specs.contracts.held.Held as Held
+use Rattle.sandbox_host.specs.contracts.held.HandleContent as HandleContent
 use Rattle.sandbox_host.specs.contracts.handle.Handle as Handle
 use Rattle.std_alloc.proofs.BoxSteps.Form.{D, word, box_typed}
 use Rattle.std_alloc.proofs.BoxSteps.Steps.{box_out, box_in}
@@ -35,7 +35,7 @@ use Rattle.sandbox_host.proofs.handle.Handle.into_parts.Statement as stated
 use Rattle.sandbox_host.proofs.handle.Handle.into_parts.Code as code
 
 -- what a handle that is not closed has
-has : (t : Option Held.the_row.Denot) → is_none t ≡ false → (x : Held.the_row.Denot) × (t ≡ Some x)
+has : (t : Option HandleContent.the_row.Denot) → is_none t ≡ false → (x : HandleContent.the_row.Denot) × (t ≡ Some x)
 has None e = absurd (true≢false e)
 has (Some x) e = (x, refl)
 
@@ -55,7 +55,7 @@ module _ {M : Type 1} {𝓤 : Ura M} (𝓛 : Logic 𝓤) (at_mem : Memory → SP
       let To = type_at (F.signature).result tt in
       let made : To.Denot = record { ptr = v.ptr; alloc = v.alloc; value = v.value } in
       split ! $ drop ! $ fsplit ! $
-      rewrite ! 0 (λ (t : Option Held.the_row.Denot). ‵ (Row.own_val (record { at = h.at; alloc = h.alloc; held = t }) z.0.4.0)) same refl $
+      rewrite ! 0 (λ (t : Option HandleContent.the_row.Denot). ‵ (Row.own_val (record { at = h.at; alloc = h.alloc; held = t }) z.0.4.0)) same refl $
       box_out E ! v z.0.4.0 (λ b o hv e ws fa. box_in E ! v b o v.value e refl $ use1 𝓛 (‵ (To.own_val made (word E hv b o ∷ []))) (id⊢ 𝓤 _) $ move ! (1 ∷ []) $ drop ! $
       let w = word E hv b o in
       let Γ : List (Item 𝓤) = ‵ (To.own_val made (w ∷ [])) ∷ [] in

@@ -29,7 +29,7 @@ use Rattle.std_heap.specs.declared.Global.{Global}
 use Rattle.std_heap.proofs.GlobalToken.{dealloc_token-Testable}
 use Rattle.core.specs.Ptr.{points_to}
 use Rattle.sandbox_host.specs.Handles.{handle_owns}
-use Rattle.sandbox_host.specs.contracts.held.Held as Held
+use Rattle.sandbox_host.specs.contracts.held.HandleContent as HandleContent
 use Rattle.sandbox_host.specs.contracts.handle.Handle.is_closed as f
 use Rattle.sandbox_host.proofs.handle.Handle.is_closed.Statement.{statement}
 use Rattle.sandbox_host.proofs.handle.Handle.is_closed.Code as code
@@ -44,11 +44,11 @@ abbrev Told : Ptr → Bool → Type 0
 Told p y = Testable p × (op2_val ptr_eq (ptr_val p) vnull ≡ vbool y)
 
 module _ {M : Type 1} {𝓤 : Ura M} (𝓛 : Logic 𝓤) (a : Global) where
-  tells : (p : Ptr) (t : Option Held.the_row.Denot) → ent 𝓤 (sem 𝓛 (handle_owns (ghosts.dealloc_token a) p t)) (fact 𝓤 (Told p (is_none t)))
+  tells : (p : Ptr) (t : Option HandleContent.the_row.Denot) → ent 𝓤 (sem 𝓛 (handle_owns (ghosts.dealloc_token a) p t)) (fact 𝓤 (Told p (is_none t)))
   tells p None = qed 𝓛 (‵ (feq Ptr p null_ptr) ∷ []) ∵ feq_l ! (λ e. use0 𝓛 (raw (fact 𝓤 (Told p true))) (fact_i 𝓤 (Told p true) (emp 𝓤) (subst (λ (s : Ptr). Told s true) (sym e) (lit< tt, refl))) $ done !)
-  tells (block_ptr b o) (Some x) = via 𝓤 (fact 𝓤 (Testable (block_ptr b o))) (via 𝓤 (sem 𝓛 (ghosts.dealloc_token a (bare (lone Held.the_row.mir)) (block_ptr b o))) (snd∗ 𝓤 (sem 𝓛 (points_to Held.the_row (block_ptr b o) x)) (sem 𝓛 (ghosts.dealloc_token a (bare (lone Held.the_row.mir)) (block_ptr b o)))) (dealloc_token-Testable 𝓛 a (bare (lone Held.the_row.mir)) (block_ptr b o)))
+  tells (block_ptr b o) (Some x) = via 𝓤 (fact 𝓤 (Testable (block_ptr b o))) (via 𝓤 (sem 𝓛 (ghosts.dealloc_token a (bare (lone HandleContent.the_row.mir)) (block_ptr b o))) (snd∗ 𝓤 (sem 𝓛 (points_to HandleContent.the_row (block_ptr b o) x)) (sem 𝓛 (ghosts.dealloc_token a (bare (lone HandleContent.the_row.mir)) (block_ptr b o)))) (dealloc_token-Testable 𝓛 a (bare (lone HandleContent.the_row.mir)) (block_ptr b o)))
       (fact_mono 𝓤 (Testable (block_ptr b o)) (Told (block_ptr b o) false) (λ e. (e, refl)))
-  tells null_ptr (Some x) = via 𝓤 (never 𝓤) (fst∗ 𝓤 (never 𝓤) (sem 𝓛 (ghosts.dealloc_token a (bare (lone Held.the_row.mir)) null_ptr))) (never_e 𝓤 _)
+  tells null_ptr (Some x) = via 𝓤 (never 𝓤) (fst∗ 𝓤 (never 𝓤) (sem 𝓛 (ghosts.dealloc_token a (bare (lone HandleContent.the_row.mir)) null_ptr))) (never_e 𝓤 _)
 
 typed : (s : Ptr) → T (has_ty ty_ptr (ptr_val s)) × WT (ptr_val s)
 typed (block_ptr b o) = (tt, tt)

@@ -1,6 +1,6 @@
 use Rattle.std.proofs.Common.{◌≡◌, ◌+◌, ◌-◌, ◌*◌, ◌++◌, ℕ, List, length, take, drop, ap, ◌∙◌, arith}
 use Rattle.std.proofs.lemmas.List.{take_all, length-drop}
-use Rattle.vol_body.specs.declared.source.Span.{Span}
+use Rattle.vol_body.specs.declared.source.MemorySpan.{MemorySpan}
 use Rattle.wasi_calls.specs.Checks.{buffers_in}
 use Rattle.wasi_calls.specs.internal.checks.Buffers.{list_of}
 use Rattle.wasi_calls.proofs.checks.BufferArrays.{buffer_at, read_more}
@@ -17,7 +17,7 @@ loop-index-preserved c =
     let was = c.loop-index.invariant in
     let pushed = c.push_reserved.ensures in
     record {
-      read = ap (λ (bs : List Span). list_of bs ++ buffers_in (c.args.count - (i + 1)) (drop (8 * (i + 1)) array)) pushed.items
+      read = ap (λ (bs : List MemorySpan). list_of bs ++ buffers_in (c.args.count - (i + 1)) (drop (8 * (i + 1)) array)) pushed.items
           ∙ (read_more c.loop-index.room.items array c.args.count i c.buffer_in.result (omega arith) (c.buffer_in.ensures ∙ ap buffer_at (tail_of array (8 * i))) ∙ was.read);
       len = omega (arith, pushed.len, was.len);
       place = pushed.capacity ∙ was.place;

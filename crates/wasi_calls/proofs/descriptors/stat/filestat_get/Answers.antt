@@ -1,7 +1,7 @@
 use Rattle.std.proofs.Common.{◌≡◌, ◌^◌, ℕ, List, false, Option, Ok, Some, refl, sym, ap, ◌∙◌, subst}
 use Rattle.wasm_store.specs.Bytes.{written}
 use Rattle.wasi_fd.specs.Table.{table_of}
-use Rattle.wasi_calls.specs.declared.checks.Takes.TheVariants as takes
+use Rattle.wasi_calls.specs.declared.checks.DescriptorKinds.TheVariants as takes
 use Rattle.wasi_calls.proofs.checks.CausesOf29.{asked_29, check_not_29, no_29_at_0, not_29}
 use Rattle.wasi_calls.proofs.checks.NoneAnswers29.{descriptor_never, range_never}
 use Rattle.wasi_calls.specs.World.{World, with_volume_failed}

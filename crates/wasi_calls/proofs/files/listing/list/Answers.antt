@@ -1,6 +1,6 @@
 use Rattle.std.proofs.Common.{Option, Some, subst, arith, refl, [], None, ◌∙◌}
 use Rattle.vol_tree.specs.Tree.{Tree}
-use Rattle.wasi_calls.specs.declared.files.listing.Told.{Told}
+use Rattle.wasi_calls.specs.declared.files.listing.ToldEntry.{ToldEntry}
 use Rattle.wasi_calls.specs.internal.files.Listing.{TellsNext}
 use Rattle.wasi_calls.proofs.bodies.AskingCalls.{works_on, asked_on, still_works, works_as}
 use Rattle.wasi_calls.proofs.files.DirectoryLists.{tells_more, list_ended, list_full, list_begun}
@@ -20,7 +20,7 @@ loop-filled-preserved g c =
       long = omega (arith, was.long, c.put_some-filled.auto.part);
       room = omega (arith, was.long, c.put_some-filled.ensures.end);
       told = λ h.
-          let next = subst (λ (o : Option Told). TellsNext here.tree directory after o) c.in-Ok-Some.field-0-is (c.in-Ok-Some.ensures.told (was.works.kept.honest.0 h)) in
+          let next = subst (λ (o : Option ToldEntry). TellsNext here.tree directory after o) c.in-Ok-Some.field-0-is (c.in-Ok-Some.ensures.told (was.works.kept.honest.0 h)) in
           rw c.number-after.ensures (tells_more T directory c.args.cookie c.args.part.now after c.loop-filled.filled c.loop-filled.part (was.told h) c.in-Ok-Some.told end c.put_some-filled.new.part
           (omega (arith, was.long, c.loop-filled-test.true)) was.long (subst (λ (U : Tree). TellsNext U directory after (Some c.in-Ok-Some.told)) (was.works.tree h) next)
           c.put_some-filled.ensures.end c.put_some-filled.ensures.filled c.put_some-filled.ensures.rest);
@@ -41,7 +41,7 @@ returns-in-Ok-None g c = record {
   answer = λ h.
       let was = c.loop-filled.invariant in
       let here = c.loop-filled.volume.tree in
-      let told = subst (λ (o : Option Told). TellsNext here c.args.directory c.loop-filled.after o) c.in-Ok-None.field-0-is (c.in-Ok-None.ensures.told (was.works.kept.honest.0 h)) in
+      let told = subst (λ (o : Option ToldEntry). TellsNext here c.args.directory c.loop-filled.after o) c.in-Ok-None.field-0-is (c.in-Ok-None.ensures.told (was.works.kept.honest.0 h)) in
       let ended = subst (λ (U : Tree). TellsNext U c.args.directory c.loop-filled.after None) (was.works.tree h) told in
       let all = list_ended c.args.volume.now.tree c.args.directory c.args.cookie c.loop-filled.after c.loop-filled.filled c.args.part.now c.loop-filled.part (was.told h) ended in
       (all.0, all.1, c.in-Ok-None.ensures.asked.tree (was.works.kept.honest.0 h) ∙ was.works.tree h);

@@ -4,7 +4,7 @@ use Rattle.std.proofs.lemmas.List.Sums.{sum_by-cons}
 use Rattle.vol_tree.specs.declared.errno.Errno.TheVariants as errno
 use Rattle.vol_tree.specs.Tree.{Tree}
 use Rattle.vol_tree.specs.Calls.{bytes_at}
-use Rattle.vol_body.specs.declared.source.Span.{Span}
+use Rattle.vol_body.specs.declared.source.MemorySpan.{MemorySpan}
 use Rattle.wasi_calls.specs.Checks.{Buffer, total, put, scattered}
 use Rattle.wasi_calls.specs.internal.checks.Buffers.{pair_of, list_of}
 use Rattle.wasi_calls.specs.internal.files.Reading.{BufferFilled, BufferBegun}
@@ -14,10 +14,10 @@ use Rattle.wasi_calls.proofs.files.FilledBuffers.{Filling, filling_begins, filli
 use Rattle.wasi_calls.proofs.files.reading.fill_buffers.Goals as goal
 
 -- the buffer that comes next
-next_is : (bs : List Span) (i : ℕ) → i < length bs → list_of (drop i bs) ≡ pair_of (get_or bs i (record { pointer = 0; len = 0 })) ∷ list_of (drop (i + 1) bs)
+next_is : (bs : List MemorySpan) (i : ℕ) → i < length bs → list_of (drop i bs) ≡ pair_of (get_or bs i (record { pointer = 0; len = 0 })) ∷ list_of (drop (i + 1) bs)
 next_is bs i h = ap list_of (drop_more bs i (record { pointer = 0; len = 0 }) h)
 
-next_total : (bs : List Span) (i : ℕ) → i < length bs → total (list_of (drop i bs)) ≡ (get_or bs i (record { pointer = 0; len = 0 })).len + total (list_of (drop (i + 1) bs))
+next_total : (bs : List MemorySpan) (i : ℕ) → i < length bs → total (list_of (drop i bs)) ≡ (get_or bs i (record { pointer = 0; len = 0 })).len + total (list_of (drop (i + 1) bs))
 next_total bs i h = ap total (next_is bs i h) ∙ sum_by-cons (λ (b : Buffer). b.1) (pair_of (get_or bs i (record { pointer = 0; len = 0 }))) (list_of (drop (i + 1) bs))
 
 pub loop-index-init : goal.loop-index-init
@@ -47,7 +47,7 @@ returns-in-Err g c = record {
       let i = c.loop-index.index in
       let at = c.loop-index.at in
       let was = c.loop-index.invariant in
-      let x : Span = get_or bs i (record { pointer = 0; len = 0 }) in
+      let x : MemorySpan = get_or bs i (record { pointer = 0; len = 0 }) in
       let later : List Buffer = list_of (drop (i + 1) bs) in
       let last = put m (scattered (drop c.args.from F) (list_of bs)) in
       let sums = next_total bs i c.loop-index-test.true in
@@ -55,7 +55,7 @@ returns-in-Err g c = record {
       let low = was.low in
       let room : x.len ≤ length F - at = omega (arith, sums, place, low, enough) in
       let now : Filling F m last c.loop-index.memory at (pair_of x ∷ later) = subst (Filling F m last c.loop-index.memory at) (next_is bs i c.loop-index-test.true) (was.filling h enough) in
-      let meant = λ (U : Tree) (l : List Span). x.len ≤ length (bytes_at U c.args.serial) - at → (c.in-Err.errno ≡ errno.Io) × BufferBegun (bytes_at U c.args.serial) at x.pointer (x.pointer + x.len) (list_of l) c.loop-index.memory c.fill_buffer.new.memory in
+      let meant = λ (U : Tree) (l : List MemorySpan). x.len ≤ length (bytes_at U c.args.serial) - at → (c.in-Err.errno ≡ errno.Io) × BufferBegun (bytes_at U c.args.serial) at x.pointer (x.pointer + x.len) (list_of l) c.loop-index.memory c.fill_buffer.new.memory in
       let T = c.loop-index.volume.tree in
       let both = subst (λ (U : Tree). meant U (drop (i + 1) bs)) (was.works.tree h) (subst (meant T) (take_rest bs (i + 1)) (c.in-Err.ensures.broke (was.works.kept.honest.0 h))) room in
       (both.0, filling_breaks F m last c.loop-index.memory c.fill_buffer.new.memory at (pair_of x) later room now both.1);
@@ -71,7 +71,7 @@ loop-index-preserved g c =
     let i = c.loop-index.index in
     let at = c.loop-index.at in
     let was = c.loop-index.invariant in
-    let x : Span = get_or bs i (record { pointer = 0; len = 0 }) in
+    let x : MemorySpan = get_or bs i (record { pointer = 0; len = 0 }) in
     let later : List Buffer = list_of (drop (i + 1) bs) in
     let last = put m (scattered (drop c.args.from F) (list_of bs)) in
     let sums = next_total bs i c.loop-index-test.true in
@@ -86,7 +86,7 @@ loop-index-preserved g c =
       filling = λ h enough.
           let room : x.len ≤ length F - at = omega (arith, sums, place, low, enough) in
           let now : Filling F m last c.loop-index.memory at (pair_of x ∷ later) = subst (Filling F m last c.loop-index.memory at) (next_is bs i c.loop-index-test.true) (was.filling h enough) in
-          let meant = λ (U : Tree) (l : List Span). x.len ≤ length (bytes_at U c.args.serial) - at → BufferFilled (bytes_at U c.args.serial) at x.pointer (x.pointer + x.len) (list_of l) c.loop-index.memory c.fill_buffer.new.memory in
+          let meant = λ (U : Tree) (l : List MemorySpan). x.len ≤ length (bytes_at U c.args.serial) - at → BufferFilled (bytes_at U c.args.serial) at x.pointer (x.pointer + x.len) (list_of l) c.loop-index.memory c.fill_buffer.new.memory in
           let T = c.loop-index.volume.tree in
           let filled = subst (λ (U : Tree). meant U (drop (i + 1) bs)) (was.works.tree h) (subst (meant T) (take_rest bs (i + 1)) (c.in-Ok.ensures.filled (was.works.kept.honest.0 h))) room in
           subst (λ (n : ℕ). Filling F m last c.fill_buffer.new.memory (at + n) later) (sym more)

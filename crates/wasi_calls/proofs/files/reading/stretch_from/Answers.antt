@@ -1,12 +1,12 @@
 use Rattle.std.proofs.Common.{arith}
 use Rattle.std.proofs.lemmas.Grind.{common_steps}
-use Rattle.vol_body.specs.declared.source.Span.{Span}
+use Rattle.vol_body.specs.declared.source.MemorySpan.{MemorySpan}
 use Rattle.wasi_calls.proofs.files.OverlappingBuffers.{covered_by}
 use Rattle.wasi_calls.proofs.files.reading.stretch_from.Goals as goal
 
 pub returns-then-at-past : goal.returns-then-at-past
 returns-then-at-past c =
-    let d : Span = record { pointer = 0; len = 0 } in
+    let d : MemorySpan = record { pointer = 0; len = 0 } in
     record {
       some = omega (arith, c.min.ensures);
       within = omega (arith, c.min.ensures);

@@ -2,7 +2,7 @@ use Rattle.std.proofs.Common.{subst, sym, arith}
 use Rattle.std.proofs.lemmas.Grind.{common_steps}
 use Rattle.vol_tree.specs.Clauses.{Answers}
 use Rattle.vol_tree.specs.Opened.{geometry}
-use Rattle.wasi_calls.specs.declared.paths.opening.Target.{Target}
+use Rattle.wasi_calls.specs.declared.paths.opening.PathTarget.{PathTarget}
 use Rattle.wasi_calls.specs.internal.paths.Opening.{made}
 use Rattle.wasi_calls.proofs.bodies.AskingCalls.{still_works}
 use Rattle.wasi_calls.proofs.bodies.PlainCalls.{volume_rests}
@@ -10,7 +10,7 @@ use Rattle.wasi_calls.proofs.paths.opening.settle.Goals as goal
 
 pub returns-in-New-clause-answer : goal.returns-in-New-clause-answer
 returns-in-New-clause-answer g c = λ h.
-    subst (λ (t : Target). Answers (made (geometry c.args.volume.now.numbers) c.args.volume.now.tree t) c.args.volume.now.tree c.create_file.new.self.tree c.create_file.result)
+    subst (λ (t : PathTarget). Answers (made (geometry c.args.volume.now.numbers) c.args.volume.now.tree t) c.args.volume.now.tree c.create_file.new.self.tree c.create_file.result)
     (sym c.in-New.is) (c.create_file.ensures.answer h)
 
 pub returns-in-Entry-clause-kept : goal.returns-in-Entry-clause-kept

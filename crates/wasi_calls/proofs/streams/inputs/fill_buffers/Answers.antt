@@ -1,7 +1,7 @@
 use Rattle.std.proofs.lemmas.List.{take_all}
 use Rattle.std.proofs.Common.{◌≡◌, ◌<◌, ◌⊎◌, [], take, inl, inr, refl, sym, ◌∙◌, arith, List, Ok, ap, subst}
 use Rattle.std.proofs.lemmas.Bool.{false≢true}
-use Rattle.vol_body.specs.declared.source.Span.{Span}
+use Rattle.vol_body.specs.declared.source.MemorySpan.{MemorySpan}
 use Rattle.stream_answers.specs.Hearing.{stays}
 use Rattle.stream_answers.proofs.Hearing.{then}
 use Rattle.wasi_calls.specs.Checks.{total}
@@ -12,7 +12,7 @@ use Rattle.wasi_calls.proofs.streams.ShortReads.{untouched}
 use Rattle.wasi_calls.specs.internal.streams.Inputs.{Dealt}
 use Rattle.wasi_calls.proofs.streams.inputs.fill_buffers.Goals as goal
 
-abbrev no_buffer : Span
+abbrev no_buffer : MemorySpan
 no_buffer = record { pointer = 0; len = 0 }
 
 pub fill_next-requires-clause-inside : goal.fill_next-requires-clause-inside
@@ -87,10 +87,10 @@ loop-buffer-preserved g c =
 pub returns : goal.returns
 returns g c = record {
   long = c.loop-buffer.invariant.long;
-  dealt = subst (λ (l : List Span). Dealt (g.R.Read.remaining c.args.input.now.reader) (g.R.Read.remaining c.loop-buffer.input.reader) c.args.memory.now (list_of l) c.loop-buffer.memory c.loop-buffer.count) (take_all c.loop-buffer.buffer-index c.args.buffers.now c.loop-buffer-test.false) c.loop-buffer.invariant.dealt;
-  full = λ goes_on. c.loop-buffer.invariant.full goes_on ∙ ap (λ (l : List Span). total (list_of l)) (take_all c.loop-buffer.buffer-index c.args.buffers.now c.loop-buffer-test.false);
+  dealt = subst (λ (l : List MemorySpan). Dealt (g.R.Read.remaining c.args.input.now.reader) (g.R.Read.remaining c.loop-buffer.input.reader) c.args.memory.now (list_of l) c.loop-buffer.memory c.loop-buffer.count) (take_all c.loop-buffer.buffer-index c.args.buffers.now c.loop-buffer-test.false) c.loop-buffer.invariant.dealt;
+  full = λ goes_on. c.loop-buffer.invariant.full goes_on ∙ ap (λ (l : List MemorySpan). total (list_of l)) (take_all c.loop-buffer.buffer-index c.args.buffers.now c.loop-buffer-test.false);
   short = λ began ended.
-      subst (λ (l : List Span). c.loop-buffer.count < total (list_of l)) (take_all c.loop-buffer.buffer-index c.args.buffers.now c.loop-buffer-test.false) (c.loop-buffer.invariant.short began ended);
+      subst (λ (l : List MemorySpan). c.loop-buffer.count < total (list_of l)) (take_all c.loop-buffer.buffer-index c.args.buffers.now c.loop-buffer-test.false) (c.loop-buffer.invariant.short began ended);
   still = tt;
   none = λ ended. (ap Ok (c.loop-buffer.invariant.none ended).0, (c.loop-buffer.invariant.none ended).1);
   end = c.loop-buffer.invariant.end;

@@ -1,6 +1,6 @@
 use Rattle.std.proofs.Common.{◌≡◌, List, ap, subst, arith, sym, ◌∙◌}
 use Rattle.std.proofs.lemmas.List.{take_all}
-use Rattle.vol_body.specs.declared.source.Span.{Span}
+use Rattle.vol_body.specs.declared.source.MemorySpan.{MemorySpan}
 use Rattle.wasi_calls.specs.Checks.{total}
 use Rattle.wasi_calls.specs.internal.checks.Buffers.{list_of}
 use Rattle.wasi_calls.proofs.checks.BufferArrays.{total_more}
@@ -12,7 +12,7 @@ loop-index-preserved c =
     omega (arith, more, c.loop-index.invariant, c.if-buffers-index-gt0.false)
 
 pub returns : goal.returns
-returns c = sym (ap (λ (l : List Span). total (list_of l)) (take_all c.loop-index.index c.args.buffers.now c.loop-index-test.false)) ∙ c.loop-index.invariant
+returns c = sym (ap (λ (l : List MemorySpan). total (list_of l)) (take_all c.loop-index.index c.args.buffers.now c.loop-index-test.false)) ∙ c.loop-index.invariant
 
 pub returns-then-buffers-index-gt0 : goal.returns-then-buffers-index-gt0
 returns-then-buffers-index-gt0 c = record { inside = c.loop-index-test.true; before = c.loop-index.invariant; room = c.if-buffers-index-gt0.true }

@@ -1,13 +1,13 @@
 use Rattle.std.proofs.Common.{◌≡◌, ◌+◌, ◌≤◌, length, min, refl, sym, ◌∙◌, arith}
 use Rattle.std.proofs.lemmas.Bool.{false≢true}
-use Rattle.vol_body.specs.declared.source.Span.{Span}
+use Rattle.vol_body.specs.declared.source.MemorySpan.{MemorySpan}
 use Rattle.stream_answers.specs.Hearing.{stays}
 use Rattle.wasi_calls.specs.internal.checks.Buffers.{list_of}
 use Rattle.wasi_calls.proofs.checks.BufferArrays.{inside_at}
 use Rattle.wasi_calls.proofs.streams.ShortReads.{dealt_once, nothing_dealt, untouched, room_at}
 use Rattle.wasi_calls.proofs.streams.inputs.read_once.Goals as goal
 
-abbrev no_buffer : Span
+abbrev no_buffer : MemorySpan
 no_buffer = record { pointer = 0; len = 0 }
 
 pub returns-then-input : goal.returns-then-input

@@ -65,9 +65,12 @@ pub returns-in-None-clause-refused : goal.returns-in-None-clause-refused
 returns-in-None-clause-refused c =
     let r : Prepared = arc_value c.self.inside.prepared in
     let same = c.module.ensures.value ∙ ap (λ (p : Prepared). p.valid) c.deref-prepared.ensures in
-    rw (← c.self.view_is) (refl, λ k.
-      let here : IsImportType r.valid c.in-Asking.ask.function k.1 = subst (λ (a : Ask). IsImportType r.valid a.function k.1) (ask_once _ c.in-Asking.ask (sym k.3.asks ∙ c.in-Asking.is)) k.3.is_import in
-      c.in-None.ensures.missing k.1 (subst (λ (m : Module). IsImportType m c.in-Asking.ask.function k.1) (sym same) here))
+    rw (← c.self.view_is) (
+      refl,
+      λ k.
+          let here : IsImportType r.valid c.in-Asking.ask.function k.1 = subst (λ (a : Ask). IsImportType r.valid a.function k.1) (ask_once _ c.in-Asking.ask (sym k.3.asks ∙ c.in-Asking.is)) k.3.is_import in
+          c.in-None.ensures.missing k.1 (subst (λ (m : Module). IsImportType m c.in-Asking.ask.function k.1) (sym same) here),
+    )
 
 pub returns-then-not-fit-clause-refused : goal.returns-then-not-fit-clause-refused
 returns-then-not-fit-clause-refused c =
@@ -77,5 +80,13 @@ returns-then-not-fit-clause-refused c =
     let is_import : IsImportType r.valid c.in-Asking.ask.function f = subst (λ (m : Module). IsImportType m c.in-Asking.ask.function f) (c.module.ensures.value ∙ ap (λ (p : Prepared). p.valid) c.deref-prepared.ensures) c.in-Some.ensures.found in
     let above : ℕ = c.in-Asking.ask.above in
     let arguments : List ℕ = take (length f.params) (drop above (reverse c.self.inside.state.values.items)) in
-    rw (← c.self.view_is) (refl, (c.in-Asking.ask.function, f, arguments, record { above = above; asks = c.in-Asking.is; is_import = is_import; arguments_are = refl },
-      λ k. c.if-not-fit.ensures.no (subst (λ (xs : List ℕ). Fit c.as_slice-results.result.now xs) (sym (listed c.args.value _ c.as_slice-given.ensures)) (subst (λ (ts : List ValueType). Fit ts ns) (sym c.as_slice-results.ensures) k))))
+    rw (← c.self.view_is) (
+      refl,
+      (
+        c.in-Asking.ask.function,
+        f,
+        arguments,
+        record { above = above; asks = c.in-Asking.is; is_import = is_import; arguments_are = refl },
+        λ k. c.if-not-fit.ensures.no (subst (λ (xs : List ℕ). Fit c.as_slice-results.result.now xs) (sym (listed c.args.value _ c.as_slice-given.ensures)) (subst (λ (ts : List ValueType). Fit ts ns) (sym c.as_slice-results.ensures) k)),
+      ),
+    )

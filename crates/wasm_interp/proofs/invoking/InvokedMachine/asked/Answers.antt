@@ -47,5 +47,5 @@ returns-in-None-clause-not c =
     let r : Prepared = arc_value c.self.inside.prepared in
     let same = c.module.ensures.value ∙ ap (λ (p : Prepared). p.valid) c.deref-prepared.ensures in
     rw (← c.self.view_is) (λ k.
-      let here : IsImportType r.valid c.in-Asking.ask.function k.1 = subst (λ (a : Ask). IsImportType r.valid a.function k.1) (ask_once _ c.in-Asking.ask (sym k.3.asks ∙ c.in-Asking.is)) k.3.is_import in
-      c.in-None.ensures.missing k.1 (subst (λ (m : Module). IsImportType m c.in-Asking.ask.function k.1) (sym same) here))
+    let here : IsImportType r.valid c.in-Asking.ask.function k.1 = subst (λ (a : Ask). IsImportType r.valid a.function k.1) (ask_once _ c.in-Asking.ask (sym k.3.asks ∙ c.in-Asking.is)) k.3.is_import in
+    c.in-None.ensures.missing k.1 (subst (λ (m : Module). IsImportType m c.in-Asking.ask.function k.1) (sym same) here))

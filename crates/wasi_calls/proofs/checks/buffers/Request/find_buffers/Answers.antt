@@ -1,6 +1,6 @@
 use Rattle.std.proofs.Common.{List, Ok, sym, ap, ◌∙◌, arith}
 use Rattle.std.proofs.lemmas.Bool.{leb-true}
-use Rattle.vol_body.specs.declared.source.Span.{Span}
+use Rattle.vol_body.specs.declared.source.MemorySpan.{MemorySpan}
 use Rattle.wasi_calls.specs.internal.checks.Buffers.{list_of, fit}
 use Rattle.wasi_calls.proofs.checks.Chains.{goes_on, stops}
 use Rattle.wasi_calls.proofs.checks.BufferArrays.{found_row}
@@ -12,7 +12,7 @@ returns-in-Err-check_buffers-clause-found c =
     let m = c.args.memory.now in
     let all = list_of c.read_array.new.room.items in
     found_row m q.iovs q.count q.result_at all c.in_default.ensures.meaning c.in_default-check_range.ensures.range c.read_array.ensures.read
-    ∙ stops _ _ _ (ap (λ (bs : List Span). fit m (list_of bs)) (sym c.as_slice.ensures.value) ∙ c.in-Err-check_buffers.ensures.fit)
+    ∙ stops _ _ _ (ap (λ (bs : List MemorySpan). fit m (list_of bs)) (sym c.as_slice.ensures.value) ∙ c.in-Err-check_buffers.ensures.fit)
 
 pub returns-in-Ok-clause-found : goal.returns-in-Ok-clause-found
 returns-in-Ok-clause-found c =
@@ -20,8 +20,8 @@ returns-in-Ok-clause-found c =
     let m = c.args.memory.now in
     let all = list_of c.read_array.new.room.items in
     found_row m q.iovs q.count q.result_at all c.in_default.ensures.meaning c.in_default-check_range.ensures.range c.read_array.ensures.read
-    ∙ (goes_on _ _ all (ap (λ (bs : List Span). fit m (list_of bs)) (sym c.as_slice.ensures.value)
-    ∙ (c.in_default-check_buffers.ensures.fit ∙ ap (λ (bs : List Span). Ok (list_of bs)) c.as_slice.ensures.value))
+    ∙ (goes_on _ _ all (ap (λ (bs : List MemorySpan). fit m (list_of bs)) (sym c.as_slice.ensures.value)
+    ∙ (c.in_default-check_buffers.ensures.fit ∙ ap (λ (bs : List MemorySpan). Ok (list_of bs)) c.as_slice.ensures.value))
     ∙ goes_on _ _ tt c.in-Ok.ensures.range)
 
 pub returns-in-Err-check_range-2-clause-found : goal.returns-in-Err-check_range-2-clause-found
@@ -30,8 +30,8 @@ returns-in-Err-check_range-2-clause-found c =
     let m = c.args.memory.now in
     let all = list_of c.read_array.new.room.items in
     found_row m q.iovs q.count q.result_at all c.in_default.ensures.meaning c.in_default-check_range.ensures.range c.read_array.ensures.read
-    ∙ (goes_on _ _ all (ap (λ (bs : List Span). fit m (list_of bs)) (sym c.as_slice.ensures.value)
-    ∙ (c.in_default-check_buffers.ensures.fit ∙ ap (λ (bs : List Span). Ok (list_of bs)) c.as_slice.ensures.value))
+    ∙ (goes_on _ _ all (ap (λ (bs : List MemorySpan). fit m (list_of bs)) (sym c.as_slice.ensures.value)
+    ∙ (c.in_default-check_buffers.ensures.fit ∙ ap (λ (bs : List MemorySpan). Ok (list_of bs)) c.as_slice.ensures.value))
     ∙ stops _ _ _ c.in-Err-check_range-2.ensures.range)
 
 pub returns-in-Err-check_range-clause-found : goal.returns-in-Err-check_range-clause-found

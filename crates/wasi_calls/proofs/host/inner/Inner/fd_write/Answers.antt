@@ -4,7 +4,7 @@ use Rattle.wasi_fd.specs.declared.descriptor.Descriptor.{Descriptor}
 use Rattle.wasi_fd.specs.declared.descriptor.Descriptor.TheVariants.{Stream, Entry}
 use Rattle.wasi_fd.specs.Table.{table_of}
 use Rattle.wasm_store.specs.declared.call.HostCall.TheVariants as call
-use Rattle.wasi_calls.specs.declared.checks.Takes.TheVariants as takes
+use Rattle.wasi_calls.specs.declared.checks.DescriptorKinds.TheVariants as takes
 use Rattle.wasi_calls.proofs.checks.NoneAnswers29.{descriptor_never}
 use Rattle.wasi_calls.specs.Checks.{descriptor, no_directories, gathered}
 use Rattle.wasi_calls.specs.files.Rows.{fd_write}

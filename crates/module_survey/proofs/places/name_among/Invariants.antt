@@ -1,7 +1,0 @@
-use Rattle.std.proofs.Common.{◌≡◌, ◌-◌}
-use Rattle.module_survey.specs.Places.{name_among}
-use Rattle.module_survey.proofs.places.name_among.Given as goal
-
--- what is found from here on is what is found
-abbrev pub invariant-loop : goal.invariant-loop
-invariant-loop l = name_among (l.count - l.counter) l.index l.rest ≡ name_among l.count l.index l.pairs

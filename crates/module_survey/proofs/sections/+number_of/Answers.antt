@@ -1,8 +1,0 @@
-use Rattle.std.proofs.Common.{◌<◌, arith}
-use Rattle.wasm_module.proofs.Powers.{seven}
-use Rattle.module_survey.proofs.sections.+number_of.Goals as goal
-
-pub returns-clause-within : goal.returns-clause-within
-returns-clause-within t c =
-    let wide : 7 < c.args.bits = omega arith in
-    omega (arith, seven c.args.bits wide, c.in_ok-high.ensures.within, c.type_inv.bytes 0)

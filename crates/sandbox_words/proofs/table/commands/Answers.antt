@@ -1,8 +1,0 @@
-use Rattle.std.proofs.Common.{refl}
-use Rattle.sandbox_words.specs.CommandLine.{table_apps}
-use Rattle.sandbox_words.proofs.table.commands.Goals as goal
-
--- the rows spell these commands
-pub returns : goal.returns
-unfolding table_apps
-returns c = refl

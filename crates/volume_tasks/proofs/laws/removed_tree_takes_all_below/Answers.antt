@@ -1,5 +1,0 @@
-use Rattle.volume_tasks.proofs.RemovedMap.{tree_removed_map}
-use Rattle.volume_tasks.proofs.laws.removed_tree_takes_all_below.Goals as goal
-
-pub returns : goal.returns
-returns c = tree_removed_map
