@@ -3,7 +3,7 @@ use Rattle.std.specs.Io.KnownBytes.{Appends}
 use Rattle.std.proofs.lemmas.Result.{on_ok_weaker}
 use Rattle.run_profile.specs.Folded.{cut_text}
 use Rattle.run_profile.proofs.Lines.{appends_on}
-use Rattle.run_profile.proofs.stacks.Profile.print.Goals as goal
+use Rattle.run_profile.proofs.stacks.FuelProfile.print.Goals as goal
 
 -- the lines, and behind them the last one
 pub returns : goal.returns

@@ -2,8 +2,8 @@ use Rattle.std.proofs.Common.{◌≡◌, ◌<◌, ◌++◌, length, slice_index,
 use Rattle.std.specs.Io.KnownBytes.{Appends}
 use Rattle.run_profile.specs.Folded.{line_text}
 use Rattle.run_profile.proofs.Lines.{appends_on, printed_none, printed_some, printed_all}
-use Rattle.run_profile.proofs.stacks.Profile.print_stacks.Goals as goal
-use Rattle.run_profile.proofs.stacks.Profile.print_stacks.Goals.{then-units_at-gt0+in_ok-print_node, else-units_at-gt0}
+use Rattle.run_profile.proofs.stacks.FuelProfile.print_stacks.Goals as goal
+use Rattle.run_profile.proofs.stacks.FuelProfile.print_stacks.Goals.{then-units_at-gt0+in_ok-print_node, else-units_at-gt0}
 
 -- a line more, or none where no units were taken
 pub loop-node-preserved : goal.loop-node-preserved

@@ -1,7 +1,7 @@
 use Rattle.std.proofs.Common.{List, ℕ}
 use Rattle.std.specs.Io.KnownBytes.{Appends}
 use Rattle.run_profile.proofs.Lines.{Printed}
-use Rattle.run_profile.proofs.stacks.Profile.print_stacks.Given as goal
+use Rattle.run_profile.proofs.stacks.FuelProfile.print_stacks.Given as goal
 
 -- the lines of the nodes so far are printed
 abbrev pub invariant-loop-node : goal.invariant-loop-node

@@ -1,6 +1,6 @@
 use Rattle.std.proofs.Common.{arith, ◌∙◌}
 use Rattle.sandbox_device.proofs.Packing.{put_over, has_room, put_packed, put_new, put_zeros}
-use Rattle.sandbox_device.proofs.part.Part.put.Goals as goal
+use Rattle.sandbox_device.proofs.part.SectorBlock.put.Goals as goal
 
 pub push_reserved-requires : goal.push_reserved-requires
 push_reserved-requires c =

@@ -41,8 +41,8 @@ use Rattle.std_alloc.proofs.boxed.Box.from_raw.Symbol as raw_sym
 use Rattle.std_alloc.proofs.boxed.Box.from_raw.Met as raw_met
 use Rattle.sandbox_host.specs.contracts.parts.Parts.into_box as F
 use Rattle.sandbox_host.specs.contracts.parts.Parts.into_box.Key.{name as #self}
-use Rattle.sandbox_host.proofs.parts.Parts.into_box.Statement as stated
-use Rattle.sandbox_host.proofs.parts.Parts.into_box.Code as code
+use Rattle.sandbox_host.proofs.parts.HandleParts.into_box.Statement as stated
+use Rattle.sandbox_host.proofs.parts.HandleParts.into_box.Code as code
 
 abbrev rest : Body
 rest = seq (assign (place 0 []) (rv_opd (copy (place 4 [])))) return

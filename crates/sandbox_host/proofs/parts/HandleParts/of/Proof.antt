@@ -43,8 +43,8 @@ use Rattle.std_alloc.proofs.boxed.Box.into_raw_with_allocator.Symbol as raw_sym
 use Rattle.std_alloc.proofs.boxed.Box.into_raw_with_allocator.Met as raw_met
 use Rattle.sandbox_host.specs.contracts.parts.Parts.of as F
 use Rattle.sandbox_host.specs.contracts.parts.Parts.of.Key.{name as #self}
-use Rattle.sandbox_host.proofs.parts.Parts.of.Statement as stated
-use Rattle.sandbox_host.proofs.parts.Parts.of.Code as code
+use Rattle.sandbox_host.proofs.parts.HandleParts.of.Statement as stated
+use Rattle.sandbox_host.proofs.parts.HandleParts.of.Code as code
 
 module _ (E : Bx) (dx : Dict) where
   abbrev args : Args
