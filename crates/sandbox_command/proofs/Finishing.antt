@@ -36,7 +36,7 @@ use Rattle.sandbox_command.specs.Status.{export_status, file_status, import_stat
 use Rattle.sandbox_command.specs.Modules.{profile_for}
 use Rattle.sandbox_command.specs.Stopping.{TellsLines}
 use Rattle.sandbox_command.specs.Streams.{AppendsSome}
-use Rattle.sandbox_command.specs.Testing.{RunsLines}
+use Rattle.sandbox_command.specs.ListOfTests.{RunsLines}
 use Rattle.sandbox_command.proofs.Bounds.{export_within, import_within, of_load, of_session, runs_within}
 use Rattle.sandbox_command.proofs.Lines.{lines_then}
 

@@ -3,8 +3,8 @@ use Rattle.std.proofs.Common.{Option, None, MatchOption, ◌≡◌, ◌≢◌, �
 use Rattle.std.proofs.lemmas.List.{get_or_at}
 use Rattle.std.specs.List.{All}
 use Rattle.sandbox_args.specs.Request.{Text}
-use Rattle.sandbox_command.specs.declared.testing.TestFiles.{TestFiles}
-use Rattle.sandbox_command.specs.Testing.{IsNoTest, IsTest, IsWord, line_of}
+use Rattle.sandbox_command.specs.declared.list_of_tests.TestFiles.{TestFiles}
+use Rattle.sandbox_command.specs.ListOfTests.{IsNoTest, IsTest, IsWord, line_of}
 use Rattle.sandbox_command.specs.internal.Tests.{BeginsWithNoWord}
 
 -- nowhere a blank

@@ -39,7 +39,7 @@ use Rattle.sandbox_command.specs.Places.{Access, HasRoom, Locks, Reads, Took, Wa
 use Rattle.sandbox_command.specs.Status.{command_line_status, file_status, words_status}
 use Rattle.sandbox_command.specs.Streams.{AppendsSome}
 use Rattle.sandbox_command.specs.System.{IsImageOfName, IsOutput, IsRead, IsVolume, WasGiven}
-use Rattle.sandbox_command.specs.Testing.{RunsList}
+use Rattle.sandbox_command.specs.ListOfTests.{RunsList}
 pub use Rattle.sandbox_command.specs.Beginning.{IsImage, memory_disk}
 
 -- what each run of a list of tests has of its own, or can't have

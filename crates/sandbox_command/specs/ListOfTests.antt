@@ -24,7 +24,7 @@ use Rattle.sandbox_args.specs.Request.{Text}
 use Rattle.sandbox_command.specs.declared.program.Executed.{Executed}
 use Rattle.sandbox_command.specs.declared.places.Places.{Ghosts}
 use Rattle.sandbox_command.specs.declared.streams.Streams.{Streams}
-use Rattle.sandbox_command.specs.declared.testing.TestFiles.{TestFiles}
+use Rattle.sandbox_command.specs.declared.list_of_tests.TestFiles.{TestFiles}
 use Rattle.sandbox_command.specs.Around.{Around, EndsGiven, in_memory}
 use Rattle.sandbox_command.specs.Beginning.{IsImage, unread}
 use Rattle.sandbox_command.specs.Execution.{NotLoaded, NotSupplied, RunsOn}

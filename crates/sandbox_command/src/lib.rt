@@ -37,6 +37,7 @@ mod work;
 
 pub use files::{exit_code, perform, perform_in};
 pub use host_volume::HostVolume;
+pub use list_of_tests::run_list;
 pub use places::Places;
 pub use profiling::FuelUse;
 pub use program::{Executed, execute, refuse_command_line, refuse_words};
@@ -49,7 +50,6 @@ pub use sandbox_report::{Printed, Summary};
 pub use stopping::Stopped;
 pub use stream_answers::{Inlet, Outlet};
 pub use streams::{InputSource, Sink, SpareStreams, Streams};
-pub use testing::run_list;
 pub use vol_commands::FRESH_SECTORS;
 pub use vol_inode::Version;
 pub use work::VolumeWork;

@@ -6,7 +6,7 @@ ghost use Rattle.sandbox_core.specs.declared.fault.SessionFault.TheVariants as o
 ghost use Rattle.sandbox_command.specs.Around.{around, calling, calls_of, flushing};
 ghost use Rattle.sandbox_command.specs.Places.{IsRefusedAmong};
 ghost use Rattle.sandbox_command.specs.Status.{session_status};
-ghost use Rattle.sandbox_command.specs.Testing.{AreRead, HasFailed, HasNoTest, HasRun, IsNoTest, IsTest, IsTestedOrUnread, IsWord, LacksFiles, Lists, RunsLines, RunsList, RunsTests, line_of, list_accesses};
+ghost use Rattle.sandbox_command.specs.ListOfTests.{AreRead, HasFailed, HasNoTest, HasRun, IsNoTest, IsTest, IsTestedOrUnread, IsWord, LacksFiles, Lists, RunsLines, RunsList, RunsTests, line_of, list_accesses};
 ghost use Rattle.sandbox_command.specs.internal.Runnable.{IsReadyFor, module_in};
 ghost use Rattle.sandbox_command.specs.internal.Supplies.{AreSupplies};
 ghost use Rattle.sandbox_command.specs.internal.Tests.{AllEndAs, BeginsWithNoWord, IsPrepared, IsTold, OneEndsAs};

@@ -7,7 +7,7 @@ use Rattle.std_heap.specs.contracts.Global as Heap
 use Rattle.std_heap.specs.contracts.GlobalAllocator.TheImpl.{ghosts, dict}
 use Rattle.std_heap.proofs.Global.TheLaws as heap
 use Rattle.sandbox_host.specs.contracts.held.HandleContent as HandleContent
-use Rattle.sandbox_host.proofs.held.Held.TheLaws as held
+use Rattle.sandbox_host.proofs.held.HandleContent.TheLaws as held
 use Rattle.sandbox_host.specs.contracts.parts.HandleParts as HandleParts
 use Rattle.sandbox_host.specs.contracts.handle.Handle as Handle
 

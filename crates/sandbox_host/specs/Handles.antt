@@ -7,7 +7,7 @@ use base.Fml.{Fml, feq}
 use base.Stored.{Coded}
 use denote.RawPtr.{Ptr, null_ptr}
 use Rattle.std.specs.Box.Ownership.{box_owns}
-use Rattle.sandbox_host.specs.contracts.held.Held.{the_row}
+use Rattle.sandbox_host.specs.contracts.held.HandleContent.{the_row}
 
 abbrev pub handle_owns : (Ty → Ptr → Fml) → Ptr → Option the_row.Denot → Fml
 handle_owns token p None = feq Ptr p null_ptr

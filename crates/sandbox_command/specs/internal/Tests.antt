@@ -1,5 +1,5 @@
 -- The parts of a list and of a test: a word, the files of a test, its report, its end. They are in the contracts of
--- private functions in `crates/sandbox_command/src/testing.rt`; what `run_list` promises stands in `Testing`.
+-- private functions in `crates/sandbox_command/src/list_of_tests.rt`; what `run_list` promises stands in `ListOfTests`.
 use Rattle.std.specs.Prelude.{◌≡◌, ◌⊎◌, ◌++◌, ℕ, List, ◌∷◌, Bool, true, false, Option}
 use Rattle.std.specs.Io.KnownBytes.{Appends}
 use Rattle.std.specs.declared.io.ErrorKind.{ErrorKind}
@@ -12,11 +12,11 @@ use Rattle.sandbox_report.specs.Reporting.{report_text}
 use Rattle.sandbox_args.specs.declared.request.Run.{Run}
 use Rattle.sandbox_args.specs.Request.{Text}
 use Rattle.sandbox_command.specs.declared.places.Places.{Ghosts}
-use Rattle.sandbox_command.specs.declared.testing.PreparedTest.{PreparedTest}
-use Rattle.sandbox_command.specs.declared.testing.TestFiles.{TestFiles}
+use Rattle.sandbox_command.specs.declared.list_of_tests.PreparedTest.{PreparedTest}
+use Rattle.sandbox_command.specs.declared.list_of_tests.TestFiles.{TestFiles}
 use Rattle.sandbox_command.specs.Beginning.{IsImage}
 use Rattle.sandbox_command.specs.Places.{Access, Chain, ChainWithFailure, IsOfImage, Prints}
-use Rattle.sandbox_command.specs.Testing.{IsWord, stream_accesses}
+use Rattle.sandbox_command.specs.ListOfTests.{IsWord, stream_accesses}
 
 -- no word stands at its beginning, with a blank behind it
 abbrev pub BeginsWithNoWord : Text → Type 0

@@ -11,7 +11,7 @@ use Rattle.sandbox_report.specs.Reporting.{report_text}
 use Rattle.sandbox_args.specs.Request.{Text}
 use Rattle.sandbox_command.specs.Places.{Access, Prints}
 use Rattle.sandbox_command.specs.internal.Tests.{IsToldAs}
-use Rattle.sandbox_command.proofs.testing.is_told_of_guest.Goals as goal
+use Rattle.sandbox_command.proofs.list_of_tests.is_told_of_guest.Goals as goal
 
 module _ {P : Type 0} (refuses : Access → ErrorKind → P → P → Type 0) (prints : Text → Text → P → P → Type 0) (name : Text) (summary : Summary) (frames : Text) (p q : P) (before after : Option (List ℕ))
     (r : Result (Unit {0}) Error) (refused : IfErr r (λ e. refuses (Prints name) (error_kind e) p q)) (printed : OnOk r (prints name (report_text summary ++ frames) p q)) (tells : OnOk r (Appends before after (report_text summary ++ frames))) where

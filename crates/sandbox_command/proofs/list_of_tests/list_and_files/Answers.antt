@@ -1,6 +1,6 @@
 use Rattle.std.proofs.Common.{inl, inr}
 use Rattle.sandbox_command.proofs.Chains.{passed}
-use Rattle.sandbox_command.proofs.testing.list_and_files.Goals as goal
+use Rattle.sandbox_command.proofs.list_of_tests.list_and_files.Goals as goal
 
 pub returns-in_err-text : goal.returns-in_err-text
 returns-in_err-text g c = passed _ _ c.from_residual.result c.in_err-text.field-0.0 c.from_residual.ensures.1 (inl (c.text.ensures.asked, c.in_err-text.ensures.refused))

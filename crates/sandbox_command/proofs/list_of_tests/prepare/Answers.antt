@@ -1,6 +1,6 @@
 use Rattle.std.proofs.Common.{inl, inr}
 use Rattle.sandbox_command.proofs.Chains.{passed}
-use Rattle.sandbox_command.proofs.testing.prepare.Goals as goal
+use Rattle.sandbox_command.proofs.list_of_tests.prepare.Goals as goal
 
 pub returns-in_err-open : goal.returns-in_err-open
 returns-in_err-open g c = passed _ _ c.from_residual.result c.in_err-open.field-0.0 c.from_residual.ensures.1 (inl (inl (c.open.ensures.asked, c.in_err-open.ensures.refused)))

@@ -1,5 +1,5 @@
 use Rattle.sandbox_command.proofs.Lines.{lines_then}
-use Rattle.sandbox_command.proofs.testing.refuse_all.Goals as goal
+use Rattle.sandbox_command.proofs.list_of_tests.refuse_all.Goals as goal
 
 pub returns : goal.returns
 returns g c =

@@ -1,5 +1,5 @@
 use Rattle.sandbox_command.proofs.Lines.{lines_then}
-use Rattle.sandbox_command.proofs.testing.refuse_tests.Goals as goal
+use Rattle.sandbox_command.proofs.list_of_tests.refuse_tests.Goals as goal
 
 pub returns-clause-line : goal.returns-clause-line
 returns-clause-line g c =

@@ -1,13 +1,13 @@
 use Rattle.std.proofs.Common.{◌≡◌, ◌⊎◌, ◌<◌, ◌+◌, ℕ, Bool, true, false, List, length, take, get_or, inl, inr, refl, sym, ◌∙◌, ap, subst}
 use Rattle.wasm_module.specs.declared.module.Module.{Module}
 use Rattle.sandbox_command.specs.Around.{calls_of}
-use Rattle.sandbox_command.specs.declared.testing.TestFiles.{TestFiles}
-use Rattle.sandbox_command.specs.Testing.{HasFailed, HasRun}
+use Rattle.sandbox_command.specs.declared.list_of_tests.TestFiles.{TestFiles}
+use Rattle.sandbox_command.specs.ListOfTests.{HasFailed, HasRun}
 use Rattle.sandbox_command.specs.internal.Runnable.{IsReadyFor, module_in}
 use Rattle.sandbox_command.specs.internal.Tests.{AllEndAs, OneEndsAs}
 use Rattle.sandbox_command.proofs.Chains.{AllEndAs-end, AllEndAs-next}
-use Rattle.sandbox_command.proofs.testing.run_all.Goals as goal
-use Rattle.sandbox_command.proofs.testing.run_all.Goals.{then-have_run, else-have_run}
+use Rattle.sandbox_command.proofs.list_of_tests.run_all.Goals as goal
+use Rattle.sandbox_command.proofs.list_of_tests.run_all.Goals.{then-have_run, else-have_run}
 
 -- one test more was tried, with the same module
 one_more : {P : Type 0} (Went Failed : Module → TestFiles → P → P → Type 0) (first m : Module) (had has now : Bool) → ((had ≡ true) × (now ≡ has)) ⊎ ((had ≡ false) × (now ≡ had)) → (tests : List TestFiles) (i : ℕ) (d : TestFiles) (p q r : P) → m ≡ first → i < length tests

@@ -1,9 +1,9 @@
 use Rattle.std.proofs.Common.{◌≡◌, take}
 use Rattle.sandbox_command.specs.Around.{calls_of}
-use Rattle.sandbox_command.specs.Testing.{HasFailed, HasRun}
+use Rattle.sandbox_command.specs.ListOfTests.{HasFailed, HasRun}
 use Rattle.sandbox_command.specs.internal.Runnable.{module_in}
 use Rattle.sandbox_command.specs.internal.Tests.{AllEndAs}
-use Rattle.sandbox_command.proofs.testing.run_all.Given as goal
+use Rattle.sandbox_command.proofs.list_of_tests.run_all.Given as goal
 
 -- it is the module that was handed in, and each test so far was tried
 abbrev pub invariant-loop-test : goal.invariant-loop-test

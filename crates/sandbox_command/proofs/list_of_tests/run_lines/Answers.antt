@@ -2,11 +2,11 @@ use Rattle.std.proofs.Common.{◌≡◌, ◌⊎◌, ℕ, List, inl, inr, refl, s
 use Rattle.sandbox_args.specs.Request.{Text}
 use Rattle.sandbox_core.specs.declared.fault.SessionFault.{SessionFault}
 use Rattle.sandbox_core.specs.declared.fault.SessionFault.TheVariants.{Setting, Memory}
-use Rattle.sandbox_command.specs.declared.testing.TestFiles.{TestFiles}
+use Rattle.sandbox_command.specs.declared.list_of_tests.TestFiles.{TestFiles}
 use Rattle.sandbox_command.specs.Places.{IsOfRandom}
 use Rattle.sandbox_command.specs.Status.{session_status}
-use Rattle.sandbox_command.specs.Testing.{HasNoTest, Lists}
-use Rattle.sandbox_command.proofs.testing.run_lines.Goals as goal
+use Rattle.sandbox_command.specs.ListOfTests.{HasNoTest, Lists}
+use Rattle.sandbox_command.proofs.list_of_tests.run_lines.Goals as goal
 
 -- a line is no test, or memory was wanting
 unlisted : (text : Text) (f : SessionFault) (status : ℕ) → status ≡ session_status f → ((f ≡ Setting) × HasNoTest text) ⊎ (f ≡ Memory)

@@ -9,9 +9,9 @@ use Rattle.sandbox_command.specs.Around.{calls_of}
 use Rattle.sandbox_command.specs.Modules.{profile_for}
 use Rattle.sandbox_command.specs.Reporting.{not_run, session_reason}
 use Rattle.sandbox_command.specs.internal.Runnable.{module_in}
-use Rattle.sandbox_command.specs.Testing.{HasFailed, HasRun}
+use Rattle.sandbox_command.specs.ListOfTests.{HasFailed, HasRun}
 use Rattle.sandbox_command.proofs.Chains.{failed_some, went_all}
-use Rattle.sandbox_command.proofs.testing.run_tests.Goals as goal
+use Rattle.sandbox_command.proofs.list_of_tests.run_tests.Goals as goal
 
 -- the words are refused
 pub returns-in-Err-clause-runs : goal.returns-in-Err-clause-runs

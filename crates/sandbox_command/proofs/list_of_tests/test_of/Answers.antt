@@ -1,6 +1,6 @@
 use Rattle.std.proofs.Common.{sym, ◌∙◌, true≢false}
 use Rattle.sandbox_command.proofs.Words.{of_none, no_second, no_third, no_fourth}
-use Rattle.sandbox_command.proofs.testing.test_of.Goals as goal
+use Rattle.sandbox_command.proofs.list_of_tests.test_of.Goals as goal
 
 pub returns-in_err-output : goal.returns-in_err-output
 returns-in_err-output c = of_none c.from_residual-in_err-output.result _ _ c.from_residual-in_err-output.ensures

@@ -8,10 +8,10 @@ use Rattle.std.proofs.lemmas.Grind.{common_steps}
 use Rattle.std.proofs.lemmas.Iterator.Consumers.{YieldsList-end, YieldsList-turn}
 use Rattle.std.proofs.lemmas.Iterator.Splits.{YieldsList-from_lines}
 use Rattle.sandbox_args.specs.Request.{Text}
-use Rattle.sandbox_command.specs.Testing.{IsTest, line_of}
-use Rattle.sandbox_command.specs.declared.testing.TestFiles.{TestFiles}
+use Rattle.sandbox_command.specs.ListOfTests.{IsTest, line_of}
+use Rattle.sandbox_command.specs.declared.list_of_tests.TestFiles.{TestFiles}
 use Rattle.sandbox_command.proofs.Words.{no_test_among}
-use Rattle.sandbox_command.proofs.testing.tests_of.Goals as goal
+use Rattle.sandbox_command.proofs.list_of_tests.tests_of.Goals as goal
 
 -- one line more is one test more
 one_more : (ts : List TestFiles) (t : TestFiles) (xs : List (Bor Text)) (x : Bor Text) → map line_of ts ≡ map (λ x. x.now) xs → line_of t ≡ x.now

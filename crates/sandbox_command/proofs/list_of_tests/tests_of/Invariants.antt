@@ -1,7 +1,7 @@
 use Rattle.std.proofs.Common.{◌≡◌, map}
 use Rattle.std.specs.List.{All}
-use Rattle.sandbox_command.specs.Testing.{IsTest, line_of}
-use Rattle.sandbox_command.proofs.testing.tests_of.Given as goal
+use Rattle.sandbox_command.specs.ListOfTests.{IsTest, line_of}
+use Rattle.sandbox_command.proofs.list_of_tests.tests_of.Given as goal
 
 -- the tests so far
 abbrev pub invariant-loop-line : goal.invariant-loop-line

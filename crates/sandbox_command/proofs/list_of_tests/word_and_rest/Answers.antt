@@ -1,7 +1,7 @@
 use Rattle.std.proofs.Common.{Some, None, sym, ◌∙◌, lit<, true≢false}
 use Rattle.std.proofs.lemmas.Str.Pattern.{split_parts}
 use Rattle.sandbox_command.proofs.Words.{no_word, of_none, uncut}
-use Rattle.sandbox_command.proofs.testing.word_and_rest.Goals as goal
+use Rattle.sandbox_command.proofs.list_of_tests.word_and_rest.Goals as goal
 
 -- the text has no blank
 pub returns-in_err-word : goal.returns-in_err-word

@@ -14,7 +14,7 @@ use Rattle.std_heap.specs.declared.Global.{Global}
 use Rattle.std_heap.specs.contracts.GlobalAllocator.TheImpl.{ghosts}
 use Rattle.sandbox_host.specs.Handles.{handle_owns}
 use Rattle.sandbox_host.specs.contracts.held.HandleContent as HandleContent
-use Rattle.sandbox_host.proofs.held.Held.TheSendSync.{the_send as held}
+use Rattle.sandbox_host.proofs.held.HandleContent.TheSendSync.{the_send as held}
 use Rattle.sandbox_host.specs.contracts.handle.Handle.{the_row, the_type}
 
 owns : (a : Global) (p : Ptr) (h : Option HandleContent.the_row.Denot) → Keyless (handle_owns (ghosts.dealloc_token a) p h)

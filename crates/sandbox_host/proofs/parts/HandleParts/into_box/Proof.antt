@@ -39,8 +39,8 @@ use Rattle.sandbox_host.specs.contracts.parts.HandleParts as parts
 use Rattle.std_alloc.specs.contracts.boxed.Box.from_raw as Fr
 use Rattle.std_alloc.proofs.boxed.Box.from_raw.Symbol as raw_sym
 use Rattle.std_alloc.proofs.boxed.Box.from_raw.Met as raw_met
-use Rattle.sandbox_host.specs.contracts.parts.Parts.into_box as F
-use Rattle.sandbox_host.specs.contracts.parts.Parts.into_box.Key.{name as #self}
+use Rattle.sandbox_host.specs.contracts.parts.HandleParts.into_box as F
+use Rattle.sandbox_host.specs.contracts.parts.HandleParts.into_box.Key.{name as #self}
 use Rattle.sandbox_host.proofs.parts.HandleParts.into_box.Statement as stated
 use Rattle.sandbox_host.proofs.parts.HandleParts.into_box.Code as code
 

@@ -41,8 +41,8 @@ use Rattle.sandbox_host.specs.contracts.parts.HandleParts as parts
 use Rattle.std_alloc.specs.contracts.boxed.Box.into_raw_with_allocator as Ra
 use Rattle.std_alloc.proofs.boxed.Box.into_raw_with_allocator.Symbol as raw_sym
 use Rattle.std_alloc.proofs.boxed.Box.into_raw_with_allocator.Met as raw_met
-use Rattle.sandbox_host.specs.contracts.parts.Parts.of as F
-use Rattle.sandbox_host.specs.contracts.parts.Parts.of.Key.{name as #self}
+use Rattle.sandbox_host.specs.contracts.parts.HandleParts.of as F
+use Rattle.sandbox_host.specs.contracts.parts.HandleParts.of.Key.{name as #self}
 use Rattle.sandbox_host.proofs.parts.HandleParts.of.Statement as stated
 use Rattle.sandbox_host.proofs.parts.HandleParts.of.Code as code
 
