@@ -1,5 +1,5 @@
 -- What a run on sectors in memory begins with (`IsImage`), and what is reported of a run that is not executed, since a
--- file or memory is refused (`unread`). A run alone (`Alone`) and a test of a list (`Testing`) both cite these.
+-- file or memory is refused (`unread`). A run alone (`Alone`) and a test of a list (`ListOfTests`) both cite these.
 use Rattle.std.specs.Prelude.{◌≡◌, ◌≤◌, ℕ, List, Option, Some, None, length, replicate}
 use Rattle.std.specs.Borrow.{Bor}
 use Rattle.std.specs.declared.io.ErrorKind.{ErrorKind}

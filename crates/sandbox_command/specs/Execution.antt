@@ -1,5 +1,5 @@
 -- What is done with a device: how it ends, and of which run, formatting, task, import or export its status tells
--- (`docs/USING.md`, "Commands"). `Runs` says it of a run, alone (`Alone`) or as a test of a list (`Testing`), up to its own
+-- (`docs/USING.md`, "Commands"). `Runs` says it of a run, alone (`Alone`) or as a test of a list (`ListOfTests`), up to its own
 -- lines, which are printed later; `Executes` of what is no run, which `execute` promises.
 use Rattle.std.specs.Prelude.{◌≡◌, ◌≢◌, ◌⊎◌, ℕ, true, List, Option, Some, None, Result}
 use Rattle.std.specs.Io.KnownBytes.{Keeps}
