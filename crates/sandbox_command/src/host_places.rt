@@ -333,7 +333,7 @@ fn print_stacks<N: Names>(
 impl<'a> Places for HostPlaces<'a> {
     type Input = File;
 
-    type FileOutput = FileOutput;
+    type Output = FileOutput;
 
     type Volume = HostVolume;
 
