@@ -9,6 +9,7 @@ use sandbox_core::laws::{headline, turns_are_safe};
 use sandbox_device::RecordedDevice;
 use sandbox_device::laws::record_is_followed;
 use vol_tree::one_tree;
+use wasm_interp::Machine;
 
 /// Whatever is called on a session that was opened, the calls of `resume` are resumes of it, told by their numbers, and the
 /// headline of `sandbox_core` holds of them: the guest's steps are a run of the reduction rules over a tree of paths, each
@@ -17,7 +18,7 @@ use vol_tree::one_tree;
 pub fn host_headline()
     ensures { HostHeadline }
 {
-    headline::<RecordedDevice, &'static [u8], KeptOutput, KeptOutput>();
+    headline::<Machine, RecordedDevice, &'static [u8], KeptOutput, KeptOutput>();
     turns_are_safe::<RecordedDevice, &'static [u8], KeptOutput, KeptOutput>();
 }
 
