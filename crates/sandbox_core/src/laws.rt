@@ -10,16 +10,19 @@ ghost use Rattle.sandbox_core.specs.Safety.{TurnsAreSafe};
 use stream_answers::{Inlet, Outlet};
 use vol_sector::Device;
 pub use wasi_calls::{confined, confined_host, host_calls_are_rows, kept, streams_are_heard};
-use wasm_interp::{Host, Machine};
+use wasm_interp::Host;
 
 /// By what snapshots of a machine stand for configurations of an instance. What a session promises takes this from each turn to the
-/// next, so the headline holds whatever it is; a machine's own is `Represents`.
+/// next, so the headline holds whatever it is; the machine's own is that of `OwnMeaning`.
 pub trait SnapshotMeaning {
     /// The snapshot stands for this configuration of this instance.
     ghost stands: { Snapshot → Instance → Configuration → Type 0 };
 }
 
-impl SnapshotMeaning for Machine {
+/// The machine's own.
+pub struct OwnMeaning;
+
+impl SnapshotMeaning for OwnMeaning {
     ghost stands = { Represents };
 }
 

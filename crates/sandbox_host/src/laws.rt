@@ -5,11 +5,10 @@ ghost use Rattle.sandbox_host.specs.Carried.{IsCarried, IsCarriedOn};
 ghost use Rattle.sandbox_host.specs.Settled.{IsSettled, IsSettledSoFar, IsSyncSettled, IsRecordKept, IsRecordKeptSoFar};
 
 use crate::kept::KeptOutput;
-use sandbox_core::laws::{headline, turns_are_safe};
+use sandbox_core::laws::{OwnMeaning, headline, turns_are_safe};
 use sandbox_device::RecordedDevice;
 use sandbox_device::laws::record_is_followed;
 use vol_tree::one_tree;
-use wasm_interp::Machine;
 
 /// Whatever is called on a session that was opened, the calls of `resume` are resumes of it, told by their numbers, and the
 /// headline of `sandbox_core` holds of them: the guest's steps are a run of the reduction rules over a tree of paths, each
@@ -18,7 +17,7 @@ use wasm_interp::Machine;
 pub fn host_headline()
     ensures { HostHeadline }
 {
-    headline::<Machine, RecordedDevice, &'static [u8], KeptOutput, KeptOutput>();
+    headline::<OwnMeaning, RecordedDevice, &'static [u8], KeptOutput, KeptOutput>();
     turns_are_safe::<RecordedDevice, &'static [u8], KeptOutput, KeptOutput>();
 }
 
