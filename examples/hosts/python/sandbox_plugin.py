@@ -160,7 +160,8 @@ class Instance(Session):
     def resume(self, units):
         raise TypeError("an instance is called")
 
-    run = resume
+    def run(self, fuel):
+        raise TypeError("an instance is called")
 
     def finish(self):
         """Commits the guest's calls, and gives the bytes of its volume."""
