@@ -294,7 +294,8 @@ impl<'a> HostPlaces<'a> {
         ensures { IfOk result (λ bytes. IsRead name.now most bytes.items) }
     {
         let mut file = self.source(name)?;
-        read_whole(self.rt.alloc(), &mut file, most)
+        let expected = file.metadata()?.len().min(most) as usize;
+        read_whole(self.rt.alloc(), &mut file, most, expected)
     }
 
     /// Prints a report into a file that has no other part in its line, and ends the line.
@@ -333,7 +334,7 @@ fn print_stacks<N: Names>(
 impl<'a> Places for HostPlaces<'a> {
     type Input = File;
 
-    type FileOutput = FileOutput;
+    type Output = FileOutput;
 
     type Volume = HostVolume;
 

@@ -381,8 +381,8 @@ pub fn format(sectors: usize, slots: u32) -> Result<Sectors, Refused> {
     Ok(made)
 }
 
-/// What a function of a module is called: its name in the section `name`, else that of its first export, else `function[3]`. A name
-/// has any bytes.
+/// What a function of a module is called: its name in the section `name`, else that of its first export, else `function[3]`. An
+/// empty name is none; else it has any bytes.
 pub fn function_name(module: &[u8], function: u32) -> Vec<u8> {
     // SAFETY: the room has its length.
     unsafe {
