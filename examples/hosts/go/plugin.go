@@ -52,7 +52,9 @@ func (number Refused) Error() string {
 // Ended says how a call ended that didn't return: by a trap, by proc_exit, without memory or without units.
 type Ended struct{ Kind, Code uint32 }
 
-func (ended Ended) Error() string { return fmt.Sprintf("it ended with kind %d, code %d", ended.Kind, ended.Code) }
+func (ended Ended) Error() string {
+	return fmt.Sprintf("it ended with kind %d, code %d", ended.Kind, ended.Code)
+}
 
 func checked(answer C.uint32_t) error {
 	if answer != C.SANDBOX_OK {
