@@ -111,12 +111,7 @@ fn frame_of(
 }
 
 /// Tells the function at work of a session or an instance that isn't finished.
-fn frame_in(
-    alloc: Global,
-    held: &mut HandleContent,
-    number: usize,
-    told: &mut FunctionFrame,
-) -> u32
+fn frame_in(alloc: Global, held: &mut HandleContent, number: usize, told: &mut FunctionFrame) -> u32
     ensures misuse { is_none (machine_in held.old) ≡ true → (result ≡ 100) × (told.new ≡ told.old) }
     ensures none { IfSome (machine_in held.old) (λ m. slice_get (frames_of m) number ≡ None → (result ≡ 101) × (told.new ≡ told.old)) }
     ensures told { IfSome (machine_in held.old) (λ m. IfSome (slice_get (frames_of m) number) (λ frame. (result ≡ 0)
