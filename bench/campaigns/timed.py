@@ -8,7 +8,7 @@ With --floats those of `FLOATING` instead, whose work is with floats, as their c
 with its load, since it has no run that ends before the first step.
 
 Beside the times stand x86 instructions (`counts.py`), net of load: those of `sandbox` for a unit, and how many times as many each other one
-takes. They hang on no machine and no load.
+takes, over an eighth of the input. They hang on no machine and no load.
 """
 import json
 import math
@@ -29,6 +29,7 @@ LEAST = 0.1  # seconds of a program, net of its load
 FUEL, PAGES = str(2**63), "8192"
 PACKAGES = "aho-corasick csv miniz-oxide num-bigint pulldown-cmark regex roxmltree serde-json sha2 similar yaml-rust".split()
 KINDS = ("net", "whole", "load")
+PART = 8  # instructions are counted over an eighth of the input, where one is made here: it takes minutes
 COUNTED = ("sandbox", "wasmi", "older")  # a program in Go can't be counted
 TITLES = {"net": "net of load", "whole": "with load", "load": "load alone"}
 WORDS = "the quick brown foxes jump over 17 lazy dogs while reading 2024-11 reports and writing `code` about *many* things again".split()
@@ -149,55 +150,55 @@ FLOATING_JQ = "[.[] | .at.x / 7e3 | {x: ., r: (sqrt | floor), l: (sqrt * 1.5 - 7
 
 
 class Timed:
-    """A program that is timed: its name, which program of `others.py` (none for one in Rust), words, what makes its input, and whether it
-    keeps its floats."""
+    """A program that is timed: its name, which program of `others.py` (none for one in Rust), words, what makes its input or a part of it,
+    and whether it keeps its floats."""
 
     def __init__(self, name, of, words, given, floats=False):
         self.name, self.of, self.words, self.given, self.floats = name, of, words, given, floats
 
-    def input(self):
-        made = self.given()
+    def input(self, part=1):
+        made = self.given(part)
         return made if isinstance(made, bytes) else made.encode()
 
 
 TIMED = [
-    Timed("minigzip", "minigzip", ["-9"], lambda: prose(4_000)),
-    Timed("bzip2", "bzip2", ["-z", "-c"], lambda: prose(6_000)),
-    Timed("clzip", "clzip", ["-c", "-3"], lambda: prose(2_000)),
-    Timed("brotli", "brotli", ["-c", "-q", "6"], lambda: prose(9_000)),
-    Timed("lz4", "lz4", ["-c", "-9"], lambda: prose(5_000)),
-    Timed("compress", "compress", ["-c"], lambda: prose(32_000)),
-    Timed("cmark", "cmark", ["-t", "html"], lambda: prose(12_000)),
-    Timed("par", "par", ["60", "j1"], lambda: prose(1_500)),
-    Timed("awk", "awk", ["{ gsub(/[aeiou]/, \"<&>\"); n[$2]++; t += length($0) } END { for (w in n) s += n[w]; print NR, s, t }"], lambda: prose(1_500)),
-    Timed("unifdef", "unifdef", ["-DA1", "-UA2"], lambda: defines(4_000)),
-    Timed("json_reformat", "json_reformat", ["-m"], lambda: json.dumps(objects(4_000))),
-    Timed("xmlwf", "xmlwf", ["-n"], lambda: xml(4_000)),
-    Timed("lua", "lua", ["-"], lambda: LUA),
-    Timed("mujs", "mujs", [], lambda: JAVASCRIPT),
-    Timed("sqlite3", "sqlite3", ["-batch", "-vfs", "unix-none", ":memory:"], lambda: SQL),
-    Timed("bc", "bc", ["-q"], lambda: BC),
-    Timed("dc", "dc", ["-"], lambda: DC),
-    Timed("picosat", "picosat", [], lambda: formula(150, 640)),
-    Timed("basez", "basez", ["--base64"], lambda: bytes(k * k >> 3 & 255 for k in range(3_000_000))),
-    Timed("markdown", None, [], lambda: prose(12_000)),
-    Timed("json", None, [], lambda: json.dumps(objects(5_000))),
-    Timed("xml", None, [], lambda: xml(4_000)),
-    Timed("yaml", None, [], lambda: yaml(1_200)),
-    Timed("expressions", None, [], lambda: prose(1_200)),
-    Timed("numbers", None, [], lambda: "4500\n"),
-    Timed("deflate", None, [], lambda: prose(2_500)),
-    Timed("digests", None, [], lambda: prose(25_000)),
-    Timed("differences", None, [], lambda: halves(3_000)),
-    Timed("table", None, [], lambda: rows(20_000)),
+    Timed("minigzip", "minigzip", ["-9"], lambda part: prose(4_000 // part)),
+    Timed("bzip2", "bzip2", ["-z", "-c"], lambda part: prose(6_000 // part)),
+    Timed("clzip", "clzip", ["-c", "-3"], lambda part: prose(2_000 // part)),
+    Timed("brotli", "brotli", ["-c", "-q", "6"], lambda part: prose(9_000 // part)),
+    Timed("lz4", "lz4", ["-c", "-9"], lambda part: prose(5_000 // part)),
+    Timed("compress", "compress", ["-c"], lambda part: prose(32_000 // part)),
+    Timed("cmark", "cmark", ["-t", "html"], lambda part: prose(12_000 // part)),
+    Timed("par", "par", ["60", "j1"], lambda part: prose(1_500 // part)),
+    Timed("awk", "awk", ["{ gsub(/[aeiou]/, \"<&>\"); n[$2]++; t += length($0) } END { for (w in n) s += n[w]; print NR, s, t }"], lambda part: prose(1_500 // part)),
+    Timed("unifdef", "unifdef", ["-DA1", "-UA2"], lambda part: defines(4_000 // part)),
+    Timed("json_reformat", "json_reformat", ["-m"], lambda part: json.dumps(objects(4_000 // part))),
+    Timed("xmlwf", "xmlwf", ["-n"], lambda part: xml(4_000 // part)),
+    Timed("lua", "lua", ["-"], lambda _: LUA),
+    Timed("mujs", "mujs", [], lambda _: JAVASCRIPT),
+    Timed("sqlite3", "sqlite3", ["-batch", "-vfs", "unix-none", ":memory:"], lambda _: SQL),
+    Timed("bc", "bc", ["-q"], lambda _: BC),
+    Timed("dc", "dc", ["-"], lambda _: DC),
+    Timed("picosat", "picosat", [], lambda _: formula(150, 640)),
+    Timed("basez", "basez", ["--base64"], lambda part: bytes(k * k >> 3 & 255 for k in range(3_000_000 // part))),
+    Timed("markdown", None, [], lambda part: prose(12_000 // part)),
+    Timed("json", None, [], lambda part: json.dumps(objects(5_000 // part))),
+    Timed("xml", None, [], lambda part: xml(4_000 // part)),
+    Timed("yaml", None, [], lambda part: yaml(1_200 // part)),
+    Timed("expressions", None, [], lambda part: prose(1_200 // part)),
+    Timed("numbers", None, [], lambda _: "4500\n"),
+    Timed("deflate", None, [], lambda part: prose(2_500 // part)),
+    Timed("digests", None, [], lambda part: prose(25_000 // part)),
+    Timed("differences", None, [], lambda part: halves(3_000 // part)),
+    Timed("table", None, [], lambda part: rows(20_000 // part)),
 ]
 FLOATING = [
-    Timed("lua", "lua", ["-"], lambda: FLOATING_LUA, True),
-    Timed("awk", "awk", [FLOATING_AWK], lambda: prose(1_500), True),
-    Timed("mujs", "mujs", [], lambda: FLOATING_JAVASCRIPT, True),
-    Timed("sqlite3", "sqlite3", ["-batch", "-vfs", "unix-none", ":memory:"], lambda: FLOATING_SQL, True),
-    Timed("jq", "jq", ["-c", FLOATING_JQ], lambda: json.dumps(objects(1_000)), True),
-    Timed("brotli", "brotli", ["-c", "-q", "11"], lambda: prose(300), True),
+    Timed("lua", "lua", ["-"], lambda _: FLOATING_LUA, True),
+    Timed("awk", "awk", [FLOATING_AWK], lambda part: prose(1_500 // part), True),
+    Timed("mujs", "mujs", [], lambda _: FLOATING_JAVASCRIPT, True),
+    Timed("sqlite3", "sqlite3", ["-batch", "-vfs", "unix-none", ":memory:"], lambda _: FLOATING_SQL, True),
+    Timed("jq", "jq", ["-c", FLOATING_JQ], lambda part: json.dumps(objects(1_000 // part)), True),
+    Timed("brotli", "brotli", ["-c", "-q", "11"], lambda part: prose(300 // part), True),
 ]
 
 
@@ -261,10 +262,11 @@ def processor_time():
 class Run:
     """The commands of each engine for one program."""
 
-    def __init__(self, engines, it, module, room):
+    def __init__(self, engines, it, module, room, part=1):
+        os.makedirs(room, exist_ok=True)
         self.given = f"{room}/input"
         with open(self.given, "wb") as file:
-            file.write(it.input())
+            file.write(it.input(part))
         with open(f"{room}/random", "wb") as file:
             file.write(bytes(4096))
         self.report, self.whole, self.load = f"{room}/report", {}, {}
@@ -317,6 +319,13 @@ def told(name, ratios, seconds, units, costs):
     return line + (f"   shorter than {LEAST} s" if seconds and seconds < LEAST else "")
 
 
+def counted(given, engines, it, module, room):
+    """The x86 instructions of each engine for a unit, without its load, over a part of the input."""
+    run = Run(engines, it, module, room, PART)
+    units = run.units(engines["sandbox"])
+    return {name: given.kept.between(run.whole[name], run.load[name], run.given) / units for name in COUNTED if name in run.load}
+
+
 def measured(given, engines, it, module, native):
     """A program's row: the others' time by ours, and x86 instructions a unit; prints its line."""
     with tempfile.TemporaryDirectory(dir="/dev/shm" if os.access("/dev/shm", os.W_OK) else None) as room:
@@ -327,8 +336,7 @@ def measured(given, engines, it, module, native):
             net = {name: max(whole[name] - load[name], 1e-6) for name in load}
             times = {"net": net, "whole": whole, "load": load}
             ratios = {other: {kind: times[kind][other] / times[kind]["sandbox"] for kind in KINDS if other in times[kind]} for other in engines if other != "sandbox"}
-        counted = [name for name in COUNTED if name in run.load] if given.counts else []
-        costs = {name: given.kept.between(run.whole[name], run.load[name], run.given) / units for name in counted}
+        costs = counted(given, engines, it, module, f"{room}/part") if given.counts else {}
     print(told(it.name, ratios, net.get("sandbox"), units, costs), flush=True)
     return {"seconds": net.get("sandbox"), "units": units, "ratios": ratios, "x86": costs}
 
