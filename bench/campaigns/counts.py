@@ -2,6 +2,7 @@
 
 A file keeps what was counted, by the bytes of the program, of the module and of the input, so that none is counted twice.
 """
+import concurrent.futures
 import hashlib
 import json
 import os
@@ -23,17 +24,19 @@ class Counts:
             with open(path, encoding="utf-8") as file:
                 self.kept = json.load(file)
 
-    def of(self, words, given=os.devnull):
-        """The instructions of a command that reads this file."""
-        key = key_of(words, given)
-        if key not in self.kept:
-            self.kept[key] = counted(words, given)
-            self.keep()
-        return self.kept[key]
+    def between(self, commands, given=os.devnull):
+        """The instructions of each command less those of the one that ends before its first step, by their name; all read this file.
 
-    def between(self, whole, load, given=os.devnull):
-        """Those of a command less those of the one that ends before its first step."""
-        return self.of(whole, given) - self.of(load, given)
+        They are counted beside each other, on all processors.
+        """
+        keys = {tuple(words): key_of(words, given) for pair in commands.values() for words in pair}
+        lacking = [words for words, key in keys.items() if key not in self.kept]
+        with concurrent.futures.ThreadPoolExecutor(os.cpu_count()) as pool:
+            for words, count in zip(lacking, pool.map(lambda it: counted(it, given), lacking)):
+                self.kept[keys[words]] = count
+        if lacking:
+            self.keep()
+        return {name: self.kept[keys[tuple(whole)]] - self.kept[keys[tuple(load)]] for name, (whole, load) in commands.items()}
 
     def keep(self):
         if not self.path:

@@ -323,7 +323,8 @@ def counted(given, engines, it, module, room):
     """The x86 instructions of each engine for a unit, without its load, over a part of the input."""
     run = Run(engines, it, module, room, PART)
     units = run.units(engines["sandbox"])
-    return {name: given.kept.between(run.whole[name], run.load[name], run.given) / units for name in COUNTED if name in run.load}
+    found = given.kept.between({name: (run.whole[name], run.load[name]) for name in COUNTED if name in run.load}, run.given)
+    return {name: it / units for name, it in found.items()}
 
 
 def measured(given, engines, it, module, native):
