@@ -323,8 +323,17 @@ def in_place(setting, kind):
             os.chmod(f"{it.folder}/below", 0o555)
             name, path, more = "below/v", f"{it.folder}/below/v", 1
             os.chmod(it.folder, 0o755)
+        elif kind == "mount":  # as a container has a file of the host
+            os.rename(path, f"{it.folder}/real")
+            open(path, "xb").close()
+            if subprocess.run(["mount", "--bind", f"{it.folder}/real", path], capture_output=True).returncode:
+                return "mounts left out"
+            more = 1
         nobody = (lambda: os.setuid(65534)) if kind == "folder" and os.geteuid() == 0 else None
         got = it.call(["run", "--image", "i", "--volume-out", name, "m"], before=nobody)
+        if kind == "mount":
+            subprocess.run(["umount", path], check=True)
+            path = f"{it.folder}/real"
         what = f"--volume-out and a {kind}: status {got[0]}, {got[2][:200]!r}"
         wanted(got[:2] == (0, b"OUT\n") and content(path) == Scene.templates["after"], what)
         lines = [line for line in got[2].splitlines() if line != "ERR"]
@@ -403,7 +412,7 @@ def hosts(setting):
     os.chmod(setting.room, 0o755)
     found = collections.Counter()
     locks = [(name, is_shared) for name in LOCKED for is_shared in (False, True)]
-    rows = [(locked, locks), (without_room, drawn(setting, room_items(), 4)), (in_place, ["file", "hard link", "symbolic link", "folder"])]
+    rows = [(locked, locks), (without_room, drawn(setting, room_items(), 4)), (in_place, ["file", "hard link", "symbolic link", "folder", "mount"])]
     for function, items in [*rows, (full_disk, ON_FULL), (meanwhile, MEANWHILE), (no_file, NO_FILES), (gone, ["--volume-out", "--out-to"])]:
         found.update(setting.each(lambda item, function=function: function(setting, item), items))
     return sum(found.values()), ", ".join(f"{name} {count}" for name, count in sorted(found.items()))

@@ -43,7 +43,7 @@ Errnos: what a guest's calls answer, and of a command on a path a line
     };
 }
 
-/// ArgumentKind the rows of the errnos, and has those of the faults put before them.
+/// Takes the rows of the errnos, and has those of the faults put before them.
 macro_rules! help_of_errnos {
     ($($rows:tt)*) => {
         faults!(help $($rows)*)

@@ -5,7 +5,7 @@ use Rattle.vol_sector.specs.Record.{image_of}
 use Rattle.vol_tree.specs.declared.superblock.Superblock.{Superblock}
 use Rattle.vol_tree.specs.Tree.{Tree}
 use Rattle.vol_tree.specs.Stands.{StandsAs, empty_tree}
-use Rattle.vol_tree.specs.Opened.{RunFiles, geometry}
+use Rattle.vol_tree.specs.Opened.{Opened, geometry}
 use Rattle.sandbox_device.specs.declared.ram_device.RamDevice.{RamDevice}
 use Rattle.vol_tar.specs.Export.{Exports}
 use Rattle.vol_tar.specs.Import.{Imports}
@@ -21,7 +21,7 @@ use Rattle.sandbox_command.specs.Archive.{BeginsWithItsStream, GivesItsTree, Has
 abbrev pub OneTree : Type 0
 OneTree = (image : Image) (v w : Superblock) (T U : Tree) → StandsAs image v T → StandsAs image w U → (v ≡ w) × (T ≡ U)
 
-module _ (one : OneTree) (bytes : List ℕ) (device : RamDevice) (v : RunFiles RamDevice) (count : ℕ) (it : IsImported bytes device (Ok count))
+module _ (one : OneTree) (bytes : List ℕ) (device : RamDevice) (v : Opened RamDevice) (count : ℕ) (it : IsImported bytes device (Ok count))
     (opened : IsOpen in_memory.honest in_memory.disk in_memory.size in_memory.failures device v) where
   abbrev blocks : ℕ
   blocks = blocks_of (length bytes)

@@ -7,7 +7,7 @@ use Rattle.vol_log.proofs.Moments.{leaves_same, leaves_then}
 use Rattle.vol_tree.specs.Tree.{Tree}
 use Rattle.vol_tree.specs.declared.superblock.Superblock.{Superblock}
 use Rattle.vol_tree.specs.Stands.{StandsAs}
-use Rattle.vol_tree.specs.Opened.{RunFiles}
+use Rattle.vol_tree.specs.Opened.{Opened}
 use Rattle.vol_tree.proofs.OneTree.{one_tree}
 use Rattle.wasm_store.specs.declared.call.HostCall.{HostCall}
 use Rattle.wasm_store.specs.declared.call.Errno.{Errno}
@@ -47,39 +47,39 @@ module _ (H : Type 0) (Calls : CallsOf H) (disk : H → Disk) (numbers : H → S
       on m (inr other) = other
 
 -- the device of what is handed back
-pub device_back : {D : Type 0} (v : RunFiles D) (result : Result (RunFiles D) (Refused D)) → IsHandedBack v result → returned_device result ≡ v.device
+pub device_back : {D : Type 0} (v : Opened D) (result : Result (Opened D) (Refused D)) → IsHandedBack v result → returned_device result ≡ v.device
 device_back v (Ok w) same = ap (λ o. o.device) same
 device_back v (Err r) same = same.0
 
 -- ---- from the opening of the volume on
 
 module _ {D : Type 0} (is_honest : D → Type 0) (disk : D → Disk) (sectors_on failures : D → ℕ) (goes_on : ℕ → D → D → Type 0) where
-  pub opening_crash : (file : Option (Bor Text)) (device : D) (v : RunFiles D) → IsOpenFor is_honest disk sectors_on failures file device v → is_honest device → Leaves (disk device) (disk v.device) (LeftByOpening is_honest disk sectors_on failures file v)
+  pub opening_crash : (file : Option (Bor Text)) (device : D) (v : Opened D) → IsOpenFor is_honest disk sectors_on failures file device v → is_honest device → Leaves (disk device) (disk v.device) (LeftByOpening is_honest disk sectors_on failures file v)
   opening_crash (Some file) device v opened h = opened.crash h
   opening_crash None device v opened h = opened.crash h
 
-  pub opened_lasts : (file : Option (Bor Text)) (device : D) (v : RunFiles D) → IsOpenFor is_honest disk sectors_on failures file device v → is_honest device → (c : Image) → (disk v.device).may_leave c → StandsAs c v.numbers v.tree
+  pub opened_lasts : (file : Option (Bor Text)) (device : D) (v : Opened D) → IsOpenFor is_honest disk sectors_on failures file device v → is_honest device → (c : Image) → (disk v.device).may_leave c → StandsAs c v.numbers v.tree
   opened_lasts (Some file) device v opened h c may = opened.working.lasts h c may
   opened_lasts None device v opened h c may = opened.working.lasts h c may
 
-  pub opened_honest : (file : Option (Bor Text)) (device : D) (v : RunFiles D) → IsOpenFor is_honest disk sectors_on failures file device v → is_honest device → is_honest v.device
+  pub opened_honest : (file : Option (Bor Text)) (device : D) (v : Opened D) → IsOpenFor is_honest disk sectors_on failures file device v → is_honest device → is_honest v.device
   opened_honest (Some file) device v opened h = opened.working.honest.0 h
   opened_honest None device v opened h = opened.working.honest.0 h
 
   -- what was only read leaves nothing new
-  kept_crash : (f : SessionFault) (old new : RunFiles D) → KeepsVolume (known_of is_honest disk sectors_on failures goes_on) f old new → is_honest old.device → Leaves (disk old.device) (disk new.device) (λ m. ⊥)
-  kept_crash Setting old new same h = subst (λ (v : RunFiles D). Leaves (disk old.device) (disk v.device) (λ m. ⊥)) (sym same) (leaves_same (disk old.device) (λ m. ⊥))
-  kept_crash (NoInstance f) old new same h = subst (λ (v : RunFiles D). Leaves (disk old.device) (disk v.device) (λ m. ⊥)) (sym same) (leaves_same (disk old.device) (λ m. ⊥))
+  kept_crash : (f : SessionFault) (old new : Opened D) → KeepsVolume (known_of is_honest disk sectors_on failures goes_on) f old new → is_honest old.device → Leaves (disk old.device) (disk new.device) (λ m. ⊥)
+  kept_crash Setting old new same h = subst (λ (v : Opened D). Leaves (disk old.device) (disk v.device) (λ m. ⊥)) (sym same) (leaves_same (disk old.device) (λ m. ⊥))
+  kept_crash (NoInstance f) old new same h = subst (λ (v : Opened D). Leaves (disk old.device) (disk v.device) (λ m. ⊥)) (sym same) (leaves_same (disk old.device) (λ m. ⊥))
   kept_crash Device old new reads h = reads.crash h
   kept_crash Preopen old new reads h = reads.crash h
-  kept_crash Memory old new same h = subst (λ (v : RunFiles D). Leaves (disk old.device) (disk v.device) (λ m. ⊥)) (sym same) (leaves_same (disk old.device) (λ m. ⊥))
+  kept_crash Memory old new same h = subst (λ (v : Opened D). Leaves (disk old.device) (disk v.device) (λ m. ⊥)) (sym same) (leaves_same (disk old.device) (λ m. ⊥))
 
-  kept_honest : (f : SessionFault) (old new : RunFiles D) → KeepsVolume (known_of is_honest disk sectors_on failures goes_on) f old new → is_honest old.device → is_honest new.device
-  kept_honest Setting old new same h = subst (λ (v : RunFiles D). is_honest v.device) (sym same) h
-  kept_honest (NoInstance f) old new same h = subst (λ (v : RunFiles D). is_honest v.device) (sym same) h
+  kept_honest : (f : SessionFault) (old new : Opened D) → KeepsVolume (known_of is_honest disk sectors_on failures goes_on) f old new → is_honest old.device → is_honest new.device
+  kept_honest Setting old new same h = subst (λ (v : Opened D). is_honest v.device) (sym same) h
+  kept_honest (NoInstance f) old new same h = subst (λ (v : Opened D). is_honest v.device) (sym same) h
   kept_honest Device old new reads h = reads.kept.honest.0 h
   kept_honest Preopen old new reads h = reads.kept.honest.0 h
-  kept_honest Memory old new same h = subst (λ (v : RunFiles D). is_honest v.device) (sym same) h
+  kept_honest Memory old new same h = subst (λ (v : Opened D). is_honest v.device) (sym same) h
 
   module _ {R W1 W2 : Type 0} (remaining : R → Option (List ℕ)) (outs : W1 → Option (List ℕ)) (errs : W2 → Option (List ℕ)) (ear : Hearing R W1 W2) (m : Module) (run : Run) (parts : HostParts D R W1 W2) (left : Executed D R W1 W2) where
     pub launch_crash : (launched : Launches is_honest disk sectors_on failures goes_on remaining outs errs ear m run parts left) → is_honest parts.volume.device → ((c : Image) → (disk parts.volume.device).may_leave c → StandsAs c parts.volume.numbers parts.volume.tree)

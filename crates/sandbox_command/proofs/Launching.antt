@@ -5,7 +5,7 @@ use Rattle.std.proofs.KnownBytes.{Keeps-refl}
 use Rattle.vol_sector.specs.Disk.{Leaves}
 use Rattle.vol_sector.specs.declared.device.Device.{Ghosts}
 use Rattle.vol_sector.specs.declared.fault.Refused.{Refused}
-use Rattle.vol_tree.specs.Opened.{RunFiles}
+use Rattle.vol_tree.specs.Opened.{Opened}
 use Rattle.wasm_module.specs.declared.module.Module.{Module}
 use Rattle.wasm_steps.specs.Configuration.{first_configuration}
 use Rattle.wasi_calls.specs.declared.host.wasi_host.HostParts.{HostParts}
@@ -48,7 +48,7 @@ kept_streams {W1 = W1} {W2 = W2} outs errs input out err left in_is out_is err_i
 module _ {D R W1 W2 : Type 0} (device : Ghosts D) (remaining : R → Option (List ℕ)) (outs : W1 → Option (List ℕ)) (errs : W2 → Option (List ℕ)) (ear : Hearing R W1 W2) (run : Run) (m : Module) where
   -- ---- its volume
 
-  pub on_volume : (random : Text) (d : D) (input : R) (out : W1) (err : W2) (v : RunFiles D) (parts : HostParts D R W1 W2) (left : Executed D R W1 W2)
+  pub on_volume : (random : Text) (d : D) (input : R) (out : W1) (err : W2) (v : Opened D) (parts : HostParts D R W1 W2) (left : Executed D R W1 W2)
       → IsOpenFor device.honest device.disk device.size device.failures (volume_of run) d v → AreSettings run random parts.settings → parts ≡ given parts.settings v input out err
       → Launches device.honest device.disk device.size device.failures device.goes_on remaining outs errs ear m run parts left
       → RunsOn device.honest device.disk device.size device.failures device.goes_on remaining outs errs ear run m random d input out err left

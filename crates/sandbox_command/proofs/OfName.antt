@@ -1,6 +1,6 @@
 -- What a file of a name is (`specs/System.antt`), by the evidence of those that asked for it.
 use Rattle.std.specs.declared.rt.LibcRuntime.{LibcRuntime}
-use Rattle.std.proofs.Common.{◌≡◌, ◌∙◌, Bool, true, false, not, nat_eq, Result, Ok, Err, IfOk, OnOk, inl, inr, string_bytes, refl, sym, subst}
+use Rattle.std.proofs.Common.{◌≡◌, ◌∙◌, ℕ, Bool, true, false, not, nat_eq, Result, Ok, Err, IfOk, OnOk, inl, inr, string_bytes, refl, sym, subst}
 use Rattle.std.specs.Cmp.Lexicographic.{pointwise, same_text}
 use Rattle.std.specs.declared.fs.File.{File}
 use Rattle.sandbox_device.specs.declared.opening.FileOutput.{FileOutput}
@@ -11,8 +11,10 @@ use Rattle.sandbox_device.specs.FileEvidence.{AreRead, WasLocked, WasRead}
 use Rattle.sandbox_device.specs.Named.{IsForName, IsGiven, WasOpened}
 use Rattle.sandbox_device.specs.Written.{CutsOnce, CutsUnless, WasCut}
 use Rattle.sandbox_args.specs.Request.{Text}
+use Rattle.stream_answers.specs.System.{HasRefused, WasGiven as Gave}
 use Rattle.sandbox_command.specs.declared.host_volume.HostVolume.{HostVolume}
-use Rattle.sandbox_command.specs.System.{IsImageOfName, IsOutput, IsVolume, WasGiven}
+use Rattle.sandbox_command.specs.Reading.{AtLast, IsWhole}
+use Rattle.sandbox_command.specs.System.{IsImageOfName, IsOutput, IsRead, IsVolume, WasGiven}
 
 -- what holds of a success holds of it where it is passed on
 pub told : {X E : Type 0} (P : X → Type 0) (done : Result X E) (it : X) → done ≡ Ok it → IfOk done P → P it
@@ -27,6 +29,17 @@ pub is_image : {E : Type 0} (name : Text) (file : File) (r : Result RamDevice E)
     → IfOk r (λ d. AreRead WasRead file d.sectors) → IfOk r (IsImageOfName name)
 is_image name file (Ok d) opened read = (file, opened, read)
 is_image name file (Err e) opened read = tt
+
+-- what a file that was opened so gave
+pub is_read : {X E : Type 0} (items : X → Text) (name : Text) (most : ℕ) (file last : File) (r : Result X E) → WasOpened name file
+    → IfOk r (λ x. IsWhole (AtLast Gave HasRefused) most file (items x) last) → IfOk r (λ x. IsRead name most (items x))
+is_read items name most file last (Ok x) opened whole = (file, opened, last, whole)
+is_read items name most file last (Err e) opened whole = tt
+
+pub is_text : {X E : Type 0} (bytes_of : X → Text) (name bytes : Text) (most : ℕ) (r : Result X E) → IsRead name most bytes
+    → IfOk r (λ x. bytes_of x ≡ bytes) → IfOk r (λ x. IsRead name most (bytes_of x))
+is_text bytes_of name bytes most (Ok x) read same = subst (IsRead name most) (sym same) read
+is_text bytes_of name bytes most (Err e) read same = tt
 
 pub is_given : {X E : Type 0} (name bytes : Text) (it : Replacement) (r : Result X E) → IsForName name it
     → OnOk r (IsGiven LibcRuntime (string_bytes it.path) it.old bytes) → OnOk r (WasGiven name bytes)

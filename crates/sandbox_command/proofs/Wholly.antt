@@ -1,5 +1,5 @@
 -- A stream that is read whole.
-use Rattle.std.proofs.Common.{◌≡◌, ◌+◌, ◌-◌, ◌≤◌, ◌++◌, ◌∙◌, ℕ, List, [], ◌∷◌, length, length-append, append_nil, sym, ap, refl, subst, arith}
+use Rattle.std.proofs.Common.{◌≡◌, ◌+◌, ◌-◌, ◌≤◌, ◌++◌, ◌∙◌, ℕ, List, [], ◌∷◌, length, length-append, append-nil, sym, ap, refl, subst, arith}
 use Rattle.sandbox_command.specs.Reading.{Gives}
 
 no_bytes : (xs : List ℕ) → length xs ≡ 0 → xs ≡ []
@@ -12,7 +12,7 @@ pub at_end : {S : Type 0} (gave : S → List ℕ → S → Type 0) (first : S) (
     → (s : S) × Gives gave first all s × gave s [] last
 at_end {S} gave first before then more all last count long zero came is was =
     let none : more ≡ [] = no_bytes more (long ∙ zero) in
-    let same : all ≡ before = is ∙ (ap (λ (xs : List ℕ). before ++ xs) none ∙ append_nil before) in
+    let same : all ≡ before = is ∙ (ap (λ (xs : List ℕ). before ++ xs) none ∙ append-nil before) in
     (then, subst (λ (xs : List ℕ). Gives gave first xs then) (sym same) was, subst (λ (xs : List ℕ). gave then xs last) none came)
 
 -- what is left of those that are wanted

@@ -7,7 +7,7 @@ use Rattle.vol_tree.specs.declared.superblock.Superblock.{Superblock}
 use Rattle.vol_tree.specs.Tree.{Tree}
 use Rattle.vol_tree.specs.Stands.{StandsAs, empty_tree}
 use Rattle.vol_tree.specs.Fresh.{fresh_as}
-use Rattle.vol_tree.specs.Opened.{RunFiles, geometry}
+use Rattle.vol_tree.specs.Opened.{Opened, geometry}
 use Rattle.vol_inode.specs.declared.version.Version.{Version}
 use Rattle.vol_inode.specs.declared.version.Version.TheVariants.{Two, Four}
 use Rattle.sandbox_device.specs.declared.ram_device.RamDevice.{RamDevice}
@@ -85,7 +85,7 @@ Fills bytes (Err refusal) = IsUnmade (blocks_of (length bytes)) refusal ⊎ ((le
 -- ---- what it has
 
 -- The volume is of this size, and has the tree that the members of the stream make in the root of an empty one.
-pub record HasStream (bytes : List ℕ) (v : RunFiles RamDevice) : Type 0 where
+pub record HasStream (bytes : List ℕ) (v : Opened RamDevice) : Type 0 where
   pub numbers : v.numbers ≡ fresh_as (version_of (blocks_of (length bytes))) (sectors_of (blocks_of (length bytes))) (slots_of (blocks_of (length bytes)))
   pub root : ℕ
   pub is_root : directory_named (empty_tree (slots_of (blocks_of (length bytes)))) (codes "/") ≡ Ok root
@@ -95,7 +95,7 @@ pub record HasStream (bytes : List ℕ) (v : RunFiles RamDevice) : Type 0 where
 
 -- a volume that was made of a stream, and that was opened, has that
 abbrev pub BeginsWithItsStream : Type 0
-BeginsWithItsStream = (bytes : List ℕ) (device : RamDevice) (v : RunFiles RamDevice) → Fills bytes (Ok device)
+BeginsWithItsStream = (bytes : List ℕ) (device : RamDevice) (v : Opened RamDevice) → Fills bytes (Ok device)
     → IsOpen in_memory.honest in_memory.disk in_memory.size in_memory.failures device v → HasStream bytes v
 
 -- ---- what it gives

@@ -1,5 +1,10 @@
 -- What a stream gave that was read whole, by the evidence of each read (`crates/stream_answers`).
 use Rattle.std.specs.Prelude.{◌≡◌, ◌⊎◌, ◌++◌, ℕ, List, [], length}
+use Rattle.stream_answers.specs.Hearing.{Goes}
+
+-- it gave these bytes, maybe after it was interrupted and asked again
+abbrev pub AtLast : {S : Type 0} → (gave : S → List ℕ → S → Type 0) → (refused : S → S → Type 0) → S → List ℕ → S → Type 0
+AtLast gave refused before bytes after = (asked : _) × Goes refused before asked × gave asked bytes after
 
 -- pieces, one after another
 pub data Gives {S : Type 0} (gave : S → List ℕ → S → Type 0) : S → List ℕ → S → Type 0 where

@@ -78,7 +78,7 @@ kept_where_refused f = kept.None
 abbrev pub kept_where_not_begun : Option (Bor Text) → SessionFault → VolumeEnd
 kept_where_not_begun file opening.Device = kept.Failed
 kept_where_not_begun None f = kept.None
-kept_where_not_begun (Some file) f = kept.VolumeEnd
+kept_where_not_begun (Some file) f = kept.Kept
 
 -- ---- a run
 
@@ -86,7 +86,7 @@ kept_where_not_begun (Some file) f = kept.VolumeEnd
 abbrev pub kept_after_run : {V R : Type 0} → Option (Bor Text) → Result V R → VolumeEnd
 kept_after_run file (Err refused) = kept.Failed
 kept_after_run None (Ok v) = kept.None
-kept_after_run (Some file) (Ok v) = kept.VolumeEnd
+kept_after_run (Some file) (Ok v) = kept.Kept
 
 -- the bytes of a stream that is counted
 abbrev pub counted_bytes : {S : Type 0} → (S → Option (List ℕ)) → Counted S → Option (List ℕ)

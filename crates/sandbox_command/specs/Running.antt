@@ -7,7 +7,7 @@ use Rattle.std.specs.Io.KnownBytes.{Keeps}
 use Rattle.vol_sector.specs.Disk.{Image, Disk, Leaves}
 use Rattle.vol_sector.specs.declared.device.Device.{Ghosts}
 use Rattle.vol_sector.specs.declared.fault.Refused.{Refused}
-use Rattle.vol_tree.specs.Opened.{RunFiles}
+use Rattle.vol_tree.specs.Opened.{Opened}
 use Rattle.vol_tree.specs.Stands.{StandsAs}
 use Rattle.wasm_module.specs.declared.module.Module.{Module}
 use Rattle.wasm_steps.specs.Configuration.{first_configuration}
@@ -37,7 +37,7 @@ use Rattle.sandbox_command.specs.Profiling.{IsFuelUse, slice_of}
 use Rattle.sandbox_command.specs.Reporting.{counted_bytes, counting, kept_where_not_begun, not_run, run_summary, session_reason}
 
 -- the device of a volume that is handed back, or the device itself
-abbrev pub returned_device : {D : Type 0} → Result (RunFiles D) (Refused D) → D
+abbrev pub returned_device : {D : Type 0} → Result (Opened D) (Refused D) → D
 returned_device (Ok v) = v.device
 returned_device (Err refused) = refused.device
 
@@ -74,7 +74,7 @@ module _ {D R W1 W2 : Type 0} (is_honest : D → Type 0) (disk : D → Disk) (se
   pub record NotOpened (m : Module) (run : Run) (parts : HostParts D R W1 W2) (left : Executed D R W1 W2) : Type 0 where
     pub fault : SessionFault
     pub refused : IsRefused is_honest fault m (counting run parts)
-    pub volume : RunFiles D
+    pub volume : Opened D
     pub kept : KeepsVolume counted_devices.device fault parts.volume volume
     pub device : left.device ≡ volume.device
     pub ends : left.status ≡ session_status fault

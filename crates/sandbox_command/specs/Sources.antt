@@ -10,7 +10,7 @@ use Rattle.sandbox_command.specs.declared.streams.Sink.TheVariants as sink
 -- the bytes that reads will give, where they are known
 abbrev pub source_remaining : {F R : Type 0} → (F → Option (List ℕ)) → (R → Option (List ℕ)) → InputSource F R → Option (List ℕ)
 source_remaining of_file remaining (source.Given input) = remaining input
-source_remaining of_file remaining (source.RunFiles file) = of_file file
+source_remaining of_file remaining (source.Opened file) = of_file file
 
 -- the bytes that were written, where they are known
 abbrev pub sink_contents : {F W : Type 0} → (F → Option (List ℕ)) → (W → Option (List ℕ)) → Sink F W → Option (List ℕ)
@@ -27,9 +27,9 @@ sink_answered of_file of_given (sink.Made before) (sink.Made after) = of_file be
 -- one gave bytes, or refused that, as the stream or the file in it did
 abbrev pub source_answered : {F R : Type 0} → (F → F → Type 0) → (R → R → Type 0) → InputSource F R → InputSource F R → Type 0
 source_answered of_file of_given (source.Given before) (source.Given after) = of_given before after
-source_answered of_file of_given (source.Given before) (source.RunFiles after) = ⊥
-source_answered of_file of_given (source.RunFiles before) (source.Given after) = ⊥
-source_answered of_file of_given (source.RunFiles before) (source.RunFiles after) = of_file before after
+source_answered of_file of_given (source.Given before) (source.Opened after) = ⊥
+source_answered of_file of_given (source.Opened before) (source.Given after) = ⊥
+source_answered of_file of_given (source.Opened before) (source.Opened after) = of_file before after
 
 -- what is told of the calls on one of them
 abbrev pub source_calls : {F R : Type 0} → StreamCalls F → StreamCalls R → StreamCalls (InputSource F R)
@@ -55,7 +55,7 @@ calls_of_run reads writes given = record {
 -- a guest reads the stream that the program was given, or a file where one is named
 abbrev pub source_of : {F R : Type 0} → Option F → R → InputSource F R
 source_of None input = source.Given input
-source_of (Some file) input = source.RunFiles file
+source_of (Some file) input = source.Opened file
 
 -- and writes to the stream that the program was given, or a file where one is named
 abbrev pub sink_of : {F W : Type 0} → Option F → W → Sink F W

@@ -10,9 +10,9 @@ use Rattle.sandbox_device.specs.FileEvidence.{AreRead, WasLocked, WasRead}
 use Rattle.sandbox_device.specs.Named.{IsForName, IsGiven, WasOpened}
 use Rattle.sandbox_device.specs.Written.{CutsOnce, WasCut}
 use Rattle.sandbox_args.specs.Request.{Text}
-use Rattle.stream_answers.specs.System.{WasGiven as Gave}
+use Rattle.stream_answers.specs.System.{HasRefused, WasGiven as Gave}
 use Rattle.sandbox_command.specs.declared.host_volume.HostVolume.{HostVolume}
-use Rattle.sandbox_command.specs.Reading.{IsWhole}
+use Rattle.sandbox_command.specs.Reading.{AtLast, IsWhole}
 
 -- It was opened or made under this name, and at the most cut since.
 abbrev pub IsOutput : Text → FileOutput → Type 0
@@ -32,4 +32,4 @@ WasGiven name bytes = (it : Replacement) × IsForName name it × IsGiven LibcRun
 
 -- A file that was opened under this name gave these bytes: all that it had, or as many as were wanted.
 abbrev pub IsRead : Text → ℕ → Text → Type 0
-IsRead name most bytes = (file : File) × WasOpened name file × (last : File) × IsWhole Gave most file bytes last
+IsRead name most bytes = (file : File) × WasOpened name file × (last : File) × IsWhole (AtLast Gave HasRefused) most file bytes last

@@ -134,7 +134,7 @@ pub(crate) fn filled(alloc: Global, bytes: &[u8]) -> Result<RamDevice, ImportFai
     }
 }
 
-/// TarReason a stream is refused, as a report has it.
+/// Why a stream is refused, as a report has it.
 fn reason_of_why(why: TarReason) -> Fault
     ensures { result ≡ reason_of_why why }
 {
@@ -145,7 +145,7 @@ fn reason_of_why(why: TarReason) -> Fault
     }
 }
 
-/// TarReason no volume is made of a stream, as a report has it.
+/// Why no volume is made of a stream, as a report has it.
 fn import_reason(failure: &ImportFailure) -> Fault
     ensures { result ≡ import_reason failure.now }
 {

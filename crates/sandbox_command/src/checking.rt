@@ -21,7 +21,7 @@ use stream_answers::Outlet;
 use vol_commands::Failure;
 use vol_sector::{Damage, VolumeFault};
 
-/// PrintedLines before they are printed, with room for those of any damage.
+/// Lines before they are printed, with room for those of any damage.
 type PrintedLines = ArrayVec<u8, 320>;
 
 /// The sector of a damage as a line begins with it, or nothing where it isn't known.

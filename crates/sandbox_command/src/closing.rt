@@ -145,6 +145,13 @@ fn tell_hindrance<W: Write>(err: &mut W, path: &str, hindrance: Option<Hindrance
             path,
             "written in place, since no file like it can be made beside it",
         ),
+        Some(Hindrance::Name) => {
+            tell_of_file(
+                err,
+                path,
+                "written in place, since no other file can take its name",
+            );
+        }
         None => {}
     }
 }

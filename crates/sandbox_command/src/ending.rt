@@ -18,7 +18,7 @@ use vol_commands::{ExportFailure, Failure, ImportFailure};
 use vol_sector::VolumeFault;
 use vol_tar::{Refusal, TarReason};
 
-/// TarReason what is no run ends without success.
+/// Why what is no run ends without success.
 pub(crate) trait Failed {
     // the status that it ends with
     ghost fails_with: { Self → ℕ };

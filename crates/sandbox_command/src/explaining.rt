@@ -101,8 +101,8 @@ pub(crate) fn tell_of_kind<W: Write>(err: &mut W, name: &str, kind: ErrorKind)
         ),
         ErrorKind::InvalidData => ("it is no text", "write it in UTF-8"),
         ErrorKind::FileTooLarge => (
-            "it has more bytes than are read of such a file",
-            "take a part of it",
+            "it has more bytes than are read of such a file, or than a file may have",
+            "take a part of it, or raise that bound (ulimit -f)",
         ),
         ErrorKind::StorageFull => ("no space is left on its disk", "free some"),
         _ => (

@@ -68,6 +68,16 @@ fn volume_in(
     Ok(HostVolume { device })
 }
 
+/// The text that has these bytes.
+fn text_in(bytes: Vec<u8>) -> io::Result<String>
+    ensures { IfOk result (λ text. string_bytes text ≡ bytes.items) }
+{
+    match String::from_utf8(bytes) {
+        Ok(text) => Ok(text),
+        Err(_) => Err(io::Error::from(ErrorKind::InvalidData)),
+    }
+}
+
 impl<'a> HostPlaces<'a> {
     /// The files of the system for an invocation, none of which is open but an image that all tests of a list read.
     pub(crate) fn of(rt: &'a HostRuntime, invocation: &Invocation<'_>) -> HostPlaces<'a> {
@@ -284,17 +294,15 @@ impl<'a> HostPlaces<'a> {
         if bytes.len() as u64 > LIST_READ {
             return Err(io::Error::from(ErrorKind::FileTooLarge));
         }
-        match String::from_utf8(bytes) {
-            Ok(text) => Ok(text),
-            Err(_) => Err(io::Error::from(ErrorKind::InvalidData)),
-        }
+        text_in(bytes)
     }
 
     fn bytes_of(&mut self, name: &str, most: u64) -> io::Result<Vec<u8>>
         ensures { IfOk result (λ bytes. IsRead name.now most bytes.items) }
     {
         let mut file = self.source(name)?;
-        read_whole(self.rt.alloc(), &mut file, most)
+        let expected = file.metadata()?.len().min(most) as usize;
+        read_whole(self.rt.alloc(), &mut file, most, expected)
     }
 
     /// Prints a report into a file that has no other part in its line, and ends the line.
@@ -333,7 +341,7 @@ fn print_stacks<N: Names>(
 impl<'a> Places for HostPlaces<'a> {
     type Input = File;
 
-    type FileOutput = FileOutput;
+    type Output = FileOutput;
 
     type Volume = HostVolume;
 

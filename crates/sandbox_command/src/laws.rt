@@ -4,7 +4,7 @@ ghost use Rattle.wasi_calls.specs.host.Worlds.{hearing};
 ghost use Rattle.sandbox_command.specs.Archive.{BeginsWithItsStream, GivesItsTree};
 ghost use Rattle.sandbox_command.specs.Upheld.{RunUpholds};
 
-use sandbox_core::laws::{headline_opened, turns_are_safe};
+use sandbox_core::laws::{OwnMeaning, headline_opened, turns_are_safe};
 use sandbox_report::Counted;
 use stream_answers::{Inlet, Outlet};
 use vol_sector::Device;
@@ -15,7 +15,7 @@ pub fn run_upholds<D: Device, R: Inlet, W1: Outlet, W2: Outlet>()
     ensures { RunUpholds D.honest D.disk D.size D.failures D.goes_on R.remaining W1.contents W2.contents
         (hearing R.gave R.refused W1.took W1.refused W2.took W2.refused) }
 {
-    headline_opened::<D, Counted<R>, Counted<W1>, Counted<W2>>();
+    headline_opened::<OwnMeaning, D, Counted<R>, Counted<W1>, Counted<W2>>();
     turns_are_safe::<D, Counted<R>, Counted<W1>, Counted<W2>>();
 }
 

@@ -460,9 +460,9 @@ pub(crate) fn run_valid<
         Ok(volume) => {
             let parts = parts_of(run, supplies, random, volume, streams);
             match runnable {
-                Runnable::PreparedTest(shared) => {
+                Runnable::Prepared(shared) => {
                     let left = launch_prepared(alloc, run, &shared, parts, stacks);
-                    (Runnable::PreparedTest(shared), left)
+                    (Runnable::Prepared(shared), left)
                 }
                 Runnable::Bare(valid) => {
                     let (valid, left) = launch_bare(alloc, run, valid, parts, stacks);

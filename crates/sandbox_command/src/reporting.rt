@@ -74,7 +74,7 @@ pub(crate) fn kept_where_not_begun(file: Option<&str>, fault: SessionFault) -> V
     match (file, fault) {
         (_, SessionFault::Device) => VolumeEnd::Failed,
         (None, _) => VolumeEnd::None,
-        (Some(_), _) => VolumeEnd::VolumeEnd,
+        (Some(_), _) => VolumeEnd::Kept,
     }
 }
 
@@ -85,6 +85,6 @@ pub(crate) fn kept_after_run<V, E>(file: Option<&str>, left: &Result<V, E>) -> V
     match (file, left) {
         (_, Err(_)) => VolumeEnd::Failed,
         (None, Ok(_)) => VolumeEnd::None,
-        (Some(_), Ok(_)) => VolumeEnd::VolumeEnd,
+        (Some(_), Ok(_)) => VolumeEnd::Kept,
     }
 }

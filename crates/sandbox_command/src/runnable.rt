@@ -12,7 +12,7 @@ use wasm_module::Module;
 #[derive(Drop)]
 pub(crate) enum Runnable<'a> {
     /// All that its runs look up of it was made once.
-    PreparedTest(SharedModule<'a>),
+    Prepared(SharedModule<'a>),
     /// Each run makes that anew.
     Bare(Valid<'a>),
 }
@@ -24,7 +24,7 @@ impl<'a> Runnable<'a> {
         ensures ready { IsReadyFor run.now.limits.pages result }
     {
         match SharedModule::new(alloc, valid, run.limits.pages) {
-            Ok(shared) => Runnable::PreparedTest(shared),
+            Ok(shared) => Runnable::Prepared(shared),
             Err(refused) => Runnable::Bare(refused.valid),
         }
     }
@@ -34,7 +34,7 @@ impl<'a> Runnable<'a> {
         ensures { result.now ≡ module_in self.now }
     {
         match self {
-            Runnable::PreparedTest(shared) => shared.module().module(),
+            Runnable::Prepared(shared) => shared.module().module(),
             Runnable::Bare(valid) => valid.module(),
         }
     }

@@ -21,7 +21,7 @@ pub enum InputSource<F, R> {
     /// What the program was given.
     Given(R),
     /// A file that was opened in its place.
-    RunFiles(F),
+    Opened(F),
 }
 
 impl<F: Read, R: Read> Read for InputSource<F, R> {
@@ -32,7 +32,7 @@ impl<F: Read, R: Read> Read for InputSource<F, R> {
     fn read(&mut self, buf: &mut [u8]) -> io::Result<usize> {
         match self {
             InputSource::Given(input) => input.read(buf),
-            InputSource::RunFiles(file) => file.read(buf),
+            InputSource::Opened(file) => file.read(buf),
         }
     }
 }
@@ -47,7 +47,7 @@ impl<F: Inlet, R: Inlet> Inlet for InputSource<F, R> {
     fn try_read(&mut self, buf: &mut [u8]) -> io::Result<usize> {
         match self {
             InputSource::Given(input) => input.try_read(buf),
-            InputSource::RunFiles(file) => file.try_read(buf),
+            InputSource::Opened(file) => file.try_read(buf),
         }
     }
 }
@@ -124,7 +124,7 @@ pub(crate) fn source_of<F: Drop, R: Drop>(
     ensures spare { result.1 ≡ spare_of file input }
 {
     match file {
-        Some(file) => (InputSource::RunFiles(file), Some(input)),
+        Some(file) => (InputSource::Opened(file), Some(input)),
         None => (InputSource::Given(input), None),
     }
 }

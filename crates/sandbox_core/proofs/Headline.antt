@@ -260,7 +260,7 @@ module _ {D R W1 W2 : Type 0} (on : Devices D R W1 W2) where
   abbrev Follows : StandsFor → S → History S → S → Type 0
   Follows Stands s rs s' = FollowBy Stands on s rs s'
 
-  follows : (Stands : StandsFor) (rs : History S) (s s' : S) → Follows Stands s rs s' → ResumesFollowBy Stands Calls (pauses_of rs) s.host s.machine s'.host s'.machine
+  follows : (Stands : StandsFor) (rs : History S) (s s' : S) → Follows Stands s rs s' → ResumesFollowBy Calls Stands (pauses_of rs) s.host s.machine s'.host s'.machine
   follows Stands [] s s' same = (ap (λ (s : S). s.host) same, ap (λ (s : S). s.machine) same)
   follows Stands (r ∷ rs) s s' ((units, resumes), rest) = (r.1.host, r.1.machine, units, resumes.run, follows Stands rs r.1 s' rest)
 

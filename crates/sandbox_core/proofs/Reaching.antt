@@ -54,7 +54,7 @@ module _ (H : Type 0) (Calls : CallsOf H) (i : Instance) where
   paused_stops Spent h h' c c' p = p.2
   paused_stops (Ended o) h h' c c' p = p.1
 
-  pub resumes_compose : (Stands : StandsFor) (ps : List Pause) (h h' : H) (s s' : Snapshot) (c : Configuration) → Stands s i c → ResumesFollowBy Stands Calls ps h s h' s'
+  pub resumes_compose : (Stands : StandsFor) (ps : List Pause) (h h' : H) (s s' : Snapshot) (c : Configuration) → Stands s i c → ResumesFollowBy Calls Stands ps h s h' s'
       → used_by c ≡ s.used → (c' : Configuration) × Stands s' i c' × Reach H Calls i h c (answered ps) h' c' × (used_by c' ≡ s'.used) × LastStopsAt Calls i ps h' c'
   resumes_compose Stands [] h h' s s' c stands (same_host, same) used =
       (c, subst (λ (t : Snapshot). Stands t i c) (sym same) stands, subst (λ (g : H). Reach H Calls i h c [] g c) (sym same_host) stays, used ∙ ap (λ (t : Snapshot). t.used) (sym same), tt)

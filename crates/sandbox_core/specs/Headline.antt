@@ -1,7 +1,7 @@
 -- The headline: what a guest does is a run of the reduction rules over a tree of paths. What a crash leaves of the
 -- guest's volume is the tree after a first part of its calls, and what is outside its directories stays as it is
 -- (`README.md`, "What is proved").
-use Rattle.std.specs.Prelude.{◌≡◌, ℕ, List, [], ◌∷◌, Option}
+use Rattle.std.specs.Prelude.{◌≡◌, ℕ, List, [], ◌∷◌, Option, None}
 use Rattle.vol_tree.specs.Tree.{Tree}
 use Rattle.vol_tree.specs.Opened.{GoesOn}
 use Rattle.wasm_module.specs.declared.module.Module.{Module}

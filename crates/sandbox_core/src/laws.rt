@@ -2,7 +2,8 @@
 
 ghost use Rattle.sandbox_core.specs.Devices.{devices};
 ghost use Rattle.sandbox_core.specs.Headline.{Headline, OpenedHeadline, SeededHeadline};
-ghost use Rattle.wasm_interp.specs.Snapshots.{StandsFor};
+ghost use Rattle.wasm_steps.specs.Configuration.{Instance, Configuration};
+ghost use Rattle.wasm_interp.specs.Machine.{Snapshot, Represents};
 ghost use Rattle.sandbox_core.specs.Runs.{PausesCompose, ResumesCompose};
 ghost use Rattle.sandbox_core.specs.Safety.{TurnsAreSafe};
 
@@ -10,6 +11,20 @@ use stream_answers::{Inlet, Outlet};
 use vol_sector::Device;
 pub use wasi_calls::{confined, confined_host, host_calls_are_rows, kept, streams_are_heard};
 use wasm_interp::Host;
+
+/// By what snapshots of a machine stand for configurations of an instance. What a session promises takes this from each turn to the
+/// next, so the headline holds whatever it is; the machine's own is that of `OwnMeaning`.
+pub trait SnapshotMeaning {
+    /// The snapshot stands for this configuration of this instance.
+    ghost stands: { Snapshot → Instance → Configuration → Type 0 };
+}
+
+/// The machine's own.
+pub struct OwnMeaning;
+
+impl SnapshotMeaning for OwnMeaning {
+    ghost stands = { Represents };
+}
 
 /// Any list of resumes is one run, over any host: the pauses say which calls the host answered in it.
 pub fn compose<H: Host>()
@@ -26,17 +41,17 @@ pub fn turns_are_safe<D: Device, R: Inlet, W1: Outlet, W2: Outlet>()
 /// The headline, over what `Session::new` and `Session::resume` say: whatever resumes follow, the guest's steps are a run
 /// of the reduction rules over a tree of paths, each image that a crash may leave stands for the tree after a first part
 /// of its calls, with all up to the last sync that was answered, and what is outside its directories stays.
-pub fn headline<D: Device, R: Inlet, W1: Outlet, W2: Outlet>()
-    ensures { (Stands : StandsFor) → Headline Stands (devices D.Device R.Read W1.Write W2.Write R.gave R.refused W1.took W1.refused W2.took W2.refused) }
+pub fn headline<M: SnapshotMeaning, D: Device, R: Inlet, W1: Outlet, W2: Outlet>()
+    ensures { Headline M.stands (devices D.Device R.Read W1.Write W2.Write R.gave R.refused W1.took W1.refused W2.took W2.refused) }
 {}
 
 /// The headline of a session that `Session::seed` gave random bytes before its first resume.
-pub fn headline_seeded<D: Device, R: Inlet, W1: Outlet, W2: Outlet>()
-    ensures { (Stands : StandsFor) → SeededHeadline Stands (devices D.Device R.Read W1.Write W2.Write R.gave R.refused W1.took W1.refused W2.took W2.refused) }
+pub fn headline_seeded<M: SnapshotMeaning, D: Device, R: Inlet, W1: Outlet, W2: Outlet>()
+    ensures { SeededHeadline M.stands (devices D.Device R.Read W1.Write W2.Write R.gave R.refused W1.took W1.refused W2.took W2.refused) }
 {}
 
 /// The headline of a session that `Session::seed` gave random bytes or `Session::interact` made interactive, either or both or
 /// neither, before its first resume.
-pub fn headline_opened<D: Device, R: Inlet, W1: Outlet, W2: Outlet>()
-    ensures { (Stands : StandsFor) → OpenedHeadline Stands (devices D.Device R.Read W1.Write W2.Write R.gave R.refused W1.took W1.refused W2.took W2.refused) }
+pub fn headline_opened<M: SnapshotMeaning, D: Device, R: Inlet, W1: Outlet, W2: Outlet>()
+    ensures { OpenedHeadline M.stands (devices D.Device R.Read W1.Write W2.Write R.gave R.refused W1.took W1.refused W2.took W2.refused) }
 {}

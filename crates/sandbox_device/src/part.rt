@@ -1,4 +1,4 @@
-//! SectorBlock of a device's sectors, of which those of zeros take no more room than a number.
+//! Part of a device's sectors, of which those of zeros take no more room than a number.
 
 ghost use Rattle.std.specs.Prelude.{◌≡◌, ◌<◌, ◌≤◌, IfOk, IsTrue, length, replicate, set};
 ghost use Rattle.vol_sector.specs.Record.{image_of};

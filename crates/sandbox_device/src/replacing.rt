@@ -40,6 +40,8 @@ pub enum Hindrance {
     Names,
     /// No file of its owner and its mode can be made beside it.
     Folder,
+    /// No other file takes its name: it is mounted by itself, as into a container, or the system forbids it.
+    Name,
 }
 
 /// How a file is replaced.
@@ -199,6 +201,14 @@ fn sync_folder(folder: &File) -> io::Result<()> {
         Err(error) if error.kind() == ErrorKind::InvalidInput => Ok(()),
         done => done,
     }
+}
+
+/// Whether this refuses another file the name of one that is there.
+fn keeps_its_name(error: &io::Error) -> bool {
+    matches!(
+        error.kind(),
+        ErrorKind::ResourceBusy | ErrorKind::PermissionDenied
+    )
 }
 
 /// A spare file that is to get the name of a file, in this folder.
@@ -392,8 +402,27 @@ impl Replacement {
         Ok((spare, folder))
     }
 
-    /// Writes the bytes into a file beside it, and gives that its name. Where none can be made there, it is written in place, unless
-    /// another file has the name by now, or it has none.
+    /// Writes the bytes into this file beside it, and gives that its name.
+    fn put_beside<R: Files<File = File> + AllocGlobal>(
+        &self,
+        rt: &R,
+        spare: &SpareFile,
+        folder: &File,
+        contents: Contents<'_>,
+    ) -> io::Result<()>
+        ensures { OnOk result (WasReplaced R (string_bytes self.now.path) (bytes_of contents.entry)) }
+    {
+        let mut successor = Successor {
+            rt,
+            spare,
+            path: self.path.as_str(),
+            folder,
+        };
+        replace(&mut successor, contents)
+    }
+
+    /// Writes the bytes into a file beside it, and gives that its name. Where none can be made there, or none takes the name, it is
+    /// written in place, unless another file has the name by now, or it has none.
     fn fill_beside<R: Files<File = File> + AllocGlobal>(
         self,
         rt: &R,
@@ -411,19 +440,15 @@ impl Replacement {
             self.fill_in_place(rt, contents)?;
             return Ok(Some(Hindrance::Folder));
         };
-        let mut successor = Successor {
-            rt,
-            spare: &spare,
-            path: self.path.as_str(),
-            folder: &folder,
+        let Err(error) = self.put_beside(rt, &spare, &folder, contents) else {
+            return Ok(None);
         };
-        match replace(&mut successor, contents) {
-            Ok(()) => Ok(None),
-            Err(error) => {
-                let _ = rt.remove_file(spare.path.as_str());
-                Err(error)
-            }
+        let _ = rt.remove_file(spare.path.as_str());
+        if newcomer.is_some() || !keeps_its_name(&error) {
+            return Err(error);
         }
+        self.fill_in_place(rt, contents)?;
+        Ok(Some(Hindrance::Name))
     }
 
     /// Writes over what is there, or makes it.

@@ -148,7 +148,7 @@ fn number_name(function: u32) -> ArrayString<20>
 }
 
 /// Copies what a function is called as far as there is room, and says how long it is: its name in the module's section `name`, else
-/// that of its first export, else `function[3]` with its index.
+/// that of its first export, else `function[3]` with its index. An empty name is none.
 pub fn function_name(module: &[u8], function: u32, room: &mut [u8]) -> usize
     ensures length { result ≡ length (name_of «module».now function) }
     ensures shown { IsShown (name_of «module».now function) room.old room.new }

@@ -5,7 +5,7 @@ ghost use Rattle.sandbox_host.specs.Carried.{IsCarried, IsCarriedOn};
 ghost use Rattle.sandbox_host.specs.Settled.{IsSettled, IsSettledSoFar, IsSyncSettled, IsRecordKept, IsRecordKeptSoFar};
 
 use crate::kept::KeptOutput;
-use sandbox_core::laws::{headline, turns_are_safe};
+use sandbox_core::laws::{OwnMeaning, headline, turns_are_safe};
 use sandbox_device::RecordedDevice;
 use sandbox_device::laws::record_is_followed;
 use vol_tree::one_tree;
@@ -17,7 +17,7 @@ use vol_tree::one_tree;
 pub fn host_headline()
     ensures { HostHeadline }
 {
-    headline::<RecordedDevice, &'static [u8], KeptOutput, KeptOutput>();
+    headline::<OwnMeaning, RecordedDevice, &'static [u8], KeptOutput, KeptOutput>();
     turns_are_safe::<RecordedDevice, &'static [u8], KeptOutput, KeptOutput>();
 }
 

@@ -36,7 +36,7 @@ pub struct SessionLimits {
     pub values: u32,
     /// Bytes that it writes to descriptor 1, and as many to 2.
     pub output: u64,
-    /// SessionLimits to come, each 0.
+    /// Limits to come, each 0.
     pub later: [u64; 6],
 }
 

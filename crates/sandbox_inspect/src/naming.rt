@@ -69,7 +69,7 @@ fn exported_name(bytes: &[u8], index: u64) -> Option<&[u8]>
 
 /// A name, but for an empty one.
 fn named(name: Option<&[u8]>) -> Option<&[u8]>
-    ensures { option_map (λ name. name.now) result ≡ named (option_map (λ name. name.now) name) }
+    ensures { option_map (λ name. name.now) result ≡ named (option_map (λ name. name.now) name.entry) }
 {
     match name {
         Some(name) if !name.is_empty() => Some(name),

@@ -11,12 +11,12 @@ use Rattle.sandbox_report.specs.Ends.{end_code, end_offset, end_text, is_machine
 
 abbrev pub kept_text : VolumeEnd → Text
 kept_text kept.None = codes "none"
-kept_text kept.VolumeEnd = codes "kept"
+kept_text kept.Kept = codes "kept"
 kept_text kept.Failed = codes "failed"
 
 abbrev pub keeping_failed : VolumeEnd → Bool
 keeping_failed kept.None = false
-keeping_failed kept.VolumeEnd = false
+keeping_failed kept.Kept = false
 keeping_failed kept.Failed = true
 
 -- which streams were refused more than they take

@@ -11,7 +11,7 @@ pub enum VolumeEnd {
     /// The run names no volume, or ended before one was open, and no device failed.
     None,
     /// All of the guest's calls are on it.
-    VolumeEnd,
+    Kept,
     /// Its device failed, so that the last of them may not be.
     Failed,
 }
@@ -57,7 +57,7 @@ impl VolumeEnd {
     {
         match self {
             VolumeEnd::None => "none",
-            VolumeEnd::VolumeEnd => "kept",
+            VolumeEnd::Kept => "kept",
             VolumeEnd::Failed => "failed",
         }
     }

@@ -15,7 +15,7 @@ use vol_sector::{Device, Refused, VolumeFault};
 use vol_tar::{TarReason, export};
 use vol_tree::{Errno, Volume};
 
-/// TarReason an export from the volume of a device ends without success.
+/// Why an export from the volume of a device ends without success.
 #[derive(Clone, Copy)]
 pub enum ExportFailure {
     /// The volume is refused, or the device failed as it was opened.

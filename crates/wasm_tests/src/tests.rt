@@ -12,8 +12,8 @@ mod memories;
 mod modules;
 mod operators;
 mod sections;
-mod stores;
 mod surveys;
+mod texts;
 
 use std::alloc::Global;
 use std::process::Abort;

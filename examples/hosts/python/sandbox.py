@@ -146,7 +146,7 @@ def text(number, kind=0):
 
 def function_name(module, function):
     """What a function of a module is called: its name in the section `name`, else that of its first export, else `function[3]`.
-    What is no UTF-8 is told by backslashes."""
+    An empty name is none. What is no UTF-8 is told by backslashes."""
     module, function = bytes(memoryview(module)), c.c_uint32(_number("function", function, MOST_32))
     length = _lib.sandbox_function_name(module, c.c_size_t(len(module)), function, b"", c.c_size_t(0))
     room = c.create_string_buffer(max(1, length))

@@ -2,13 +2,13 @@
 use Rattle.std.specs.Prelude.{◌≡◌, ℕ}
 use Rattle.wasm_module.specs.declared.module.Module.{Module}
 use Rattle.sandbox_command.specs.declared.runnable.Runnable.{Runnable}
-use Rattle.sandbox_command.specs.declared.runnable.Runnable.TheVariants.{PreparedTest, Bare}
+use Rattle.sandbox_command.specs.declared.runnable.Runnable.TheVariants.{Prepared, Bare}
 
 abbrev pub module_in : Runnable → Module
-module_in (PreparedTest shared) = shared.valid
+module_in (Prepared shared) = shared.valid
 module_in (Bare valid) = valid
 
 -- where it is prepared, it is for memories of this many pages at most
 abbrev pub IsReadyFor : ℕ → Runnable → Type 0
-IsReadyFor pages (PreparedTest shared) = shared.pages ≡ pages
+IsReadyFor pages (Prepared shared) = shared.pages ≡ pages
 IsReadyFor pages (Bare valid) = Unit {0}

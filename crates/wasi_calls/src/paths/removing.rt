@@ -106,7 +106,7 @@ fn removable<D: Device>(
     }
 }
 
-/// DescriptorKinds out an entry of this kind. A directory that isn't empty is refused as `NotEmpty`, the root as `Invalid`. That no
+/// Takes out an entry of this kind. A directory that isn't empty is refused as `NotEmpty`, the root as `Invalid`. That no
 /// descriptor has the entry was looked at by `removable`.
 fn take_out<D: Device>(
     volume: &mut Volume<D>,

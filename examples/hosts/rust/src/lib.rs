@@ -30,15 +30,29 @@ pub struct Refused {
 
 impl fmt::Display for Refused {
     fn fmt(&self, f: &mut fmt::Formatter<'_>) -> fmt::Result {
-        let mut room = [0; 80];
-        // SAFETY: the room has this length.
-        let length = unsafe { sys::sandbox_text(0, self.number, room.as_mut_ptr(), room.len()) };
-        let text = String::from_utf8_lossy(&room[..length.min(room.len())]);
-        write!(f, "fault {} at {}: {text}", self.number, self.offset)
+        write!(f, "fault {} at {}: {}", self.number, self.offset, text(0, self.number))
     }
 }
 
 impl Error for Refused {}
+
+/// What a number of this kind means.
+fn text(kind: u32, number: u32) -> String {
+    let mut room = [0; 80];
+    // SAFETY: the room has this length.
+    let length = unsafe { sys::sandbox_text(kind, number, room.as_mut_ptr(), room.len()) };
+    String::from_utf8_lossy(&room[..length.min(room.len())]).into_owned()
+}
+
+/// What the number of a `Pause::Trapped` means, as `integer divide by zero`; empty for one that is none.
+pub fn trap_text(number: u32) -> String {
+    text(1, number)
+}
+
+/// What an errno means, as `no such descriptor`; empty for one that is none.
+pub fn errno_text(number: u32) -> String {
+    text(2, number)
+}
 
 /// What is called isn't there, or in another state.
 const MISUSE: u32 = 100;
@@ -381,8 +395,8 @@ pub fn format(sectors: usize, slots: u32) -> Result<Sectors, Refused> {
     Ok(made)
 }
 
-/// What a function of a module is called: its name in the section `name`, else that of its first export, else `function[3]`. A name
-/// has any bytes.
+/// What a function of a module is called: its name in the section `name`, else that of its first export, else `function[3]`. An
+/// empty name is none; else it has any bytes.
 pub fn function_name(module: &[u8], function: u32) -> Vec<u8> {
     // SAFETY: the room has its length.
     unsafe {

@@ -1,5 +1,5 @@
 //! One module that is prepared once, in sessions of several threads, and the functions at work in them: `cargo test`.
-use sandbox_host::{function_name, Frame, Limits, Module, Pause, Supplies};
+use sandbox_host::{errno_text, function_name, trap_text, Frame, Limits, Module, Pause, Supplies};
 use std::fs::read;
 use std::thread;
 
@@ -57,4 +57,9 @@ fn functions_at_work() {
     assert_eq!(function_name(&bytes, 7), b"function[7]");
     session.run(1000).expect("it runs");
     assert_eq!(session.frame(0), None);
+}
+
+#[test]
+fn what_numbers_mean() {
+    assert_eq!((trap_text(1).as_str(), errno_text(8).as_str(), trap_text(4_000_000_000).as_str()), ("integer divide by zero", "no such descriptor", ""));
 }

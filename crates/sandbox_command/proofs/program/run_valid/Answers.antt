@@ -19,15 +19,15 @@ returns-in-Err-clause-runs g c =
     ended.ends ended.flushed ended.summary ended.device ended.input ended.out ended.err
 
 -- the module was launched
-pub returns-in-PreparedTest-clause-runs : goal.returns-in-PreparedTest-clause-runs
-returns-in-PreparedTest-clause-runs g c =
+pub returns-in-Prepared-clause-runs : goal.returns-in-Prepared-clause-runs
+returns-in-Prepared-clause-runs g c =
     let parts = c.parts_of-parts.result in
     on_volume g.D.Device g.R.Read.remaining g.W1.Write.contents g.W2.Write.contents (hearing g.R.Inlet.gave g.R.Inlet.refused g.W1.Outlet.took g.W1.Outlet.refused g.W2.Outlet.took g.W2.Outlet.refused) c.args.run.now (module_in c.args.runnable) c.args.random.now
     c.args.device c.args.streams.input c.args.streams.out c.args.streams.err c.in-Ok.volume parts c.launch_prepared-left.result
     (subst (λ named. IsOpenFor g.D.Device.honest g.D.Device.disk g.D.Device.size g.D.Device.failures named c.args.device c.in-Ok.volume) c.volume_of.ensures c.in-Ok.ensures.opens)
     c.parts_of-parts.ensures.settings c.parts_of-parts.ensures.parts
     (subst (λ (m : Module). Launches g.D.Device.honest g.D.Device.disk g.D.Device.size g.D.Device.failures g.D.Device.goes_on g.R.Read.remaining g.W1.Write.contents g.W2.Write.contents (hearing g.R.Inlet.gave g.R.Inlet.refused g.W1.Outlet.took g.W1.Outlet.refused g.W2.Outlet.took g.W2.Outlet.refused) m c.args.run.now parts c.launch_prepared-left.result)
-    (sym (ap module_in c.in-PreparedTest.is)) c.launch_prepared-left.ensures.launches)
+    (sym (ap module_in c.in-Prepared.is)) c.launch_prepared-left.ensures.launches)
 
 pub returns-in-Bare-clause-runs : goal.returns-in-Bare-clause-runs
 returns-in-Bare-clause-runs g c =
@@ -46,4 +46,4 @@ returns-in-Err-clause-fuel_use g c = none_tells c.args.stacks _ c.no_volume.ensu
 -- its settings have the pages of the words
 pub launch_prepared-left-requires-clause-pages : goal.launch_prepared-left-requires-clause-pages
 launch_prepared-left-requires-clause-pages g c =
-    c.parts_of-parts.ensures.settings.pages ∙ sym (subst (λ (r : Runnable). IsReadyFor c.args.run.now.limits.pages r) c.in-PreparedTest.is c.requires.ready)
+    c.parts_of-parts.ensures.settings.pages ∙ sym (subst (λ (r : Runnable). IsReadyFor c.args.run.now.limits.pages r) c.in-Prepared.is c.requires.ready)

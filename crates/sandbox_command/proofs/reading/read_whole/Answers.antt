@@ -1,5 +1,5 @@
-use Rattle.std.proofs.Common.{◌≡◌, ◌+◌, ◌++◌, ℕ, List, [], length, length-append, refl, inl, inr, arith, rules, subst}
-use Rattle.sandbox_command.specs.Reading.{nothing, gives}
+use Rattle.std.proofs.Common.{◌≡◌, ◌≤◌, length, inl, inr, arith, rules}
+use Rattle.sandbox_command.specs.Reading.{AtLast, nothing, gives}
 use Rattle.sandbox_command.proofs.Wholly.{at_end, in_all}
 use Rattle.sandbox_command.proofs.reading.read_whole.Goals as goal
 
@@ -9,9 +9,11 @@ loop-left-init g c = record { gave = search (rules, nothing); count = search rul
 pub loop-left-preserved : goal.loop-left-preserved
 loop-left-preserved g c =
     let came = c.in_ok-count.ensures.gave in
+    let whole : length c.read_more.new.piece ≡ c.min-room.result = search rules in
+    let few : c.in_ok-count.count ≤ c.loop-left.left = omega (arith, whole, c.in_ok-count.ensures.few, c.min-room.ensures) in
     record {
       gave = gives _ came.0 c.loop-left.invariant.gave came.2 came.3;
-      count = in_all c.loop-left.bytes.items came.0 c.read_more.new.bytes.items c.loop-left.left c.in_ok-count.count c.args.most came.3 came.1 c.loop-left.invariant.count (omega (arith, c.in_ok-count.ensures.few));
+      count = in_all c.loop-left.bytes.items came.0 c.read_more.new.bytes.items c.loop-left.left c.in_ok-count.count c.args.most came.3 came.1 c.loop-left.invariant.count few;
       piece = search rules;
     }
 
@@ -19,7 +21,7 @@ loop-left-preserved g c =
 pub returns-then-count-eq0 : goal.returns-then-count-eq0
 returns-then-count-eq0 g c =
     let came = c.in_ok-count.ensures.gave in
-    inr (at_end g.R.Inlet.gave _ c.loop-left.bytes.items c.loop-left.input came.0 c.read_more.new.bytes.items c.read_more.new.input c.in_ok-count.count
+    inr (at_end (AtLast g.R.Inlet.gave g.R.Inlet.refused) _ c.loop-left.bytes.items c.loop-left.input came.0 c.read_more.new.bytes.items c.read_more.new.input c.in_ok-count.count
     came.1 c.if-count-eq0.true came.2 came.3 c.loop-left.invariant.gave)
 
 pub returns : goal.returns

@@ -1,12 +1,12 @@
 use Rattle.std.proofs.Common.{◌≡◌, ◌+◌, vec_len, length}
-use Rattle.sandbox_command.specs.Reading.{Gives}
+use Rattle.sandbox_command.specs.Reading.{AtLast, Gives}
 use Rattle.sandbox_command.proofs.reading.read_whole.Given as goal
 
 abbrev pub invariant-loop-left : goal.invariant-loop-left
 invariant-loop-left g l = record {
-  gave : Gives g.R.Inlet.gave l.initial.input l.bytes.items l.input;
+  gave : Gives (AtLast g.R.Inlet.gave g.R.Inlet.refused) l.initial.input l.bytes.items l.input;
   count : length l.bytes.items + l.left ≡ l.most;
-  piece : vec_len l.piece ≡ 65536;
+  piece : vec_len l.piece ≡ 16384;
 }
 
 abbrev pub decreases-loop-left : goal.decreases-loop-left

@@ -1,6 +1,5 @@
-use Rattle.wasm_interp.specs.Machine.{Represents}
 use Rattle.sandbox_host.proofs.Resuming.{host_headline}
 use Rattle.sandbox_host.proofs.laws.host_headline.Goals as goal
 
 pub returns : goal.returns
-returns c = host_headline (c.headline.ensures Represents) c.turns_are_safe.ensures
+returns c = host_headline c.headline.ensures c.turns_are_safe.ensures

@@ -6,7 +6,7 @@ use base.Logic.{SProp}
 use prog.Wp.{WpFn}
 use contract.Running.{tables}
 use types.Kit.{‵, raw, ◌⊛◌, prop, ◌$◌, ◌∵◌, !, qed, move, keep, split, fjoin, regoal, suffices, done}
-use types.SectorBlock.{agg}
+use types.Part.{agg}
 use types.Run.{enter, returns, no_more}
 use types.ByLocal.{alloc_all, pass_all, free_all, look_at, sets}
 use denote.Exit.{yes}

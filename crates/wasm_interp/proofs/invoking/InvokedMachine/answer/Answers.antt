@@ -61,15 +61,15 @@ returns-clause-answered c =
 pub returns-in_default-clause-refused : goal.returns-in_default-clause-refused
 returns-in_default-clause-refused c = rw (← c.self.view_is) (refl, λ k. c.in_default.not-Asking _ k.3.asks)
 
-pub returns-in-None-clause-refused : goal.returns-in-None-clause-refused
-returns-in-None-clause-refused c =
+pub returns-in_default-import_type-clause-refused : goal.returns-in_default-import_type-clause-refused
+returns-in_default-import_type-clause-refused c =
     let r : Prepared = arc_value c.self.inside.prepared in
     let same = c.module.ensures.value ∙ ap (λ (p : Prepared). p.valid) c.deref-prepared.ensures in
     rw (← c.self.view_is) (
       refl,
       λ k.
           let here : IsImportType r.valid c.in-Asking.ask.function k.1 = subst (λ (a : Ask). IsImportType r.valid a.function k.1) (ask_once _ c.in-Asking.ask (sym k.3.asks ∙ c.in-Asking.is)) k.3.is_import in
-          c.in-None.ensures.missing k.1 (subst (λ (m : Module). IsImportType m c.in-Asking.ask.function k.1) (sym same) here),
+          c.in_default-import_type.ensures.missing k.1 (subst (λ (m : Module). IsImportType m c.in-Asking.ask.function k.1) (sym same) here),
     )
 
 pub returns-then-not-fit-clause-refused : goal.returns-then-not-fit-clause-refused

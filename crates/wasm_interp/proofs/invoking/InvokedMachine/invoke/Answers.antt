@@ -28,10 +28,10 @@ returns-clause-invoked c =
     rw (← c.self.view_is) (invokes r c.self.inside.state c.enter.new.self c.args.function c.args.arguments.now f own fits c.enter.ensures c.self.invariant few)
 
 -- none of the module's own has this number
-pub returns-in-None-clause-refused : goal.returns-in-None-clause-refused
-returns-in-None-clause-refused c =
+pub returns-in_default-clause-refused : goal.returns-in_default-clause-refused
+returns-in_default-clause-refused c =
     let same = c.module.ensures.value ∙ ap (λ (p : Prepared). p.valid) c.deref-prepared.ensures in
-    rw (← c.self.view_is) (refl, λ f k few. c.in-None.ensures.missing f (subst (λ (m : Module). IsOwnType m c.args.function f) (sym same) k))
+    rw (← c.self.view_is) (refl, λ f k few. c.in_default.ensures.missing f (subst (λ (m : Module). IsOwnType m c.args.function f) (sym same) k))
 
 -- or it takes too many arguments
 pub returns-then-params-gt-MOST_ARGUMENTS-clause-refused : goal.returns-then-params-gt-MOST_ARGUMENTS-clause-refused

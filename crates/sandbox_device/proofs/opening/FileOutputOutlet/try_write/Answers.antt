@@ -2,7 +2,7 @@ use Rattle.std.proofs.Common.{take}
 use Rattle.stream_answers.specs.System.{HasRefused, has_refused}
 use Rattle.sandbox_device.specs.Written.{Puts, WasCut, WasPut}
 use Rattle.sandbox_device.proofs.Told.{told_or}
-use Rattle.sandbox_device.proofs.opening.OutputOutlet.try_write.Goals as goal
+use Rattle.sandbox_device.proofs.opening.FileOutputOutlet.try_write.Goals as goal
 
 pub returns-clause-told : goal.returns-clause-told
 returns-clause-told c =

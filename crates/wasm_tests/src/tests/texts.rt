@@ -5,7 +5,7 @@ use std::alloc::Global;
 use wasm_num::Trap;
 use wasm_store::InstanceFault;
 
-fn is_fault(alloc: Global, fault: InstanceFault, text: &str) -> bool {
+fn prints_fault(alloc: Global, fault: InstanceFault, text: &str) -> bool {
     match format!(in alloc; "{fault}") {
         Ok(found) => found.as_str() == text,
         Err(_) => false,
@@ -25,11 +25,11 @@ fn prints_faults(rt: HostRuntime) {
     .iter()
     .enumerate()
     {
-        assert_row(&rt, i, is_fault(rt.alloc(), *fault, text));
+        assert_row(&rt, i, prints_fault(rt.alloc(), *fault, text));
     }
 }
 
-fn is_trap(alloc: Global, trap: Trap, text: &str) -> bool {
+fn prints_trap(alloc: Global, trap: Trap, text: &str) -> bool {
     match format!(in alloc; "{trap}") {
         Ok(found) => found.as_str() == text,
         Err(_) => false,
@@ -52,6 +52,6 @@ fn prints_traps(rt: HostRuntime) {
     .iter()
     .enumerate()
     {
-        assert_row(&rt, i, is_trap(rt.alloc(), *trap, text));
+        assert_row(&rt, i, prints_trap(rt.alloc(), *trap, text));
     }
 }
