@@ -19,9 +19,11 @@
  * a number of 64 bits: one of i32 or f32 its 32 bits, one of f64 its 64.
  *
  * INSTANCES
- *   An instance is a `sandbox_session *` like any other for what both have: sandbox_output, sandbox_full, sandbox_volume_out,
- *   sandbox_operation_at and sandbox_close (and sandbox_settle, sandbox_output_to). Its own functions stand below; sandbox_resume,
- *   sandbox_finish, sandbox_frame_at and sandbox_close_loaded are SANDBOX_MISUSE for it.
+ *   An instance is a `sandbox_session *` like any other for what both have: sandbox_output, sandbox_full, sandbox_frame_at,
+ *   sandbox_volume_out, sandbox_operation_at and sandbox_close (and sandbox_settle, sandbox_output_to). Its own functions stand below;
+ *   sandbox_resume, sandbox_finish and sandbox_close_loaded are SANDBOX_MISUSE for it.
+ *   sandbox_frame_at tells what is at work in it: after ASKED the innermost function stands at its call of the host's, and after
+ *   TRAPPED and NO_MEMORY, until sandbox_invoke or sandbox_abandon, all stand where they stood then.
  *   First its start function and its exported `_initialize` of type [] -> [] run: sandbox_go until SANDBOX_RETURNED (at once
  *   where there is neither). Then it is ready.
  *

@@ -2,6 +2,7 @@
  * What calls of an instance cost, beside a call of WASI that a session comes back with, as ratios in one run: bench/plugin-costs.
  *
  *     plugin_costs [ROUNDS]
+ *     plugin_costs --module FILE        writes the module, for others
  *
  * Each figure is the least of seven rounds, in processor time of the thread.
  */
@@ -173,7 +174,14 @@ static double threads(sandbox_plugin **plugin, int many, size_t count) {
   return most;
 }
 
+static int write_module(const char *path) {
+  FILE *file = fopen(path, "wb");
+  return !file || fwrite(PLUGIN, 1, sizeof PLUGIN - 1, file) != sizeof PLUGIN - 1 || fclose(file);
+}
+
 int main(int argc, char **argv) {
+  if (argc == 3 && !strcmp(argv[1], "--module"))
+    return write_module(argv[2]);
   const size_t rounds = argc > 1 ? strtoull(argv[1], NULL, 10) : 200000;
   sandbox_plugin *plugin = NULL;
   sandbox_session *instance = NULL, *session = NULL;

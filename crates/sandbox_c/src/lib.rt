@@ -12,7 +12,7 @@ ghost use Rattle.sandbox_host.specs.Sessions.{running, finished, loaded, prepare
 ghost use Rattle.sandbox_host.specs.Sessions.{IsLoaded, IsLoadedWith, IsShown, Begins, BeginsFrom, Paused, Finishes};
 ghost use Rattle.sandbox_host.specs.Recording.{recorded, operation_of, told_operation};
 ghost use Rattle.sandbox_host.specs.Supplies.{most_pages, profile_of};
-ghost use Rattle.sandbox_host.specs.Frames.{TellsFrame, name_of};
+ghost use Rattle.sandbox_host.specs.Frames.{TellsFrame, machine_of, name_of};
 ghost use Rattle.sandbox_host.specs.Volumes.{origin_of};
 ghost use Rattle.sandbox_host.specs.Refusals.{NotLoaded, NotLoadedWith, NotBegunOf, NotOpened, NotPrepared, NotPreparedWith};
 ghost use Rattle.sandbox_host.specs.Whole.{Ran, IsUnformatted};
@@ -275,11 +275,11 @@ pub extern "C" fn sandbox_frame_at(
     number: usize,
     told: &mut FunctionFrame,
 ) -> u32
-    ensures misuse { is_none (running session.old.held) ≡ true → (result ≡ 100) × (told.new ≡ told.old) }
-    ensures none { IfSome (running session.old.held) (λ s. slice_get (frames_of s.machine) number ≡ None
+    ensures misuse { is_none (machine_of session.old.held) ≡ true → (result ≡ 100) × (told.new ≡ told.old) }
+    ensures none { IfSome (machine_of session.old.held) (λ m. slice_get (frames_of m) number ≡ None
         → (result ≡ 101) × (told.new ≡ told.old)) }
-    ensures told { IfSome (running session.old.held) (λ s. IfSome (slice_get (frames_of s.machine) number) (λ frame. (result ≡ 0)
-        × TellsFrame (bytes_of session.old.held) s.machine.valid number frame told.new)) }
+    ensures told { IfSome (machine_of session.old.held) (λ m. IfSome (slice_get (frames_of m) number) (λ frame. (result ≡ 0)
+        × TellsFrame (bytes_of session.old.held) m.valid number frame told.new)) }
     ensures kept { session.new.held ≡ session.old.held }
 {
     sandbox_host::frame_at(alloc, session, number, told)

@@ -1,7 +1,8 @@
 -- What a call of an instance answers, as a number.
-use Rattle.std.proofs.Common.{◌≡◌, ◌≢◌, ℕ, Result, Ok, Err, MatchResult, IfOk, IfErr}
+use Rattle.std.proofs.Common.{◌≡◌, ◌≢◌, ℕ, List, Result, Ok, Err, MatchResult, IfOk, IfErr, subst, inr}
 use Rattle.plugin_session.specs.declared.handling.Misuse.{Misuse}
-use Rattle.sandbox_host.specs.Instances.{Answered, Living}
+use Rattle.plugin_session.specs.Refusals.{RefusesCall}
+use Rattle.sandbox_host.specs.Instances.{Answered, Living, NoCall}
 use Rattle.sandbox_host.specs.Numbers.{misuse_number}
 
 -- 0 where it did this, and else nothing has changed, for this reason
@@ -13,3 +14,8 @@ told_of (Err m) n old new did reason told done refused = (λ zero. absurd (told.
 pub stage_alone : (r : Result (Unit {0}) Misuse) (old new : Living) (allowed : Type 0) (reason : Misuse → Type 0) → IfErr r (λ m. (new ≡ old) × (allowed → ⊥) × reason m) → IfErr r (λ m. (new ≡ old) × reason m)
 stage_alone (Ok u) old new allowed reason k = k
 stage_alone (Err m) old new allowed reason k = (k.0, k.1.1)
+
+-- the reason for the bytes of a name
+pub by_name : (r : Result (Unit {0}) Misuse) (old new : Living) (name text arguments : List ℕ) → text ≡ name → IfErr r (λ m. (new ≡ old) × RefusesCall old text arguments m) → IfErr r (λ m. (new ≡ old) × NoCall old name arguments m)
+by_name (Ok u) old new name text arguments same k = k
+by_name (Err m) old new name text arguments same k = (k.0, inr (subst (λ (n : List ℕ). RefusesCall old n arguments m) same k.1))

@@ -16,7 +16,7 @@ from sandbox import CALLED, MOST_32, MOST_64, MOST_SIZE, Session, Told, _check, 
 
 Refused = sandbox.Refused
 RETURNED, ASKED = 6, 7
-MOST_VALUES = 16
+MOST_VALUES = MOST_FRAMES = 16
 
 _lib.sandbox_plugin_name.restype = _lib.sandbox_values.restype = _lib.sandbox_memory_size.restype = c.c_size_t
 
@@ -26,11 +26,12 @@ class Busy(Exception):
 
 
 class Ended(Exception):
-    """A call that didn't return: by a trap, by `proc_exit`, without memory, or without fuel. `told` says which."""
+    """A call that didn't return: by a trap, by `proc_exit`, without memory, or without fuel. `told` says which, and `frames` has the
+    functions that were at work then, the innermost first, 16 of them at most."""
 
-    def __init__(self, told):
+    def __init__(self, told, frames):
         super().__init__(f"kind {told.kind}, code {told.code} after {told.used} units")
-        self.told = told
+        self.told, self.frames = told, frames
 
 
 class Plugin:
@@ -67,6 +68,10 @@ class Plugin:
             while (name := self._name(2, len(found))) is not None:
                 found.append(name)
         return found
+
+    def function_name(self, function):
+        """What a function of this index is called, as `sandbox.function_name` has it."""
+        return sandbox.function_name(self._bytes, function)
 
     def instance(self, imports=None, **supplies):
         """An instance, which is given `imports` by module name and name, and the rest as a session is."""
@@ -138,7 +143,7 @@ class Instance(Session):
                 elif told.kind == RETURNED:
                     return next(iter(self._values()), None)
                 elif told.kind != CALLED:
-                    raise Ended(told)
+                    raise Ended(told, self.frames(MOST_FRAMES))
         except BaseException:
             if told.kind != sandbox.EXITED:
                 self.abandon()
