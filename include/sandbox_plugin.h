@@ -19,9 +19,11 @@
  * a number of 64 bits: one of i32 or f32 its 32 bits, one of f64 its 64.
  *
  * INSTANCES
- *   An instance is a `sandbox_session *` like any other for what both have: sandbox_output, sandbox_full, sandbox_volume_out,
- *   sandbox_operation_at and sandbox_close (and sandbox_settle, sandbox_output_to). Its own functions stand below; sandbox_resume,
- *   sandbox_finish, sandbox_frame_at and sandbox_close_loaded are SANDBOX_MISUSE for it.
+ *   An instance is a `sandbox_session *` like any other for what both have: sandbox_output, sandbox_full, sandbox_frame_at,
+ *   sandbox_volume_out, sandbox_operation_at and sandbox_close (and sandbox_settle, sandbox_output_to). Its own functions stand below;
+ *   sandbox_resume, sandbox_finish and sandbox_close_loaded are SANDBOX_MISUSE for it.
+ *   sandbox_frame_at tells what is at work in it: after ASKED the innermost function stands at its call of the host's, and after
+ *   TRAPPED and NO_MEMORY, until sandbox_invoke or sandbox_abandon, all stand where they stood then.
  *   First its start function and its exported `_initialize` of type [] -> [] run: sandbox_go until SANDBOX_RETURNED (at once
  *   where there is neither). Then it is ready.
  *
@@ -34,11 +36,11 @@
  *     TRAPPED, NO_MEMORY                       IDLE         yes              NOT_ASKED        STOPPED                yes
  *     EXITED (`proc_exit`), and where the
  *       opening did anything but return        OVER         OVER             OVER             OVER                   OVER
- *   Memory is read at any time. A call that isn't allowed answers such a number, and nothing has changed. Before the table stand
- *   more than one result, which is MISTYPED, and a name that isn't UTF-8, which is NO_FUNCTION. After a trap memory, globals and
- *   table are as the call left them; whether the guest's own data still make sense then only its author knows: to be sure, close the
- *   instance and open another one. sandbox_abandon lets go what is at work, as a trap would; during the opening the instance is
- *   over.
+ *   Memory is read at any time. A call that isn't allowed answers such a number, and nothing has changed: first what stands in the
+ *   table, then NO_FUNCTION, MISTYPED or PAST_END (a name that isn't UTF-8 is NO_FUNCTION before the table). After a trap memory,
+ *   globals and table are as the call left them; whether the guest's own data still make sense then only its author knows: to be
+ *   sure, close the instance and open another one. sandbox_abandon lets go what is at work, as a trap would; during the opening the
+ *   instance is over.
  *
  * FUEL
  *   sandbox_go takes at most `units`, and told.used is what the instance has used since it was opened, to the instruction. An answer

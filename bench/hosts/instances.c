@@ -30,6 +30,10 @@ struct model {
   uint8_t memory[PAGE];
 };
 
+/* Where the instruction that takes each unit stands in the module's bytes, by `wasm-objdump -d`. */
+static const uint32_t stands_at[5][5] = {
+    {0x72, 0x74}, {0x79, 0x7b, 0x7d}, {0x81, 0x83, 0x85, 0x87, 0x8a}, {0x8e}, {0x92, 0x94, 0x96, 0x97, 0x99}};
+
 static uint64_t state;
 
 static uint32_t draw(uint32_t below) {
@@ -123,8 +127,6 @@ static uint32_t invokes(struct model *m, int which, const uint64_t *arguments, s
 }
 
 static uint32_t answers(struct model *m, const uint64_t *results, size_t count) {
-  if (count > 1)
-    return SANDBOX_MISTYPED;
   if (m->stage == OVER)
     return SANDBOX_OVER;
   if (m->stage != ASKED)
@@ -153,6 +155,16 @@ static uint32_t abandons(struct model *m) {
     return SANDBOX_OVER;
   m->stage = m->stage == OPENING ? OVER : READY;
   m->has_result = 0;
+  return SANDBOX_OK;
+}
+
+/* The answer of sandbox_frame_at for the innermost function, and what it tells: the function that is at work, at the instruction that
+ * takes the next unit, asks or has trapped. */
+static uint32_t stands(const struct model *m, sandbox_frame *frame) {
+  if (m->stage == READY || m->stage == OVER)
+    return SANDBOX_NO_FRAME;
+  frame->function = (uint32_t)m->function + 1;
+  frame->offset = stands_at[m->function][m->stage == STOPPED ? m->done - 1 : m->done];
   return SANDBOX_OK;
 }
 
@@ -233,6 +245,20 @@ static int one_call(sandbox_session **instance, struct model *m, int n) {
   }
 }
 
+/* Nothing is asked of what has taken no unit, which may not be entered yet. */
+static int one_frame(sandbox_session **instance, const struct model *m, int n) {
+  const enum stage before = m->stage;
+  sandbox_frame told = {9, 9}, wanted = {9, 9};
+  if ((m->stage == OPENING || m->stage == RUNNING) && m->done == 0)
+    return 0;
+  const uint32_t answer = stands(m, &wanted);
+  WANT(sandbox_frame_at(instance, 0, &told), answer);
+  WANT(told.function, wanted.function);
+  WANT(told.offset, wanted.offset);
+  WANT(sandbox_frame_at(instance, 1, &told), SANDBOX_NO_FRAME);
+  return 0;
+}
+
 static int one_instance(sandbox_plugin **plugin, const sandbox_supplies *supplies, struct model *m) {
   static const sandbox_volume fresh = {SANDBOX_VOLUME_FRESH, (const uint8_t(*)[512]) "", 0};
   static uint8_t sector[1][512];
@@ -240,10 +266,11 @@ static int one_instance(sandbox_plugin **plugin, const sandbox_supplies *supplie
   int wrong = sandbox_instance_open(&instance, plugin, supplies, &fresh) != SANDBOX_OK;
   memset(m, 0, sizeof *m);
   for (int n = 0; n < CALLS && !wrong; n++)
-    wrong = one_call(&instance, m, n);
+    wrong = one_call(&instance, m, n) || one_frame(&instance, m, n);
   if (!wrong && draw(3) == 0)
     wrong = sandbox_instance_finish(&instance) != SANDBOX_OK || sandbox_instance_finish(&instance) != SANDBOX_MISUSE ||
-            sandbox_abandon(&instance) != SANDBOX_MISUSE || sandbox_volume_out(&instance, sector, 0) != 202;
+            sandbox_frame_at(&instance, 0, &(sandbox_frame){0}) != SANDBOX_MISUSE || sandbox_abandon(&instance) != SANDBOX_MISUSE ||
+            sandbox_volume_out(&instance, sector, 0) != 202;
   if (instance)
     wrong = sandbox_close(&instance) != SANDBOX_OK || wrong;
   return wrong || sandbox_go(&instance, 1, &(sandbox_told){0}) != SANDBOX_MISUSE;

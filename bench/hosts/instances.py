@@ -44,6 +44,8 @@ with plugin.instance(imports={("env", "twice"): busy}) as one, plugin.instance(i
     tell(str(raised(LookupError, other.call, "ask", 3)) == "not 3", "what a function of the host raises goes on")
     tell(other.call("count") == 41 and one.call("count") == 41, "and another function can be called then")
     end = raised(plugins.Ended, one.call, "fail")
+    stood = [(plugin.function_name(it.function), it.offset) for it in end.frames] if end else None
+    tell(stood == [("fail", 0x8e)] and one.frames() == [], f"a trap is told where it was: {stood}")
     tell(end and end.told.kind == 1 and one.call("count") == 42, "a trap leaves an instance")
     tell(raised(plugins.Ended, one.call, "count", fuel=2) and one.call("count") == 43, "and so does a call without fuel")
     for words, number in (["none"], 108), (["add", 1], 109), (["add", 2**32, 0], 109):

@@ -7,8 +7,26 @@ use Rattle.wasm_module.specs.declared.module.Module.{Module}
 use Rattle.wasm_module.specs.declared.profile.Profile.{Profile}
 use Rattle.wasm_module.specs.Module.{SpellsWith}
 use Rattle.wasm_interp.specs.declared.frames.Frame.{Frame}
+use Rattle.wasm_interp.specs.Machine.{Snapshot}
 use Rattle.sandbox_inspect.specs.Places.{IsInstructionAt, called}
 use Rattle.sandbox_host.specs.declared.frames.FunctionFrame.{FunctionFrame}
+use Rattle.sandbox_host.specs.declared.held.HandleContent.{HandleContent}
+use Rattle.sandbox_host.specs.declared.held.HandleContent.TheVariants.{Loaded, Running, Finished, Plugin, Instance, SessionLeft, Nothing}
+use Rattle.sandbox_host.specs.Sessions.{state_of}
+
+-- the machine of a session or an instance that isn't finished
+abbrev pub machine_in : HandleContent → Option Snapshot
+machine_in (Loaded m bytes) = None
+machine_in (Running r) = Some (state_of r.session).machine
+machine_in (Finished e) = None
+machine_in (Plugin p bytes) = None
+machine_in (Instance l) = Some l.instance.machine
+machine_in (SessionLeft e) = None
+machine_in Nothing = None
+
+abbrev pub machine_of : Option HandleContent → Option Snapshot
+machine_of None = None
+machine_of (Some held) = machine_in held
 
 -- the instruction at which a function stands that has so many inside it: the one that comes next, of a caller its call
 abbrev pub instruction_of : ℕ → ℕ → ℕ

@@ -4,13 +4,12 @@ ghost use Rattle.std.specs.Prelude.{◌≡◌, ◌-◌, ◌^◌, min, None, IfSo
 ghost use Rattle.wasm_interp.specs.Frames.{frames_of};
 ghost use Rattle.wasm_module.specs.declared.profile.Profile.{Profile as ProfileValue};
 ghost use Rattle.wasm_module.specs.Module.{SpellsWith};
-ghost use Rattle.sandbox_host.specs.Sessions.{running, state_of, bytes_of, IsShown};
-ghost use Rattle.sandbox_host.specs.Frames.{instruction_of, IsOffset, TellsFrame, name_of, number_name};
+ghost use Rattle.sandbox_host.specs.Sessions.{bytes_in, bytes_of, IsShown};
+ghost use Rattle.sandbox_host.specs.Frames.{instruction_of, IsOffset, TellsFrame, machine_in, machine_of, name_of, number_name};
 
 use crate::handle::Handle;
 use crate::held::HandleContent;
 use crate::numbers::{MISUSE, OK};
-use crate::session::HostSession;
 use crate::showing::show;
 use arrayvec::ArrayString;
 use itoa::Buffer;
@@ -89,48 +88,66 @@ fn tell_frame(
     }
 }
 
-/// Tells the function at work of a session that has so many inside it.
+/// Tells the function at work that has so many inside it, or that there is none.
 fn frame_of(
     alloc: Global,
-    session: &HostSession,
+    module: &Valid<'_>,
     bytes: &mut ModuleBytes<'_>,
     number: usize,
+    frame: Option<Frame>,
     told: &mut FunctionFrame,
 ) -> u32
-    ensures none { slice_get (frames_of (state_of session.now).machine) number ≡ None → (result ≡ 101) × (told.new ≡ told.old) }
-    ensures told { IfSome (slice_get (frames_of (state_of session.now).machine) number) (λ frame. (result ≡ 0)
-        × TellsFrame bytes.old (state_of session.now).machine.valid number frame told.new) }
+    ensures none { frame ≡ None → (result ≡ 101) × (told.new ≡ told.old) }
+    ensures told { IfSome frame (λ frame. (result ≡ 0) × TellsFrame bytes.old «module».now number frame told.new) }
     ensures kept { bytes.new ≡ bytes.old }
 {
-    match session.frame(number) {
+    match frame {
         Some(frame) => {
-            *told = tell_frame(alloc, session.module(), bytes, number, frame);
+            *told = tell_frame(alloc, module, bytes, number, frame);
             OK
         }
         None => NO_FRAME,
     }
 }
 
+/// Tells the function at work of a session or an instance that isn't finished.
+fn frame_in(alloc: Global, held: &mut HandleContent, number: usize, told: &mut FunctionFrame) -> u32
+    ensures misuse { is_none (machine_in held.old) ≡ true → (result ≡ 100) × (told.new ≡ told.old) }
+    ensures none { IfSome (machine_in held.old) (λ m. slice_get (frames_of m) number ≡ None → (result ≡ 101) × (told.new ≡ told.old)) }
+    ensures told { IfSome (machine_in held.old) (λ m. IfSome (slice_get (frames_of m) number) (λ frame. (result ≡ 0)
+        × TellsFrame (bytes_in held.old) m.valid number frame told.new)) }
+    ensures kept { held.new ≡ held.old }
+{
+    match held {
+        HandleContent::Running(running) => {
+            let frame = running.session.frame(number);
+            let module = running.session.module();
+            frame_of(alloc, module, &mut running.bytes, number, frame, told)
+        }
+        HandleContent::Instance(living) => {
+            let frame = living.instance.frame(number);
+            let module = living.instance.module();
+            frame_of(alloc, module, &mut living.bytes, number, frame, told)
+        }
+        _ => MISUSE,
+    }
+}
+
 /// Tells the function at work that has so many inside it, 0 the innermost: which it is, and where it stands in the module's bytes,
-/// at the instruction that comes next, or at its call. While the session runs they are those of the run then; of a trap, and out
-/// of memory, those that were at work.
+/// at the instruction that comes next, or at its call. While a session or an instance runs they are those of the run then; of a trap,
+/// and out of memory, those that were at work.
 pub fn frame_at(alloc: Global, session: &mut Handle, number: usize, told: &mut FunctionFrame) -> u32
-    ensures misuse { is_none (running session.old.held) ≡ true → (result ≡ MISUSE) × (told.new ≡ told.old) }
-    ensures none { IfSome (running session.old.held) (λ s. slice_get (frames_of s.machine) number ≡ None
+    ensures misuse { is_none (machine_of session.old.held) ≡ true → (result ≡ MISUSE) × (told.new ≡ told.old) }
+    ensures none { IfSome (machine_of session.old.held) (λ m. slice_get (frames_of m) number ≡ None
         → (result ≡ NO_FRAME) × (told.new ≡ told.old)) }
-    ensures told { IfSome (running session.old.held) (λ s. IfSome (slice_get (frames_of s.machine) number) (λ frame. (result ≡ OK)
-        × TellsFrame (bytes_of session.old.held) s.machine.valid number frame told.new)) }
+    ensures told { IfSome (machine_of session.old.held) (λ m. IfSome (slice_get (frames_of m) number) (λ frame. (result ≡ OK)
+        × TellsFrame (bytes_of session.old.held) m.valid number frame told.new)) }
     ensures kept { session.new.held ≡ session.old.held }
 {
     let Some(mut held) = session.take(alloc) else {
         return MISUSE;
     };
-    let answer = match &mut *held {
-        HandleContent::Running(running) => {
-            frame_of(alloc, &running.session, &mut running.bytes, number, told)
-        }
-        _ => MISUSE,
-    };
+    let answer = frame_in(alloc, &mut held, number, told);
     session.put(held);
     answer
 }

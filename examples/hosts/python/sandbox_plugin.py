@@ -15,7 +15,7 @@ import sandbox
 from sandbox import CALLED, MOST_32, MOST_64, MOST_SIZE, Refused, Session, Told, _check, _lib, _Limits, _number, _Why
 
 RETURNED, ASKED = 6, 7
-MOST_VALUES = 16
+MOST_VALUES = MOST_FRAMES = 16
 
 _lib.sandbox_plugin_name.restype = _lib.sandbox_values.restype = _lib.sandbox_memory_size.restype = c.c_size_t
 
@@ -25,11 +25,12 @@ class Busy(Exception):
 
 
 class Ended(Exception):
-    """A call that didn't return: by a trap, by `proc_exit`, without memory, or without fuel. `told` says which."""
+    """A call that didn't return: by a trap, by `proc_exit`, without memory, or without fuel. `told` says which, and `frames` has the
+    functions that were at work then, the innermost first, 16 of them at most."""
 
-    def __init__(self, told):
+    def __init__(self, told, frames):
         super().__init__(f"kind {told.kind}, code {told.code} after {told.used} units")
-        self.told = told
+        self.told, self.frames = told, frames
 
 
 class Plugin:
@@ -67,6 +68,10 @@ class Plugin:
                 found.append(name)
         return found
 
+    def function_name(self, function):
+        """What a function of this index is called, as `sandbox.function_name` has it."""
+        return sandbox.function_name(self._bytes, function)
+
     def instance(self, imports=None, **supplies):
         """An instance, which is given `imports` by module name and name, and the rest as a session is."""
         return Instance(self, imports or {}, **{"pages": self._pages, **supplies})
@@ -94,29 +99,50 @@ class Instance(Session):
         count = _lib.sandbox_values(c.byref(self._raw), room, c.c_size_t(MOST_VALUES))
         return room[:count]
 
-    def _answer(self, import_index):
+    def _serve(self, import_index):
         name = self._names[import_index]
         function = self._imports.get(name)
         if function is None:
             raise KeyError(f"no function of the host for the import {name[0]}.{name[1]}")
         result = function(self, *self._values())
-        given = () if result is None else (_number(f"the result of {name[0]}.{name[1]}", result, MOST_64),)
-        _check(_lib.sandbox_answer(c.byref(self._raw), (c.c_uint64 * 1)(*given), c.c_size_t(len(given))))
+        _check(self._answer([] if result is None else [_number(f"the result of {name[0]}.{name[1]}", result, MOST_64)]))
+
+    # What is told to the library, each as its function of the header: a recording (replay.py) adds to these.
+
+    def _invoke(self, name, numbers):
+        given = (c.c_uint64 * max(1, len(numbers)))(*numbers)
+        return _lib.sandbox_invoke(c.byref(self._raw), name, c.c_size_t(len(name)), given, c.c_size_t(len(numbers)))
+
+    def _go(self, units, told):
+        return _lib.sandbox_go(c.byref(self._raw), c.c_uint64(units), c.byref(told))
+
+    def _answer(self, results):
+        given = (c.c_uint64 * max(1, len(results)))(*results)
+        return _lib.sandbox_answer(c.byref(self._raw), given, c.c_size_t(len(results)))
+
+    def _write(self, address, given):
+        return _lib.sandbox_memory_write(c.byref(self._raw), c.c_uint32(address), given, c.c_size_t(len(given)))
+
+    def _let_go(self):
+        return _lib.sandbox_abandon(c.byref(self._raw))
+
+    def _finish(self):
+        return _lib.sandbox_instance_finish(c.byref(self._raw))
 
     def _through(self, fuel):
         """Goes on until what runs has returned, and gives its result."""
         end, told, self._at_work = self._used + fuel, Told(), True
         try:
             while True:
-                _check(_lib.sandbox_go(c.byref(self._raw), c.c_uint64(max(0, end - self._used)), c.byref(told)))
+                _check(self._go(max(0, end - self._used), told))
                 self._used = told.used
                 if told.kind == ASKED:
-                    self._answer(told.call)
+                    self._serve(told.call)
                     self._used += 1
                 elif told.kind == RETURNED:
                     return next(iter(self._values()), None)
                 elif told.kind != CALLED:
-                    raise Ended(told)
+                    raise Ended(told, self.frames(MOST_FRAMES))
         except BaseException:
             if told.kind != sandbox.EXITED:
                 self.abandon()
@@ -128,14 +154,12 @@ class Instance(Session):
         """Calls an exported function with at most `fuel` units, and gives its result, or None where it has none."""
         if self._at_work:
             raise Busy(f"{name} is called while a function of the host is asked")
-        numbers = [_number("an argument", it, MOST_64) for it in arguments]
-        named, given = name.encode(), (c.c_uint64 * max(1, len(numbers)))(*numbers)
-        _check(_lib.sandbox_invoke(c.byref(self._raw), named, c.c_size_t(len(named)), given, c.c_size_t(len(numbers))))
+        _check(self._invoke(name.encode(), [_number("an argument", it, MOST_64) for it in arguments]))
         return self._through(_number("fuel", fuel, MOST_64))
 
     def abandon(self):
         """Lets go what is at work."""
-        return _lib.sandbox_abandon(c.byref(self._raw)) == 0
+        return self._let_go() == 0
 
     def read(self, address, length):
         """Bytes of memory."""
@@ -145,8 +169,7 @@ class Instance(Session):
 
     def write(self, address, given):
         """Writes bytes into memory."""
-        given = sandbox._bytes(given)
-        _check(_lib.sandbox_memory_write(c.byref(self._raw), c.c_uint32(_number("address", address, MOST_32)), given, c.c_size_t(len(given))))
+        _check(self._write(_number("address", address, MOST_32), sandbox._bytes(given)))
 
     def memory_size(self):
         """How many bytes memory has."""
@@ -160,11 +183,12 @@ class Instance(Session):
     def resume(self, units):
         raise TypeError("an instance is called")
 
-    run = resume
+    def run(self, fuel):
+        raise TypeError("an instance is called")
 
     def finish(self):
         """Commits the guest's calls, and gives the bytes of its volume."""
-        _check(_lib.sandbox_instance_finish(c.byref(self._raw)))
+        _check(self._finish())
         return self._volume()
 
     def close(self):

@@ -87,6 +87,14 @@ pub struct Frame {
     pub offset: u32,
 }
 
+/// The function at work with so many inside it, of a session or an instance.
+fn frame_at(raw: &mut *mut sys::OpaqueSession, number: usize) -> Option<Frame> {
+    let mut frame = sys::Frame::default();
+    // SAFETY: `raw` is a session or an instance.
+    let answer = unsafe { sys::sandbox_frame_at(raw, number, &mut frame) };
+    (answer == 0).then_some(Frame { function: frame.function, offset: frame.offset })
+}
+
 /// The most that a guest may have. 0 is the library's default.
 #[derive(Debug, Clone, Copy, Default, PartialEq, Eq)]
 pub struct Limits {
@@ -290,10 +298,7 @@ impl<'a> Session<'a, '_> {
     /// The function at work that has so many inside it, 0 the innermost: while the session runs, and of a trap or out of memory what
     /// was at work then. Before the first resume, after an exit and once it is finished there is none.
     pub fn frame(&mut self, number: usize) -> Option<Frame> {
-        let mut frame = sys::Frame::default();
-        // SAFETY: `raw` is a session.
-        let answer = unsafe { sys::sandbox_frame_at(&mut self.raw, number, &mut frame) };
-        (answer == 0).then_some(Frame { function: frame.function, offset: frame.offset })
+        frame_at(&mut self.raw, number)
     }
 
     /// The functions at work, the innermost first.

@@ -4,7 +4,7 @@
 //! `_initialize`; then [`Instance::call`] gives a [`Call`], which goes on by [`Call::go`]. Where the guest calls a function of the host
 //! that gives a [`Question`], and only its answer gives the call back: so each is answered once, and nothing else is called meanwhile.
 //! A value is a number of 64 bits; one of 32 bits is below 2^32, and a float's are its bits.
-use super::{answered, limits_of, Holds, Kept, Limits, Refused, Sectors, Supplies};
+use super::{answered, frame_at, limits_of, Frame, Holds, Kept, Limits, Refused, Sectors, Supplies};
 use crate::sys;
 use std::marker::PhantomData;
 use std::ptr::null_mut;
@@ -111,6 +111,12 @@ impl<'a, 's> Instance<'a, 's> {
     pub fn abandon(&mut self) -> Result<(), Refused> {
         // SAFETY: `raw` is an instance.
         answered(unsafe { sys::sandbox_abandon(&mut self.raw) })
+    }
+
+    /// The functions at work, the innermost first: after a trap, or where memory was refused, those of then, until the next call or
+    /// [`Instance::abandon`].
+    pub fn frames(&mut self) -> Vec<Frame> {
+        (0..).map_while(|number| frame_at(&mut self.raw, number)).collect()
     }
 
     /// The units of fuel used so far.

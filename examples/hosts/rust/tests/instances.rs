@@ -1,5 +1,5 @@
 //! Exported functions that are called, and functions of the host that are asked: `cargo test`.
-use sandbox_host::{Holds, Instance, Limits, Plugin, Step, Supplies};
+use sandbox_host::{Frame, Holds, Instance, Limits, Plugin, Step, Supplies};
 
 /// Imports `env.twice`, [i32] -> [i32]. `_initialize` sets a counter to 40; `add` gives a sum; `ask` asks `twice` and adds the number at
 /// 8; `fail` traps; `count` counts on and gives the counter.
@@ -52,8 +52,10 @@ fn a_trap_leaves_an_instance() {
     let mut plugin = Plugin::load(GUEST, FEW, Holds::Integers).expect("it is loaded");
     let (mut one, mut other) = (opened(&mut plugin), opened(&mut plugin));
     assert!(matches!(one.call("fail", &[]).expect("it is called").go(9), Ok(Step::Trapped(0))));
+    assert_eq!(one.frames(), [Frame { function: 4, offset: 0x8e }]);
     assert_eq!(one.write(8, &[1]).map_err(|it| it.number), Err(106));
     one.abandon().expect("it is let go");
+    assert_eq!(one.frames(), []);
     one.write(8, &[1]).expect("it is written");
     assert_eq!((given(&mut one, "count", &[]), given(&mut one, "count", &[])), (Some(41), Some(42)));
     assert_eq!((given(&mut other, "count", &[]), given(&mut other, "ask", &[3])), (Some(41), Some(6)));
