@@ -36,11 +36,11 @@
  *     TRAPPED, NO_MEMORY                       IDLE         yes              NOT_ASKED        STOPPED                yes
  *     EXITED (`proc_exit`), and where the
  *       opening did anything but return        OVER         OVER             OVER             OVER                   OVER
- *   Memory is read at any time. A call that isn't allowed answers such a number, and nothing has changed. Before the table stand
- *   more than one result, which is MISTYPED, and a name that isn't UTF-8, which is NO_FUNCTION. After a trap memory, globals and
- *   table are as the call left them; whether the guest's own data still make sense then only its author knows: to be sure, close the
- *   instance and open another one. sandbox_abandon lets go what is at work, as a trap would; during the opening the instance is
- *   over.
+ *   Memory is read at any time. A call that isn't allowed answers such a number, and nothing has changed: first what stands in the
+ *   table, then NO_FUNCTION, MISTYPED or PAST_END (a name that isn't UTF-8 is NO_FUNCTION before the table). After a trap memory,
+ *   globals and table are as the call left them; whether the guest's own data still make sense then only its author knows: to be
+ *   sure, close the instance and open another one. sandbox_abandon lets go what is at work, as a trap would; during the opening the
+ *   instance is over.
  *
  * FUEL
  *   sandbox_go takes at most `units`, and told.used is what the instance has used since it was opened, to the instruction. An answer

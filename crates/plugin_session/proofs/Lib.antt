@@ -3,3 +3,4 @@ pub mod Doing
 pub mod Refusing
 pub mod Limiting
 pub mod Finding
+pub mod Counting

@@ -1,3 +1,4 @@
--- What public contracts cite: an instance and what its calls do with it, and what holds after any list of them.
+-- What public contracts cite: an instance and what its calls do with it, why one is refused, and what holds after any list of them.
 pub mod Instance
+pub mod Refusals
 pub mod Headline

@@ -1,9 +1,9 @@
 //! What is seen of an instance, and how one is finished.
 
-ghost use Rattle.std.specs.Prelude.{◌≡◌, ◌+◌, ◌/◌, IfSome, length, reverse, slice_get};
+ghost use Rattle.std.specs.Prelude.{◌≡◌, ◌+◌, ◌/◌, IfNone, IfSome, length, reverse, slice_get};
 ghost use Rattle.wasm_module.specs.declared.module.FuncType.{FuncType as FuncTypeValue};
 ghost use Rattle.wasm_interp.specs.Frames.{frames_of};
-ghost use Rattle.wasm_interp.specs.Invoking.{IsAskedFor, results_of};
+ghost use Rattle.wasm_interp.specs.Invoking.{IsAskedFor, IsAsking, results_of};
 
 use crate::instance::Instance;
 use plugin_core::Stage;
@@ -41,7 +41,8 @@ where
 
     /// The call that the embedder is to answer, with its arguments.
     pub fn asked(&self) -> Option<AskedCall<'_>>
-        ensures { IfSome result (λ k. (f : FuncTypeValue) × IsAskedFor self.now.machine k.import f (reverse k.arguments.now)) }
+        ensures asked { IfSome result (λ k. (f : FuncTypeValue) × IsAskedFor self.now.machine k.import f (reverse k.arguments.now)) }
+        ensures not { IfNone result (IsAsking self.now.machine → ⊥) }
     {
         self.machine.asked()
     }

@@ -1,11 +1,12 @@
 //! What is done with an instance.
 
-ghost use Rattle.std.specs.Prelude.{◌≡◌, ℕ, ◌+◌, ◌^◌, ◌<◌, IfOk, IfErr, IfSome, IfNone, MatchResult, Contains};
+ghost use Rattle.std.specs.Prelude.{◌≡◌, ℕ, ◌+◌, ◌^◌, ◌<◌, IfOk, IfErr, IfSome, IfNone, MatchResult, Contains, length, None, Some};
 ghost use Rattle.std.specs.Option.{option_to_list};
 ghost use Rattle.wasm_module.specs.declared.module.ExportKind.TheVariants as exports;
 ghost use Rattle.wasm_store.specs.Bytes.{written};
 ghost use Rattle.sandbox_core.specs.Devices.{devices};
 ghost use Rattle.plugin_core.specs.Handling as acts;
+ghost use Rattle.plugin_session.specs.Refusals.{RefusesAnswer, RefusesCall, RefusesWrite, not_answered_at, not_gone_on_at, not_invoked_at, not_let_go_at, not_written_at};
 
 use crate::instance::Instance;
 use plugin_core::Stage;
@@ -39,7 +40,8 @@ pub enum Misuse {
 
 /// Whether a function may be called at this stage, or why not.
 fn may_invoke(stage: Stage) -> Result<(), Misuse>
-    ensures { MatchResult result (λ _. acts.Rests stage) (λ _. acts.Rests stage → ⊥) }
+    ensures may { MatchResult result (λ _. acts.Rests stage) (λ _. acts.Rests stage → ⊥) }
+    ensures told { MatchResult result (λ _. not_invoked_at stage ≡ None) (λ e. not_invoked_at stage ≡ Some e) }
 {
     match stage {
         Stage::Ready | Stage::Stopped => Ok(()),
@@ -51,7 +53,8 @@ fn may_invoke(stage: Stage) -> Result<(), Misuse>
 
 /// Whether the machine may go on at this stage, or why not.
 fn may_go(stage: Stage) -> Result<(), Misuse>
-    ensures { MatchResult result (λ _. acts.Goes stage) (λ _. acts.Goes stage → ⊥) }
+    ensures may { MatchResult result (λ _. acts.Goes stage) (λ _. acts.Goes stage → ⊥) }
+    ensures told { MatchResult result (λ _. not_gone_on_at stage ≡ None) (λ e. not_gone_on_at stage ≡ Some e) }
 {
     match stage {
         Stage::Running | Stage::Opening => Ok(()),
@@ -63,7 +66,8 @@ fn may_go(stage: Stage) -> Result<(), Misuse>
 
 /// Whether the embedder may answer at this stage, or why not.
 fn may_answer(stage: Stage) -> Result<(), Misuse>
-    ensures { MatchResult result (λ _. acts.Asks stage) (λ _. acts.Asks stage → ⊥) }
+    ensures may { MatchResult result (λ _. acts.Asks stage) (λ _. acts.Asks stage → ⊥) }
+    ensures told { MatchResult result (λ _. not_answered_at stage ≡ None) (λ e. not_answered_at stage ≡ Some e) }
 {
     match stage {
         Stage::Asked | Stage::AskedOpening => Ok(()),
@@ -74,7 +78,8 @@ fn may_answer(stage: Stage) -> Result<(), Misuse>
 
 /// Whether memory may be written at this stage, or why not.
 fn may_write(stage: Stage) -> Result<(), Misuse>
-    ensures { MatchResult result (λ _. acts.IsWritable stage) (λ _. acts.IsWritable stage → ⊥) }
+    ensures may { MatchResult result (λ _. acts.IsWritable stage) (λ _. acts.IsWritable stage → ⊥) }
+    ensures told { MatchResult result (λ _. not_written_at stage ≡ None) (λ e. not_written_at stage ≡ Some e) }
 {
     match stage {
         Stage::Ready | Stage::Asked | Stage::AskedOpening => Ok(()),
@@ -86,7 +91,8 @@ fn may_write(stage: Stage) -> Result<(), Misuse>
 
 /// Whether what is at work may be let go at this stage, or why not.
 fn may_abandon(stage: Stage) -> Result<(), Misuse>
-    ensures { MatchResult result (λ _. acts.IsOpen stage) (λ _. acts.IsOpen stage → ⊥) }
+    ensures may { MatchResult result (λ _. acts.IsOpen stage) (λ _. acts.IsOpen stage → ⊥) }
+    ensures told { MatchResult result (λ _. not_let_go_at stage ≡ None) (λ e. not_let_go_at stage ≡ Some e) }
 {
     if let Stage::Over = stage {
         return Err(Misuse::Over);
@@ -137,7 +143,7 @@ where
         ensures invoked { IfOk result (λ _. Invokes
             (devices D.Device R.Read W1.Write W2.Write R.gave R.refused W1.took W1.refused W2.took W2.refused)
             self.old self.new name.now arguments.now) }
-        ensures refused { IfErr result (λ _. self.new ≡ self.old) }
+        ensures refused { IfErr result (λ e. (self.new ≡ self.old) × RefusesCall self.old name.now arguments.now e) }
     {
         may_invoke(self.stage)?;
         let Some(function) = exported_function(self.machine.module().module(), name) else {
@@ -161,7 +167,8 @@ where
             self.old self.new units) }
 
         // It is refused just where no function is at work.
-        ensures refused { IfErr result (λ _. (self.new ≡ self.old) × (acts.Goes self.old.stage → ⊥)) }
+        ensures refused { IfErr result (λ e. (self.new ≡ self.old) × (acts.Goes self.old.stage → ⊥)
+            × (not_gone_on_at self.old.stage ≡ Some e)) }
     {
         may_go(self.stage)?;
         let event = self.machine.go(&mut self.host, units);
@@ -174,7 +181,7 @@ where
         ensures answered { IfOk result (λ _. Answers
             (devices D.Device R.Read W1.Write W2.Write R.gave R.refused W1.took W1.refused W2.took W2.refused)
             self.old self.new (option_to_list value)) }
-        ensures refused { IfErr result (λ _. self.new ≡ self.old) }
+        ensures refused { IfErr result (λ e. (self.new ≡ self.old) × RefusesAnswer self.old (option_to_list value) e) }
     {
         may_answer(self.stage)?;
         match self.machine.answer(value) {
@@ -186,12 +193,29 @@ where
         Ok(())
     }
 
+    /// Answers as `answer` does with a list of results: no function has more than one.
+    pub fn answer_all(&mut self, results: &[u64]) -> Result<(), Misuse>
+        ensures answered { IfOk result (λ _. Answers
+            (devices D.Device R.Read W1.Write W2.Write R.gave R.refused W1.took W1.refused W2.took W2.refused)
+            self.old self.new results.now) }
+        ensures refused { IfErr result (λ e. (self.new ≡ self.old) × RefusesAnswer self.old results.now e) }
+    {
+        match results {
+            [] => self.answer(None),
+            [value] => self.answer(Some(*value)),
+            _ => {
+                may_answer(self.stage)?;
+                Err(Misuse::Mistyped)
+            }
+        }
+    }
+
     /// Writes bytes into memory where nothing runs, or where a function of the embedder was called.
     pub fn write(&mut self, address: u32, bytes: &[u8]) -> Result<(), Misuse>
         ensures written { IfOk result (λ _. Does
             (devices D.Device R.Read W1.Write W2.Write R.gave R.refused W1.took W1.refused W2.took W2.refused)
             self.old (acts.wrote (written self.old.machine.memory address bytes.now)) self.new) }
-        ensures refused { IfErr result (λ _. self.new ≡ self.old) }
+        ensures refused { IfErr result (λ e. (self.new ≡ self.old) × RefusesWrite self.old address (length bytes.now) e) }
     {
         may_write(self.stage)?;
         match self.machine.write(address, bytes) {
@@ -210,7 +234,8 @@ where
             self.old acts.abandoned self.new) }
 
         // It is refused just where the instance is over.
-        ensures refused { IfErr result (λ _. (self.new ≡ self.old) × (acts.IsOpen self.old.stage → ⊥)) }
+        ensures refused { IfErr result (λ e. (self.new ≡ self.old) × (acts.IsOpen self.old.stage → ⊥)
+            × (not_let_go_at self.old.stage ≡ Some e)) }
     {
         may_abandon(self.stage)?;
         self.machine.abandon();

@@ -20,7 +20,7 @@ ghost use Rattle.sandbox_host.specs.Texts.{text_of};
 ghost use Rattle.sandbox_host.specs.declared.volumes.Origin.TheVariants.{Fresh};
 ghost use Rattle.sandbox_host.specs.Sessions.{has_plugin};
 ghost use Rattle.sandbox_host.specs.Host.{known};
-ghost use Rattle.sandbox_host.specs.Instances.{Answered, Answers, BeginsInstance, FinishesInstance, Invokes, IsHandedOver, IsNamed, IsRead, NotBegunInstance, NotPluggedWith, Went, left, living, memory, plugin_of};
+ghost use Rattle.sandbox_host.specs.Instances.{Answered, Answers, BeginsInstance, FinishesInstance, Invokes, IsHandedOver, IsNamed, IsRead, NoAnswer, NoCall, NoGoing, NoLettingGo, NoWrite, NotBegunInstance, NotPluggedWith, Went, left, living, memory, plugin_of};
 ghost use Rattle.plugin_core.specs.Handling as acts;
 ghost use Rattle.plugin_session.specs.Instance.{Does};
 ghost use Rattle.wasm_store.specs.Bytes.{written};
@@ -496,7 +496,8 @@ pub extern "C" fn sandbox_invoke(
     ensures misuse { is_none (living instance.old.held) ≡ true
         → (result ≡ 100) × (instance.new.held ≡ instance.old.held) }
     ensures invoked { IfSome (living instance.old.held) (λ old.
-        IsSomeAnd (living instance.new.held) (λ new. Answered result old new (Invokes old new name.now arguments.now))) }
+        IsSomeAnd (living instance.new.held) (λ new. Answered result old new (Invokes old new name.now arguments.now)
+        (NoCall old name.now arguments.now))) }
     ensures bytes { bytes_of instance.new.held ≡ bytes_of instance.old.held }
 {
     sandbox_host::invoke(alloc, instance, name, arguments)
@@ -513,7 +514,7 @@ pub extern "C" fn sandbox_go(
     ensures misuse { is_none (living instance.old.held) ≡ true
         → (result ≡ 100) × (instance.new.held ≡ instance.old.held) × (told.new ≡ told.old) }
     ensures went { IfSome (living instance.old.held) (λ old. IsSomeAnd (living instance.new.held) (λ new.
-        Answered result old new (Went units old new told.new) × (result ≢ 0 → told.new ≡ told.old))) }
+        Answered result old new (Went units old new told.new) (NoGoing old) × (result ≢ 0 → told.new ≡ told.old))) }
     ensures bytes { bytes_of instance.new.held ≡ bytes_of instance.old.held }
 {
     sandbox_host::go(alloc, instance, units, told)
@@ -535,7 +536,8 @@ pub extern "C" fn sandbox_answer(alloc: Global, instance: &mut Handle, results: 
     ensures misuse { is_none (living instance.old.held) ≡ true
         → (result ≡ 100) × (instance.new.held ≡ instance.old.held) }
     ensures answered { IfSome (living instance.old.held) (λ old.
-        IsSomeAnd (living instance.new.held) (λ new. Answered result old new (Answers old new results.now))) }
+        IsSomeAnd (living instance.new.held) (λ new. Answered result old new (Answers old new results.now)
+        (NoAnswer old results.now))) }
     ensures bytes { bytes_of instance.new.held ≡ bytes_of instance.old.held }
 {
     sandbox_host::answer(alloc, instance, results)
@@ -547,7 +549,8 @@ pub extern "C" fn sandbox_abandon(alloc: Global, instance: &mut Handle) -> u32
     ensures misuse { is_none (living instance.old.held) ≡ true
         → (result ≡ 100) × (instance.new.held ≡ instance.old.held) }
     ensures abandoned { IfSome (living instance.old.held) (λ old.
-        IsSomeAnd (living instance.new.held) (λ new. Answered result old new (Does known old acts.abandoned new))) }
+        IsSomeAnd (living instance.new.held) (λ new. Answered result old new (Does known old acts.abandoned new)
+        (NoLettingGo old))) }
     ensures bytes { bytes_of instance.new.held ≡ bytes_of instance.old.held }
 {
     sandbox_host::abandon(alloc, instance)
@@ -588,7 +591,8 @@ pub extern "C" fn sandbox_memory_write(
     ensures misuse { is_none (living instance.old.held) ≡ true
         → (result ≡ 100) × (instance.new.held ≡ instance.old.held) }
     ensures written { IfSome (living instance.old.held) (λ old. IsSomeAnd (living instance.new.held) (λ new.
-        Answered result old new (Does known old (acts.wrote (written old.machine.memory address bytes.now)) new))) }
+        Answered result old new (Does known old (acts.wrote (written old.machine.memory address bytes.now)) new)
+        (NoWrite old address bytes.now))) }
     ensures bytes { bytes_of instance.new.held ≡ bytes_of instance.old.held }
 {
     sandbox_host::memory_write(alloc, instance, address, bytes)

@@ -1,20 +1,21 @@
 -- What a call of an instance answers, as a number.
-use Rattle.std.proofs.Common.{◌≡◌, ◌≢◌, ℕ, ◌<◌, ◌≤◌, List, [], ◌∷◌, length, get_or, Result, Ok, Err, MatchResult, IfOk, IfErr, refl, arith}
+use Rattle.std.proofs.Common.{◌≡◌, ◌≢◌, ℕ, List, Result, Ok, Err, MatchResult, IfOk, IfErr, subst, inr}
 use Rattle.plugin_session.specs.declared.handling.Misuse.{Misuse}
-use Rattle.sandbox_host.specs.Instances.{Answered, Living}
+use Rattle.plugin_session.specs.Refusals.{RefusesCall}
+use Rattle.sandbox_host.specs.Instances.{Answered, Living, NoCall}
 use Rattle.sandbox_host.specs.Numbers.{misuse_number}
 
--- 0 where it did this, and else nothing has changed
-pub told_of : (r : Result (Unit {0}) Misuse) (n : ℕ) (old new : Living) (did : Type 0) → MatchResult r (λ u. n ≡ 0) (λ m. (n ≡ misuse_number m) × (n ≢ 0)) → IfOk r (λ u. did) → IfErr r (λ m. new ≡ old) → Answered n old new did
-told_of (Ok u) n old new did told done refused = (λ zero. done, λ some. absurd (some told))
-told_of (Err m) n old new did told done refused = (λ zero. absurd (told.1 zero), λ some. refused)
+-- 0 where it did this, and else nothing has changed, for this reason
+pub told_of : (r : Result (Unit {0}) Misuse) (n : ℕ) (old new : Living) (did : Type 0) (reason : Misuse → Type 0) → MatchResult r (λ u. n ≡ 0) (λ m. (n ≡ misuse_number m) × (n ≢ 0)) → IfOk r (λ u. did) → IfErr r (λ m. (new ≡ old) × reason m) → Answered n old new did reason
+told_of (Ok u) n old new did reason told done refused = (λ zero. done, λ some. absurd (some told))
+told_of (Err m) n old new did reason told done refused = (λ zero. absurd (told.1 zero), λ some. (refused.0, (m, (told.0, refused.1))))
 
--- no result, and one
-pub no_results : (ns : List ℕ) → length ns < 1 → ns ≡ []
-no_results [] few = refl
-no_results (n ∷ ns) few = absurd (omega arith)
+-- the reason without what it means at the stage
+pub stage_alone : (r : Result (Unit {0}) Misuse) (old new : Living) (allowed : Type 0) (reason : Misuse → Type 0) → IfErr r (λ m. (new ≡ old) × (allowed → ⊥) × reason m) → IfErr r (λ m. (new ≡ old) × reason m)
+stage_alone (Ok u) old new allowed reason k = k
+stage_alone (Err m) old new allowed reason k = (k.0, k.1.1)
 
-pub one_result : (ns : List ℕ) → 1 ≤ length ns → length ns < 2 → ns ≡ get_or ns 0 0 ∷ []
-one_result [] some few = absurd (omega arith)
-one_result (n ∷ []) some few = refl
-one_result (n ∷ (m ∷ ns)) some few = absurd (omega arith)
+-- the reason for the bytes of a name
+pub by_name : (r : Result (Unit {0}) Misuse) (old new : Living) (name text arguments : List ℕ) → text ≡ name → IfErr r (λ m. (new ≡ old) × RefusesCall old text arguments m) → IfErr r (λ m. (new ≡ old) × NoCall old name arguments m)
+by_name (Ok u) old new name text arguments same k = k
+by_name (Err m) old new name text arguments same k = (k.0, inr (subst (λ (n : List ℕ). RefusesCall old n arguments m) same k.1))

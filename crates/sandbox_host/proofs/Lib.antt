@@ -4,6 +4,7 @@ pub mod Carrying
 pub mod Closed
 pub mod RecordKept
 pub mod Resuming
+pub mod Rows
 pub mod Settling
 pub mod Working
 pub mod WrittenItems

@@ -1,6 +1,6 @@
 -- Instances whose exported functions a host in C calls: what a handle has of a module for them, of one that isn't finished, and of one
 -- that is; and what each call makes of it. What the calls of an instance do is said by `plugin_session`.
-use Rattle.std.specs.Prelude.{◌≡◌, ◌≢◌, ◌⊎◌, ◌-◌, ◌^◌, ◌<◌, ◌≤◌, ◌+◌, ℕ, false, true, List, [], length, reverse, take, drop, min, max, slice_get, Option, Some, None, Result, IfSome, option_map, ◌==◌, if◌then◌else◌}
+use Rattle.std.specs.Prelude.{◌≡◌, ◌≢◌, ◌⊎◌, ◌-◌, ◌^◌, ◌<◌, ◌≤◌, ◌+◌, ℕ, false, true, List, [], length, reverse, take, drop, min, max, slice_get, Option, Some, None, Result, IfSome, IsUtf8, option_map, ◌==◌, if◌then◌else◌}
 use Rattle.std.specs.Option.{option_to_list}
 use Rattle.std.specs.Borrow.{Bor}
 use Rattle.vol_sector.specs.declared.fault.Refused.{Refused}
@@ -10,12 +10,15 @@ use Rattle.wasm_module.specs.declared.profile.Profile.{Profile}
 use Rattle.wasm_store.specs.declared.fault.InstanceFault.{InstanceFault}
 use Rattle.wasm_store.specs.Allocating.{NotAllocated}
 use Rattle.wasm_interp.specs.declared.invoking.Event.{Event}
-use Rattle.wasm_interp.specs.Invoking.{IsAskedFor, results_of}
+use Rattle.wasm_interp.specs.Invoking.{IsAskedFor, IsAsking, results_of}
 use Rattle.wasm_interp.specs.Shared.{Ready}
 use Rattle.sandbox_core.specs.Session.{given}
 use Rattle.sandbox_core.specs.declared.fault.SessionFault.{SessionFault}
 use Rattle.sandbox_core.specs.declared.fault.SessionFault.TheVariants.{Device}
 use Rattle.sandbox_device.specs.declared.recorded_device.RecordedDevice.{RecordedDevice}
+use Rattle.plugin_session.specs.declared.handling.Misuse.{Misuse}
+use Rattle.plugin_session.specs.declared.handling.Misuse.TheVariants.{NoFunction}
+use Rattle.plugin_session.specs.Refusals.{RefusesAnswer, RefusesCall, RefusesWrite, not_gone_on_at, not_let_go_at}
 use Rattle.plugin_session.specs.Instance as instance
 use Rattle.plugin_session.specs.Instance.{InstanceState, links, session_of, used_by}
 use Rattle.sandbox_host.specs.declared.numbers.Told.{Told}
@@ -26,7 +29,7 @@ use Rattle.sandbox_host.specs.declared.volumes.Origin.{Origin}
 use Rattle.sandbox_host.specs.declared.instance.SessionLeft.{SessionLeft as LeftOver}
 use Rattle.sandbox_host.specs.declared.held.HandleContent.{HandleContent}
 use Rattle.sandbox_host.specs.declared.held.HandleContent.TheVariants.{Loaded, Running, Finished, Plugin, Instance, SessionLeft, Nothing}
-use Rattle.sandbox_host.specs.Numbers.{instance_number, session_number, told_event}
+use Rattle.sandbox_host.specs.Numbers.{instance_number, misuse_number, session_number, told_event}
 use Rattle.sandbox_host.specs.Supplies.{is_known, most_output, most_pages, most_values, settings_of}
 use Rattle.sandbox_host.specs.Host.{Bytes, Commits, HostVolume, IsHonest, Shares, known}
 use Rattle.sandbox_host.specs.Volumes.{IsVolume}
@@ -164,9 +167,31 @@ NotBegunInstance ready supplies origin number =
 
 -- ---- what is done with one
 
--- a call that answers this number: 0 where it did this, and else nothing has changed
-abbrev pub Answered : ℕ → Living → Living → Type 0 → Type 0
-Answered number old new did = (number ≡ 0 → did) × (number ≢ 0 → new ≡ old)
+-- the number of a mistake for which there is this reason
+abbrev pub IsMistake : ℕ → (Misuse → Type 0) → Type 0
+IsMistake number reason = (e : Misuse) × (number ≡ misuse_number e) × reason e
+
+-- a call that answers this number: 0 where it did this; and else nothing has changed, and it is that of a mistake
+abbrev pub Answered : ℕ → Living → Living → Type 0 → (Misuse → Type 0) → Type 0
+Answered number old new did reason = (number ≡ 0 → did) × (number ≢ 0 → (new ≡ old) × IsMistake number reason)
+
+-- Why a function isn't called: its name isn't UTF-8, as names of exports are; or the instance refuses it.
+abbrev pub NoCall : Living → List ℕ → List ℕ → Misuse → Type 0
+NoCall s name arguments e = ((e ≡ NoFunction) × (IsUtf8 name → ⊥)) ⊎ RefusesCall s name arguments e
+
+-- why it doesn't go on, or lets nothing go: where it is
+abbrev pub NoGoing : Living → Misuse → Type 0
+NoGoing s e = not_gone_on_at s.stage ≡ Some e
+
+abbrev pub NoLettingGo : Living → Misuse → Type 0
+NoLettingGo s e = not_let_go_at s.stage ≡ Some e
+
+-- why an answer isn't taken, and why bytes aren't written
+abbrev pub NoAnswer : Living → List ℕ → Misuse → Type 0
+NoAnswer s results e = RefusesAnswer s results e
+
+abbrev pub NoWrite : Living → ℕ → List ℕ → Misuse → Type 0
+NoWrite s address bytes e = RefusesWrite s address (length bytes) e
 
 abbrev pub Invokes : Living → Living → List ℕ → List ℕ → Type 0
 Invokes = instance.Invokes known
@@ -180,9 +205,10 @@ pub record Went (units : ℕ) (old new : Living) (told : Told) : Type 0 where
   pub goes : instance.Goes known old new (min units (2 ^ 64 - 1 - used_by old)) event
   pub tells : told ≡ told_event event (used_by new)
 
--- what there is to hand over: the arguments of the call that the host is asked for, or the result of what has returned last
+-- What there is to hand over: the arguments of the call that the host is asked for; where it isn't asked, the result of what has
+-- returned last.
 abbrev pub HandsOver : Living → List ℕ → Type 0
-HandsOver s items = ((x : ℕ) × (f : FuncType) × IsAskedFor s.machine x f (reverse items)) ⊎ (items ≡ option_to_list (slice_get (results_of s.machine) 0))
+HandsOver s items = ((x : ℕ) × (f : FuncType) × IsAskedFor s.machine x f (reverse items)) ⊎ ((IsAsking s.machine → ⊥) × (items ≡ option_to_list (slice_get (results_of s.machine) 0)))
 
 -- it is in the room, as far as there is room for it
 pub record IsHandedOver (s : Living) (before after : List ℕ) (count : ℕ) : Type 0 where

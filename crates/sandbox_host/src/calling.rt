@@ -6,7 +6,7 @@ ghost use Rattle.plugin_session.specs.Instance.{Does};
 ghost use Rattle.sandbox_host.specs.Host.{known};
 ghost use Rattle.sandbox_host.specs.Numbers.{misuse_number};
 ghost use Rattle.sandbox_host.specs.Sessions.{bytes_of};
-ghost use Rattle.sandbox_host.specs.Instances.{Answered, Answers, Invokes, IsHandedOver, Went, living};
+ghost use Rattle.sandbox_host.specs.Instances.{Answered, Answers, Invokes, IsHandedOver, NoAnswer, NoCall, NoGoing, NoLettingGo, Went, living};
 
 use crate::handle::Handle;
 use crate::held::HandleContent;
@@ -29,7 +29,8 @@ pub(crate) fn number_of(answer: Result<(), Misuse>) -> u32
 
 /// Is about to enter the function that is exported by this name.
 fn enter(instance: &mut HostInstance<'_>, name: &[u8], arguments: &[u64]) -> u32
-    ensures { Answered result instance.old instance.new (Invokes instance.old instance.new name.now arguments.now) }
+    ensures { Answered result instance.old instance.new (Invokes instance.old instance.new name.now arguments.now)
+        (NoCall instance.old name.now arguments.now) }
 {
     let Ok(name) = str::from_utf8(name) else {
         // a name of a valid module is UTF-8
@@ -43,7 +44,8 @@ pub fn invoke(alloc: Global, instance: &mut Handle, name: &[u8], arguments: &[u6
     ensures misuse { is_none (living instance.old.held) ≡ true
         → (result ≡ MISUSE) × (instance.new.held ≡ instance.old.held) }
     ensures invoked { IfSome (living instance.old.held) (λ old.
-        IsSomeAnd (living instance.new.held) (λ new. Answered result old new (Invokes old new name.now arguments.now))) }
+        IsSomeAnd (living instance.new.held) (λ new. Answered result old new (Invokes old new name.now arguments.now)
+        (NoCall old name.now arguments.now))) }
     ensures bytes { bytes_of instance.new.held ≡ bytes_of instance.old.held }
 {
     let Some(mut held) = instance.take(alloc) else {
@@ -59,7 +61,7 @@ pub fn invoke(alloc: Global, instance: &mut Handle, name: &[u8], arguments: &[u6
 
 /// Lets an instance go on for at most this many units, and not past 2^64 - 1 in all.
 fn go_on(instance: &mut HostInstance<'_>, units: u64, told: &mut Told) -> u32
-    ensures went { Answered result instance.old instance.new (Went units instance.old instance.new told.new) }
+    ensures went { Answered result instance.old instance.new (Went units instance.old instance.new told.new) (NoGoing instance.old) }
     ensures refused { result ≢ 0 → told.new ≡ told.old }
 {
     let most = units.min(u64::MAX - instance.used());
@@ -78,7 +80,7 @@ pub fn go(alloc: Global, instance: &mut Handle, units: u64, told: &mut Told) -> 
     ensures misuse { is_none (living instance.old.held) ≡ true
         → (result ≡ MISUSE) × (instance.new.held ≡ instance.old.held) × (told.new ≡ told.old) }
     ensures went { IfSome (living instance.old.held) (λ old. IsSomeAnd (living instance.new.held) (λ new.
-        Answered result old new (Went units old new told.new) × (result ≢ 0 → told.new ≡ told.old))) }
+        Answered result old new (Went units old new told.new) (NoGoing old) × (result ≢ 0 → told.new ≡ told.old))) }
     ensures bytes { bytes_of instance.new.held ≡ bytes_of instance.old.held }
 {
     let Some(mut held) = instance.take(alloc) else {
@@ -92,15 +94,12 @@ pub fn go(alloc: Global, instance: &mut Handle, units: u64, told: &mut Told) -> 
     answer
 }
 
-/// Answers with at most one result.
+/// Answers with these results.
 fn give(instance: &mut HostInstance<'_>, results: &[u64]) -> u32
-    ensures { Answered result instance.old instance.new (Answers instance.old instance.new results.now) }
+    ensures { Answered result instance.old instance.new (Answers instance.old instance.new results.now)
+        (NoAnswer instance.old results.now) }
 {
-    match results {
-        [] => number_of(instance.answer(None)),
-        [value] => number_of(instance.answer(Some(*value))),
-        _ => misuse_number(Misuse::Mistyped),
-    }
+    number_of(instance.answer_all(results))
 }
 
 /// Answers the function of the host that was called.
@@ -108,7 +107,8 @@ pub fn answer(alloc: Global, instance: &mut Handle, results: &[u64]) -> u32
     ensures misuse { is_none (living instance.old.held) ≡ true
         → (result ≡ MISUSE) × (instance.new.held ≡ instance.old.held) }
     ensures answered { IfSome (living instance.old.held) (λ old.
-        IsSomeAnd (living instance.new.held) (λ new. Answered result old new (Answers old new results.now))) }
+        IsSomeAnd (living instance.new.held) (λ new. Answered result old new (Answers old new results.now)
+        (NoAnswer old results.now))) }
     ensures bytes { bytes_of instance.new.held ≡ bytes_of instance.old.held }
 {
     let Some(mut held) = instance.take(alloc) else {
@@ -122,19 +122,28 @@ pub fn answer(alloc: Global, instance: &mut Handle, results: &[u64]) -> u32
     answer
 }
 
+/// Lets what is at work in an instance go.
+fn let_go(instance: &mut HostInstance<'_>) -> u32
+    ensures { Answered result instance.old instance.new (Does known instance.old acts.abandoned instance.new)
+        (NoLettingGo instance.old) }
+{
+    number_of(instance.abandon())
+}
+
 /// Lets what is at work go.
 pub fn abandon(alloc: Global, instance: &mut Handle) -> u32
     ensures misuse { is_none (living instance.old.held) ≡ true
         → (result ≡ MISUSE) × (instance.new.held ≡ instance.old.held) }
     ensures abandoned { IfSome (living instance.old.held) (λ old.
-        IsSomeAnd (living instance.new.held) (λ new. Answered result old new (Does known old acts.abandoned new))) }
+        IsSomeAnd (living instance.new.held) (λ new. Answered result old new (Does known old acts.abandoned new)
+        (NoLettingGo old))) }
     ensures bytes { bytes_of instance.new.held ≡ bytes_of instance.old.held }
 {
     let Some(mut held) = instance.take(alloc) else {
         return MISUSE;
     };
     let answer = match &mut *held {
-        HandleContent::Instance(living) => number_of(living.instance.abandon()),
+        HandleContent::Instance(living) => let_go(&mut living.instance),
         _ => MISUSE,
     };
     instance.put(held);

@@ -6,11 +6,12 @@ ghost use Rattle.plugin_core.specs.Handling as acts;
 ghost use Rattle.plugin_session.specs.Instance.{Does};
 ghost use Rattle.sandbox_host.specs.Host.{known};
 ghost use Rattle.sandbox_host.specs.Sessions.{bytes_of};
-ghost use Rattle.sandbox_host.specs.Instances.{Answered, IsRead, living, memory};
+ghost use Rattle.sandbox_host.specs.Instances.{Answered, IsRead, NoWrite, living, memory};
 
 use crate::calling::number_of;
 use crate::handle::Handle;
 use crate::held::HandleContent;
+use crate::instance::HostInstance;
 use crate::numbers::{MISUSE, OK, misuse_number};
 use plugin_session::Misuse;
 use std::alloc::Global;
@@ -61,19 +62,29 @@ pub fn memory_read(alloc: Global, instance: &mut Handle, address: u32, room: &mu
     answer
 }
 
+/// Writes bytes into an instance's memory, where it may be written.
+fn store(instance: &mut HostInstance<'_>, address: u32, bytes: &[u8]) -> u32
+    ensures { Answered result instance.old instance.new
+        (Does known instance.old (acts.wrote (written instance.old.machine.memory address bytes.now)) instance.new)
+        (NoWrite instance.old address bytes.now) }
+{
+    number_of(instance.write(address, bytes))
+}
+
 /// Writes bytes into memory where nothing runs, or where a function of the host is called, or none where they would pass the end.
 pub fn memory_write(alloc: Global, instance: &mut Handle, address: u32, bytes: &[u8]) -> u32
     ensures misuse { is_none (living instance.old.held) ≡ true
         → (result ≡ MISUSE) × (instance.new.held ≡ instance.old.held) }
     ensures written { IfSome (living instance.old.held) (λ old. IsSomeAnd (living instance.new.held) (λ new.
-        Answered result old new (Does known old (acts.wrote (written old.machine.memory address bytes.now)) new))) }
+        Answered result old new (Does known old (acts.wrote (written old.machine.memory address bytes.now)) new)
+        (NoWrite old address bytes.now))) }
     ensures bytes { bytes_of instance.new.held ≡ bytes_of instance.old.held }
 {
     let Some(mut held) = instance.take(alloc) else {
         return MISUSE;
     };
     let answer = match &mut *held {
-        HandleContent::Instance(living) => number_of(living.instance.write(address, bytes)),
+        HandleContent::Instance(living) => store(&mut living.instance, address, bytes),
         _ => MISUSE,
     };
     instance.put(held);

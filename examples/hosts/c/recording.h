@@ -25,10 +25,9 @@ static inline uint64_t recording_sum(const uint8_t *at, size_t length) {
   return sum;
 }
 
-static inline uint32_t recording_open(FILE *to, sandbox_session **session, const uint8_t *module, size_t module_length,
-                                      const sandbox_supplies *given, const sandbox_volume *volume, sandbox_why *why) {
-  fprintf(to, RECORDING_HEAD "\nversion %" PRIu32 "\n", sandbox_version());
-  recording_bytes(to, "module", (sandbox_bytes){module, module_length});
+/* What is recorded of an opening before its answer: the module, what the guest is given, and the volume. */
+static inline void recording_given(FILE *to, sandbox_bytes module, const sandbox_supplies *given, const sandbox_volume *volume) {
+  recording_bytes(to, "module", module);
   for (size_t n = 0; n < given->args_count; n++)
     recording_bytes(to, "arg", given->args[n]);
   for (size_t n = 0; n < given->env_count; n++)
@@ -43,8 +42,15 @@ static inline uint32_t recording_open(FILE *to, sandbox_session **session, const
   recording_bytes(to, "input", given->input);
   fprintf(to, "volume %" PRIu32 " %zu\n", volume->kind, volume->sectors_count * 512);
   fwrite(volume->sectors, 512, volume->sectors_count, to);
+  fputc('\n', to);
+}
+
+static inline uint32_t recording_open(FILE *to, sandbox_session **session, const uint8_t *module, size_t module_length,
+                                      const sandbox_supplies *given, const sandbox_volume *volume, sandbox_why *why) {
+  fprintf(to, RECORDING_HEAD "\nversion %" PRIu32 "\n", sandbox_version());
+  recording_given(to, (sandbox_bytes){module, module_length}, given, volume);
   uint32_t answer = sandbox_open(session, module, module_length, given, volume, why);
-  fprintf(to, "\nopened %" PRIu32 "\n", answer);
+  fprintf(to, "opened %" PRIu32 "\n", answer);
   fflush(to);
   return answer;
 }

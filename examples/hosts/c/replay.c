@@ -1,17 +1,20 @@
 /*
- * Repeats a recorded session, and says whether all is as it was recorded (docs/REPLAY.md):
+ * Repeats a recorded session or instance, and says whether all is as it was recorded (docs/REPLAY.md):
  *
  *     make && ./replay --record FILE MODULE [WORD]... <INPUT     runs a guest and records it
- *     ./replay FILE                                              repeats it
- *     ./replay --until UNITS FILE                                stops at this many units, and prints the functions at work
+ *     ./replay --call FILE MODULE NAME [NUMBER]...               calls what a plugin exports and records it; a function of the host
+ *                                                                that it calls gives the sum of its arguments
+ *     ./replay FILE                                              repeats either
+ *     ./replay --until UNITS FILE                                stops at this many units, and prints the functions at work, or the
+ *                                                                plugin's function that was called
  *
  * The status is 0 where all is the same, 1 where something is another, and 2 where the file is none.
  */
 #define HOST "replay"
 #include "common.h"
-#include "recording.h"
+#include "recording_plugin.h"
 
-enum { MOST = 4096, NUMBERS = 6, EVERY = 1000000 };
+enum { MOST = 4096, NUMBERS = 24, EVERY = 1000000 };
 
 /* The record that comes next: its line without the line feed. 0 at the end of the file, or where it ends inside. */
 static int next_line(FILE *from, char *line) {
@@ -61,8 +64,9 @@ static void add(texts *to, sandbox_bytes text) {
   to->at[to->count++] = text;
 }
 
-typedef struct { /* what a session is opened with */
+typedef struct { /* what a session or an instance is opened with */
   sandbox_bytes module;
+  uint32_t floats;
   texts args, env, names, paths;
   sandbox_supplies given;
   sandbox_volume volume;
@@ -79,6 +83,8 @@ static uint32_t opening_from(FILE *from, opening *it) {
   while (next_line(from, line)) {
     if (numbers_of(line, "module", n) == 1)
       it->module = bytes_from(from, n[0]);
+    else if (numbers_of(line, "floats", n) == 1)
+      it->floats = (uint32_t)n[0];
     else if (numbers_of(line, "arg", n) == 1)
       add(&it->args, bytes_from(from, n[0]));
     else if (numbers_of(line, "env", n) == 1)
@@ -179,22 +185,86 @@ static int repeat(FILE *from, sandbox_session **session, sandbox_bytes module, u
   return 0;
 }
 
+/* Does once more to an instance what a record says, and writes what comes of it as a record. */
+static void act(FILE *to, FILE *from, const char *line, sandbox_session **instance, sandbox_told *told, sandbox_bytes *called) {
+  uint64_t n[NUMBERS];
+  int count;
+  if ((count = numbers_of(line, "invoke", n)) >= 3 && n[1] == (uint64_t)count - 3) {
+    *called = bytes_from(from, n[count - 1]);
+    recording_invoke(to, instance, *called, n + 2, n[1]);
+  } else if ((count = numbers_of(line, "go", n)) >= 6)
+    recording_go(to, instance, n[0], told);
+  else if ((count = numbers_of(line, "answer", n)) >= 2 && n[1] == (uint64_t)count - 2)
+    told->used += recording_answer(to, instance, n + 2, n[1]) == SANDBOX_OK; /* the unit of the guest's call */
+  else if (numbers_of(line, "write", n) == 3)
+    recording_write(to, instance, (uint32_t)n[1], bytes_from(from, n[2]));
+  else if (numbers_of(line, "abandon", n) == 1)
+    recording_abandon(to, instance);
+  else if (numbers_of(line, "finish", n) == 1)
+    recording_instance_finish(to, instance);
+  else
+    damaged(line);
+}
+
+static int is_last(const char *line, uint64_t until) {
+  uint64_t n[NUMBERS];
+  return numbers_of(line, "go", n) >= 6 && n[4] > until;
+}
+
+/* Repeats the actions of an instance; `until` is where it stops. */
+static int repeat_instance(FILE *from, sandbox_session **instance, uint64_t until) {
+  char line[MOST], now[MOST];
+  sandbox_bytes called = bytes_of("its opening");
+  sandbox_told told = {0};
+  uint64_t actions = 0;
+  while (next_line(from, line)) {
+    if (is_last(line, until)) {
+      check("go", sandbox_go(instance, until - told.used, &told));
+      printf("at %" PRIu64 " units, behind %" PRIu64 " actions, in %.*s\n", told.used, actions, (int)called.length, called.at);
+      return 0;
+    }
+    int ends = !strncmp(line, "finish ", 7);
+    FILE *again = tmpfile();
+    if (!again)
+      fail("a temporary file", 0);
+    act(again, from, line, instance, &told, &called);
+    rewind(again);
+    do {
+      if (!next_line(again, now))
+        damaged(line);
+      if (strcmp(line, now))
+        return differs(line, now);
+    } while (ends && next_line(from, line));
+    fclose(again);
+    actions++;
+  }
+  printf("as recorded: %" PRIu64 " actions, %" PRIu64 " units\n", actions, told.used);
+  return 0;
+}
+
 static int replay(const char *path, uint64_t until) {
   FILE *from = fopen(path, "rb");
   char line[MOST];
   opening it = {0};
   sandbox_session *session = NULL;
+  sandbox_plugin *plugin = NULL;
   sandbox_why why = {0};
-  if (!from || !next_line(from, line) || strcmp(line, RECORDING_HEAD))
+  int is_session = from && next_line(from, line) && !strcmp(line, RECORDING_HEAD);
+  if (!from || (!is_session && strcmp(line, RECORDING_PLUGIN_HEAD)))
     damaged(path);
-  uint32_t recorded = opening_from(from, &it);
+  uint32_t recorded = opening_from(from, &it), answer;
   complete(&it);
-  uint32_t answer = sandbox_open(&session, it.module.at, it.module.length, &it.given, &it.volume, &why);
+  if (is_session)
+    answer = sandbox_open(&session, it.module.at, it.module.length, &it.given, &it.volume, &why);
+  else if (!(answer = sandbox_plugin_load(&plugin, it.module.at, it.module.length, &it.given.limits, it.floats, &why)))
+    answer = sandbox_instance_open(&session, &plugin, &it.given, &it.volume);
   if (answer != recorded) {
     printf("recorded: opened %" PRIu32 "\nnow:      opened %" PRIu32 "\n", recorded, answer);
     return 1;
   }
-  return answer ? 0 : repeat(from, &session, it.module, until);
+  if (answer)
+    return 0;
+  return is_session ? repeat(from, &session, it.module, until) : repeat_instance(from, &session, until);
 }
 
 static sandbox_bytes all_of(FILE *from) {
@@ -236,13 +306,60 @@ static int record(int count, char **words) {
   return fclose(to) ? 2 : 0;
 }
 
+/* Goes on until what runs has returned or ended. A function of the host gives the sum of its arguments, or nothing where it has no result. */
+static void run_recorded(FILE *to, sandbox_session **instance) {
+  uint64_t arguments[RECORDING_VALUES], sum;
+  sandbox_told told;
+  do {
+    check("go", recording_go(to, instance, EVERY, &told));
+    if (told.kind != SANDBOX_ASKED)
+      continue;
+    sum = 0;
+    for (size_t n = 0, count = sandbox_values(instance, arguments, RECORDING_VALUES); n < count; n++)
+      sum += arguments[n];
+    sum = (uint32_t)sum;
+    if (recording_answer(to, instance, &sum, 1) == SANDBOX_MISTYPED)
+      check("answer", recording_answer(to, instance, &sum, 0));
+  } while (told.kind == SANDBOX_ASKED || told.kind == SANDBOX_CALLED || told.kind == SANDBOX_SPENT);
+}
+
+static int record_call(int count, char **words) {
+  FILE *to = fopen(words[0], "wb"), *opened = fopen(words[1], "rb");
+  if (!to || !opened) {
+    perror(HOST);
+    return 2;
+  }
+  sandbox_bytes module = all_of(opened), none = bytes_of("");
+  const sandbox_preopen root = {bytes_of("/"), bytes_of("/")};
+  const sandbox_supplies given = {&none, 0, &none, 0, &root, 1, 0, none, {0}, none};
+  const sandbox_volume fresh = {.kind = SANDBOX_VOLUME_FRESH, .sectors = (const uint8_t(*)[512])module.at};
+  sandbox_session *instance = NULL;
+  sandbox_plugin *plugin = NULL;
+  sandbox_why why = {0};
+  uint64_t arguments[RECORDING_VALUES], result;
+  for (int n = 3; n < count; n++)
+    arguments[n - 3] = strtoull(words[n], NULL, 0);
+  check("open", recording_instance_open(to, &instance, &plugin, module, 1, &given, &fresh, &why));
+  run_recorded(to, &instance);
+  check("invoke", recording_invoke(to, &instance, bytes_of(words[2]), arguments, (size_t)count - 3));
+  run_recorded(to, &instance);
+  if (sandbox_values(&instance, &result, 1) == 1)
+    printf("%" PRIu64 "\n", result);
+  check("finish", recording_instance_finish(to, &instance));
+  check("close", sandbox_close(&instance));
+  check("unload", sandbox_plugin_unload(&plugin));
+  return fclose(to) ? 2 : 0;
+}
+
 int main(int argc, char **argv) {
   if (argc > 3 && !strcmp(argv[1], "--record"))
     return record(argc - 2, argv + 2);
+  if (argc > 4 && argc <= 5 + RECORDING_VALUES && !strcmp(argv[1], "--call"))
+    return record_call(argc - 2, argv + 2);
   if (argc == 4 && !strcmp(argv[1], "--until"))
     return replay(argv[3], strtoull(argv[2], NULL, 10));
   if (argc == 2)
     return replay(argv[1], UINT64_MAX);
-  fprintf(stderr, "replay [--until UNITS] FILE | replay --record FILE MODULE [WORD]...\n");
+  fprintf(stderr, "replay [--until UNITS] FILE | replay --record FILE MODULE [WORD]... | replay --call FILE MODULE NAME [NUMBER]...\n");
   return 2;
 }

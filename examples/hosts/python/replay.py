@@ -1,19 +1,25 @@
 #!/usr/bin/env python3
-"""Records sessions and repeats them: the same as ../c/replay.c, from Python (docs/REPLAY.md has the file's format).
+"""Records sessions and instances, and repeats them: the same as ../c/replay.c, from Python (docs/REPLAY.md has the file's format).
 
     python3 replay.py --record FILE MODULE [WORD]... <INPUT    runs a guest and records it
-    python3 replay.py FILE                                     repeats it
-    python3 replay.py --until UNITS FILE                       stops at this many units, and prints the functions at work
+    python3 replay.py --call FILE MODULE NAME [NUMBER]...      calls what a plugin exports and records it; a function of the host that
+                                                               it calls gives the sum of its arguments
+    python3 replay.py FILE                                     repeats either
+    python3 replay.py --until UNITS FILE                       stops at this many units, and prints the functions at work, or the
+                                                               plugin's function that was called
 
 The status is 0 where all is as recorded, 1 where something is another, and 2 where the file is none.
 """
+import io
 import sys
 
 import sandbox
+import sandbox_plugin
 
-HEAD = b"sandbox-recording 1"
-COUNTS = {b"version": 1, b"moment": 1, b"limits": 3, b"opened": 1, b"resume": 5, b"finish": 1}
-WITH_BYTES = {b"module": 1, b"arg": 1, b"env": 1, b"name": 1, b"path": 1, b"random": 1, b"input": 1, b"volume": 2}
+HEAD, PLUGIN_HEAD = b"sandbox-recording 1", b"sandbox-recording 2"
+COUNTS = {b"version": 1, b"floats": 1, b"moment": 1, b"limits": 3, b"opened": 1, b"resume": 5, b"finish": 1, b"abandon": 1}
+WITH_BYTES = {b"module": 1, b"arg": 1, b"env": 1, b"name": 1, b"path": 1, b"random": 1, b"input": 1, b"volume": 2, b"write": 3}
+COUNTED = {b"invoke": 1, b"go": 5, b"answer": 1}  # so many numbers, then how many others follow, and these
 
 
 def sum_of(given):
@@ -36,54 +42,126 @@ def line_of(units, told):
     return f"resume {units} {told.kind} {told.code} {told.call} {told.used}"
 
 
-class Recorded:
-    """A session over a module's bytes, whose actions are written to a file as they are done."""
+class Recording:
+    """A file that is written as things are done."""
 
-    def __init__(self, file, module, args=(), env=(), preopens=(("/", "/"),), moment=0, random=b"", pages=0, values=0, output=0, input=b"", volume=None,
-                 recorded=False, huge=False):
+    def __init__(self, file):
         self._file = file
-        self._line(HEAD.decode())
-        self._line(f"version {sandbox.version()}")
-        self._bytes("module", module)
-        for word, texts in (("arg", args), ("env", env)):
-            for text in texts:
-                self._bytes(word, text)
-        for name, path in preopens:
-            self._bytes("name", name)
-            self._bytes("path", path)
-        self._line(f"moment {moment}")
-        self._bytes("random", random)
-        self._line(f"limits {pages} {values} {output}")
-        self._bytes("input", input)
-        self._bytes(f"volume {0 if volume is None else 1 + bool(recorded) + 4 * bool(huge)}", volume or b"")
-        try:
-            given = dict(args=args, env=env, preopens=preopens, moment=moment, random=random, pages=pages, values=values, output=output, input=input)
-            self.session = sandbox.Module(module).session(**given, volume=volume, recorded=recorded, huge=huge)
-        except sandbox.Refused as refused:
-            self._line(f"opened {refused.number}")
-            raise
-        self._line("opened 0")
 
-    def _line(self, text):
+    def line(self, text):
         self._file.write(text.encode() + b"\n")
         self._file.flush()  # so that the recording of a host that is killed has all that it did
 
-    def _bytes(self, word, given):
+    def bytes(self, word, given):
         given = given.encode() if isinstance(given, str) else bytes(given)
         self._file.write(f"{word} {len(given)}\n".encode() + given + b"\n")
+        self._file.flush()
+
+    def given(self, module, args=(), env=(), preopens=(("/", "/"),), moment=0, random=b"", pages=0, values=0, output=0, input=b"", volume=None,
+              recorded=False, huge=False):
+        """What a guest is given."""
+        self.bytes("module", module)
+        for word, texts in (("arg", args), ("env", env)):
+            for text in texts:
+                self.bytes(word, text)
+        for name, path in preopens:
+            self.bytes("name", name)
+            self.bytes("path", path)
+        self.line(f"moment {moment}")
+        self.bytes("random", random)
+        self.line(f"limits {pages} {values} {output}")
+        self.bytes("input", input)
+        self.bytes(f"volume {0 if volume is None else 1 + bool(recorded) + 4 * bool(huge)}", volume or b"")
+
+
+class Recorded:
+    """A session over a module's bytes, whose actions are written to a file as they are done."""
+
+    def __init__(self, file, module, **supplies):
+        self._to = Recording(file)
+        self._to.line(HEAD.decode())
+        self._to.line(f"version {sandbox.version()}")
+        self._to.given(module, **supplies)
+        try:
+            self.session = sandbox.Module(module).session(**supplies)
+        except sandbox.Refused as refused:
+            self._to.line(f"opened {refused.number}")
+            raise
+        self._to.line("opened 0")
 
     def resume(self, units):
         told = self.session.resume(units)
-        self._line(line_of(units, told))
+        self._to.line(line_of(units, told))
         return told
 
     def finish(self):
         """Commits, and answers the volume's bytes."""
         volume = self.session.finish()
-        self._line("finish 0")
+        self._to.line("finish 0")
         for line in ends_of(self.session, volume):
-            self._line(line)
+            self._to.line(line)
         return volume
+
+
+def counted(numbers):
+    return " ".join(map(str, [len(numbers), *numbers]))
+
+
+class RecordedInstance(sandbox_plugin.Instance):
+    """An instance over a module's bytes, for which the module is loaded, whose actions are written to a file as they are done."""
+
+    def __init__(self, file, module, imports=None, fuel=10**9, floats=False, **supplies):
+        self._to = Recording(file)
+        self._to.line(PLUGIN_HEAD.decode())
+        self._to.line(f"version {sandbox.version()}")
+        self._to.line(f"floats {int(floats)}")
+        self._to.given(module, **supplies)
+        try:
+            plugin = sandbox_plugin.Plugin(module, pages=supplies.get("pages", 0), floats=floats)
+        except sandbox.Refused as refused:
+            self._to.line(f"opened {refused.number}")
+            raise
+        super().__init__(plugin, imports or {}, fuel=fuel, **supplies)
+
+    def _open(self, module, given, over):
+        answer = super()._open(module, given, over)
+        self._to.line(f"opened {answer}")
+        return answer
+
+    def _invoke(self, name, numbers):
+        answer = super()._invoke(name, numbers)
+        self._to.bytes(f"invoke {answer} {counted(numbers)}", name)
+        return answer
+
+    def _go(self, units, told):
+        answer = super()._go(units, told)
+        if answer == 0:
+            values = self._values() if told.kind in (sandbox_plugin.ASKED, sandbox_plugin.RETURNED) else []
+            self._to.line(f"go {units} {told.kind} {told.code} {told.call} {told.used} {counted(values)}")
+        return answer
+
+    def _answer(self, results):
+        answer = super()._answer(results)
+        self._to.line(f"answer {answer} {counted(results)}")
+        return answer
+
+    def _write(self, address, given):
+        answer = super()._write(address, given)
+        self._to.bytes(f"write {answer} {address}", given)
+        return answer
+
+    def _let_go(self):
+        answer = super()._let_go()
+        self._to.line(f"abandon {answer}")
+        return answer
+
+    def _finish(self):
+        answer = super()._finish()
+        if answer in (0, 33):
+            self._to.line(f"finish {answer}")
+            for line in ends_of(self, self._volume()):
+                self._to.line(line)
+        return answer
 
 
 class Damaged(Exception):
@@ -95,14 +173,18 @@ def records(file):
     while (line := file.readline()).endswith(b"\n"):
         line = line[:-1]
         word, *numbers = line.split(b" ")
-        if line == HEAD or word in (b"written", b"left"):
+        if line in (HEAD, PLUGIN_HEAD) or word in (b"written", b"left"):
             yield word, [], b"", line.decode()
             continue
-        if len(numbers) != COUNTS.get(word, WITH_BYTES.get(word)) or not all(it.isdigit() for it in numbers):
+        if not all(it.isdigit() for it in numbers):
             raise Damaged(line)
         numbers = list(map(int, numbers))
-        given = b""
-        if word in WITH_BYTES:
+        given, wanted = b"", COUNTS.get(word, WITH_BYTES.get(word))
+        if word in COUNTED and len(numbers) > COUNTED[word]:
+            wanted = COUNTED[word] + 1 + numbers[COUNTED[word]] + (word == b"invoke")
+        if len(numbers) != wanted:
+            raise Damaged(line)
+        if word in WITH_BYTES or word == b"invoke":
             given = file.read(numbers[-1])
             if len(given) != numbers[-1] or file.read(1) != b"\n":
                 raise Damaged("bytes are missing")
@@ -126,8 +208,8 @@ def opening_of(following):
             given["preopens"].append((names.pop(), text))
         elif word in (b"random", b"input"):
             given[word.decode()] = text
-        elif word == b"moment":
-            given["moment"] = numbers[0]
+        elif word in (b"moment", b"floats"):
+            given[word.decode()] = numbers[0]
         elif word == b"limits":
             given.update(zip(("pages", "values", "output"), numbers))
         elif word == b"volume":
@@ -185,18 +267,66 @@ def repeat(following, session, module, until):
     return 0
 
 
+class Repeated(RecordedInstance):
+    """An instance that does what it is told alone, and writes what comes of it as records."""
+
+    def _through(self, fuel):
+        pass
+
+    def act(self, word, numbers, text, told):
+        """What a record says, once more; the units that it used beside those that `told` has."""
+        if word == b"invoke":
+            self._invoke(text, numbers[2:-1])
+        elif word == b"go":
+            self._go(numbers[0], told)
+        elif word == b"answer":
+            told.used += self._answer(numbers[2:]) == 0  # the unit of the guest's call
+        elif word == b"write":
+            self._write(numbers[1], text)
+        elif word == b"abandon":
+            self._let_go()
+        elif word == b"finish":
+            self._finish()
+        else:
+            raise Damaged(word)
+
+
+def repeat_instance(following, instance, said, until):
+    """Repeats the actions of an instance. The status."""
+    told, called, actions = sandbox.Told(), b"its opening", 0
+    for word, numbers, text, line in following:
+        if word == b"go" and numbers[4] > until:
+            instance._go(until - told.used, told)
+            print(f"at {told.used} units, behind {actions} actions, in {called.decode()}")
+            return 0
+        called = text if word == b"invoke" else called
+        said.seek(0)
+        said.truncate()
+        instance.act(word, numbers, text, told)
+        recorded = [line] + [it[3] for it in following] if word == b"finish" else [line]
+        for one, other in zip(recorded, said.getvalue().decode(errors="replace").split("\n")):
+            if one != other:
+                return differs(one, other)
+        actions += 1
+    print(f"as recorded: {actions} actions, {told.used} units")
+    return 0
+
+
 def replay(path, until=2**64):
     with open(path, "rb") as file:
-        following = records(file)
+        following, said = records(file), io.BytesIO()
         first = next(following, None)
-        if not first or first[3] != HEAD.decode():
+        if not first or first[3] not in (HEAD.decode(), PLUGIN_HEAD.decode()):
             raise Damaged(path)
+        is_session = first[3] == HEAD.decode()
         module, given, answer = opening_of(following)
         try:
-            session = sandbox.Module(module).session(**given)
+            opened = sandbox.Module(module).session(**given) if is_session else Repeated(said, module, **given)
         except sandbox.Refused as refused:
             return 0 if refused.number == answer else differs(f"opened {answer}", f"opened {refused.number}")
-        return differs(f"opened {answer}", "opened 0") if answer else repeat(following, session, module, until)
+        if answer:
+            return differs(f"opened {answer}", "opened 0")
+        return repeat(following, opened, module, until) if is_session else repeat_instance(following, opened, said, until)
 
 
 def record(path, words):
@@ -210,9 +340,39 @@ def record(path, words):
         sys.stdout.buffer.write(guest.session.output())
 
 
+class Called(RecordedInstance):
+    """An instance whose functions of the host give the sum of their arguments, or nothing where they have no result."""
+
+    def _serve(self, import_index):
+        if self._answer([sum(self._values()) % 2**32]) == 109:
+            sandbox._check(self._answer([]))
+
+    def _through(self, fuel):
+        told = sandbox.Told()
+        told.kind = sandbox.CALLED
+        while told.kind in (sandbox_plugin.ASKED, sandbox.CALLED, sandbox.SPENT):
+            sandbox._check(self._go(10**6, told))
+            if told.kind == sandbox_plugin.ASKED:
+                self._serve(told.call)
+        return next(iter(self._values()), None) if told.kind == sandbox_plugin.RETURNED else None
+
+
+def record_call(path, words):
+    with open(words[0], "rb") as it:
+        module = it.read()
+    with open(path, "wb") as file:
+        guest = Called(file, module, floats=True)
+        result = guest.call(words[1], *[int(it, 0) for it in words[2:]])
+        if result is not None:
+            print(result)
+        guest.finish()
+
+
 def main(words):
     if words[:1] == ["--record"] and len(words) > 2:
         return record(words[1], words[2:])
+    if words[:1] == ["--call"] and 4 <= len(words) <= 4 + sandbox_plugin.MOST_VALUES:
+        return record_call(words[1], words[2:])
     if words[:1] == ["--until"] and len(words) == 3:
         return replay(words[2], int(words[1]))
     if len(words) == 1:

@@ -99,24 +99,45 @@ class Instance(Session):
         count = _lib.sandbox_values(c.byref(self._raw), room, c.c_size_t(MOST_VALUES))
         return room[:count]
 
-    def _answer(self, import_index):
+    def _serve(self, import_index):
         name = self._names[import_index]
         function = self._imports.get(name)
         if function is None:
             raise KeyError(f"no function of the host for the import {name[0]}.{name[1]}")
         result = function(self, *self._values())
-        given = () if result is None else (_number(f"the result of {name[0]}.{name[1]}", result, MOST_64),)
-        _check(_lib.sandbox_answer(c.byref(self._raw), (c.c_uint64 * 1)(*given), c.c_size_t(len(given))))
+        _check(self._answer([] if result is None else [_number(f"the result of {name[0]}.{name[1]}", result, MOST_64)]))
+
+    # What is told to the library, each as its function of the header: a recording (replay.py) adds to these.
+
+    def _invoke(self, name, numbers):
+        given = (c.c_uint64 * max(1, len(numbers)))(*numbers)
+        return _lib.sandbox_invoke(c.byref(self._raw), name, c.c_size_t(len(name)), given, c.c_size_t(len(numbers)))
+
+    def _go(self, units, told):
+        return _lib.sandbox_go(c.byref(self._raw), c.c_uint64(units), c.byref(told))
+
+    def _answer(self, results):
+        given = (c.c_uint64 * max(1, len(results)))(*results)
+        return _lib.sandbox_answer(c.byref(self._raw), given, c.c_size_t(len(results)))
+
+    def _write(self, address, given):
+        return _lib.sandbox_memory_write(c.byref(self._raw), c.c_uint32(address), given, c.c_size_t(len(given)))
+
+    def _let_go(self):
+        return _lib.sandbox_abandon(c.byref(self._raw))
+
+    def _finish(self):
+        return _lib.sandbox_instance_finish(c.byref(self._raw))
 
     def _through(self, fuel):
         """Goes on until what runs has returned, and gives its result."""
         end, told, self._at_work = self._used + fuel, Told(), True
         try:
             while True:
-                _check(_lib.sandbox_go(c.byref(self._raw), c.c_uint64(max(0, end - self._used)), c.byref(told)))
+                _check(self._go(max(0, end - self._used), told))
                 self._used = told.used
                 if told.kind == ASKED:
-                    self._answer(told.call)
+                    self._serve(told.call)
                     self._used += 1
                 elif told.kind == RETURNED:
                     return next(iter(self._values()), None)
@@ -133,14 +154,12 @@ class Instance(Session):
         """Calls an exported function with at most `fuel` units, and gives its result, or None where it has none."""
         if self._at_work:
             raise Busy(f"{name} is called while a function of the host is asked")
-        numbers = [_number("an argument", it, MOST_64) for it in arguments]
-        named, given = name.encode(), (c.c_uint64 * max(1, len(numbers)))(*numbers)
-        _check(_lib.sandbox_invoke(c.byref(self._raw), named, c.c_size_t(len(named)), given, c.c_size_t(len(numbers))))
+        _check(self._invoke(name.encode(), [_number("an argument", it, MOST_64) for it in arguments]))
         return self._through(_number("fuel", fuel, MOST_64))
 
     def abandon(self):
         """Lets go what is at work."""
-        return _lib.sandbox_abandon(c.byref(self._raw)) == 0
+        return self._let_go() == 0
 
     def read(self, address, length):
         """Bytes of memory."""
@@ -150,8 +169,7 @@ class Instance(Session):
 
     def write(self, address, given):
         """Writes bytes into memory."""
-        given = sandbox._bytes(given)
-        _check(_lib.sandbox_memory_write(c.byref(self._raw), c.c_uint32(_number("address", address, MOST_32)), given, c.c_size_t(len(given))))
+        _check(self._write(_number("address", address, MOST_32), sandbox._bytes(given)))
 
     def memory_size(self):
         """How many bytes memory has."""
@@ -165,11 +183,12 @@ class Instance(Session):
     def resume(self, units):
         raise TypeError("an instance is called")
 
-    run = resume
+    def run(self, fuel):
+        raise TypeError("an instance is called")
 
     def finish(self):
         """Commits the guest's calls, and gives the bytes of its volume."""
-        _check(_lib.sandbox_instance_finish(c.byref(self._raw)))
+        _check(self._finish())
         return self._volume()
 
     def close(self):

@@ -8,7 +8,7 @@ returns-clause-went g c =
     let did = c.go-event.ensures in
     rw (← c.self.view_is) record {
       does = record {
-        may = may_go_on c.self.inside.stage c.go-event.result c.go-event.new.self c.in_ok-may_go.ensures;
+        may = may_go_on c.self.inside.stage c.go-event.result c.go-event.new.self c.in_ok-may_go.ensures.may;
         handled = went _ calls _ _ _ _ _ c.args.units c.go-event.result did.returned did.asked did.paused;
         stage = c.after_event-self-inside.ensures c.go-event.new.self c.result.ensures;
       };

@@ -9,7 +9,7 @@ returns-clause-written g c =
     let memory = c.self.inside.machine.memory in
     let k = c.in-Ok.ensures.written in
     rw (← c.self.view_is) record {
-      may = c.in_ok-may_write.ensures;
+      may = c.in_ok-may_write.ensures.may;
       handled = writes (written memory c.args.address c.args.bytes.now) (length_written memory c.args.bytes.now c.args.address k.0) k.1;
       stage = refl;
     }
