@@ -61,7 +61,8 @@ pub fn invoke(alloc: Global, instance: &mut Handle, name: &[u8], arguments: &[u6
 
 /// Lets an instance go on for at most this many units, and not past 2^64 - 1 in all.
 fn go_on(instance: &mut HostInstance<'_>, units: u64, told: &mut Told) -> u32
-    ensures went { Answered result instance.old instance.new (Went units instance.old instance.new told.new) (NoGoing instance.old) }
+    ensures went { Answered result instance.old instance.new (Went units instance.old instance.new told.new)
+        (NoGoing instance.old) }
     ensures refused { result ≢ 0 → told.new ≡ told.old }
 {
     let most = units.min(u64::MAX - instance.used());

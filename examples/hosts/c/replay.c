@@ -212,7 +212,7 @@ static int is_last(const char *line, uint64_t until) {
 }
 
 /* Repeats the actions of an instance; `until` is where it stops. */
-static int repeat_instance(FILE *from, sandbox_session **instance, uint64_t until) {
+static int repeat_instance(FILE *from, sandbox_session **instance, sandbox_bytes module, uint64_t until) {
   char line[MOST], now[MOST];
   sandbox_bytes called = bytes_of("its opening");
   sandbox_told told = {0};
@@ -221,6 +221,7 @@ static int repeat_instance(FILE *from, sandbox_session **instance, uint64_t unti
     if (is_last(line, until)) {
       check("go", sandbox_go(instance, until - told.used, &told));
       printf("at %" PRIu64 " units, behind %" PRIu64 " actions, in %.*s\n", told.used, actions, (int)called.length, called.at);
+      print_frames(instance, module);
       return 0;
     }
     int ends = !strncmp(line, "finish ", 7);
@@ -264,7 +265,7 @@ static int replay(const char *path, uint64_t until) {
   }
   if (answer)
     return 0;
-  return is_session ? repeat(from, &session, it.module, until) : repeat_instance(from, &session, until);
+  return is_session ? repeat(from, &session, it.module, until) : repeat_instance(from, &session, it.module, until);
 }
 
 static sandbox_bytes all_of(FILE *from) {

@@ -291,13 +291,14 @@ class Repeated(RecordedInstance):
             raise Damaged(word)
 
 
-def repeat_instance(following, instance, said, until):
+def repeat_instance(following, instance, module, said, until):
     """Repeats the actions of an instance. The status."""
     told, called, actions = sandbox.Told(), b"its opening", 0
     for word, numbers, text, line in following:
         if word == b"go" and numbers[4] > until:
             instance._go(until - told.used, told)
             print(f"at {told.used} units, behind {actions} actions, in {called.decode()}")
+            print_frames(instance, module)
             return 0
         called = text if word == b"invoke" else called
         said.seek(0)
@@ -326,7 +327,7 @@ def replay(path, until=2**64):
             return 0 if refused.number == answer else differs(f"opened {answer}", f"opened {refused.number}")
         if answer:
             return differs(f"opened {answer}", "opened 0")
-        return repeat(following, opened, module, until) if is_session else repeat_instance(following, opened, said, until)
+        return repeat(following, opened, module, until) if is_session else repeat_instance(following, opened, module, said, until)
 
 
 def record(path, words):
