@@ -6,6 +6,9 @@ best of N, in turn with the others. `load` is a process that ends before the gue
 
 With --floats those of `FLOATING` instead, whose work is with floats, as their compiler made them; wazero's interpreter is timed, too,
 with its load, since it has no run that ends before the first step.
+
+Beside the times stand x86 instructions (`counts.py`), net of load: those of `sandbox` for a unit, and how many times as many each other one
+takes, over an eighth of the input. They hang on no machine and no load.
 """
 import json
 import math
@@ -17,6 +20,8 @@ import shutil
 import subprocess
 import tempfile
 
+from counts import Counts, Uncounted
+from logs import Log, mean, version_of
 from others import PROGRAMS, SQL
 
 TOP = os.path.dirname(os.path.dirname(os.path.dirname(os.path.abspath(__file__))))
@@ -24,7 +29,8 @@ LEAST = 0.1  # seconds of a program, net of its load
 FUEL, PAGES = str(2**63), "8192"
 PACKAGES = "aho-corasick csv miniz-oxide num-bigint pulldown-cmark regex roxmltree serde-json sha2 similar yaml-rust".split()
 KINDS = ("net", "whole", "load")
-OURS = ("sandbox", "beside")
+PART = 8  # instructions are counted over an eighth of the input, where one is made here: it takes minutes
+COUNTED = ("sandbox", "wasmi", "older")  # a program in Go can't be counted
 TITLES = {"net": "net of load", "whole": "with load", "load": "load alone"}
 WORDS = "the quick brown foxes jump over 17 lazy dogs while reading 2024-11 reports and writing `code` about *many* things again".split()
 
@@ -144,55 +150,55 @@ FLOATING_JQ = "[.[] | .at.x / 7e3 | {x: ., r: (sqrt | floor), l: (sqrt * 1.5 - 7
 
 
 class Timed:
-    """A program that is timed: its name, which program of `others.py` (none for one in Rust), words, what makes its input, and whether it
-    keeps its floats."""
+    """A program that is timed: its name, which program of `others.py` (none for one in Rust), words, what makes its input or a part of it,
+    and whether it keeps its floats."""
 
     def __init__(self, name, of, words, given, floats=False):
         self.name, self.of, self.words, self.given, self.floats = name, of, words, given, floats
 
-    def input(self):
-        made = self.given()
+    def input(self, part=1):
+        made = self.given(part)
         return made if isinstance(made, bytes) else made.encode()
 
 
 TIMED = [
-    Timed("minigzip", "minigzip", ["-9"], lambda: prose(4_000)),
-    Timed("bzip2", "bzip2", ["-z", "-c"], lambda: prose(6_000)),
-    Timed("clzip", "clzip", ["-c", "-3"], lambda: prose(2_000)),
-    Timed("brotli", "brotli", ["-c", "-q", "6"], lambda: prose(9_000)),
-    Timed("lz4", "lz4", ["-c", "-9"], lambda: prose(5_000)),
-    Timed("compress", "compress", ["-c"], lambda: prose(32_000)),
-    Timed("cmark", "cmark", ["-t", "html"], lambda: prose(12_000)),
-    Timed("par", "par", ["60", "j1"], lambda: prose(1_500)),
-    Timed("awk", "awk", ["{ gsub(/[aeiou]/, \"<&>\"); n[$2]++; t += length($0) } END { for (w in n) s += n[w]; print NR, s, t }"], lambda: prose(1_500)),
-    Timed("unifdef", "unifdef", ["-DA1", "-UA2"], lambda: defines(4_000)),
-    Timed("json_reformat", "json_reformat", ["-m"], lambda: json.dumps(objects(4_000))),
-    Timed("xmlwf", "xmlwf", ["-n"], lambda: xml(4_000)),
-    Timed("lua", "lua", ["-"], lambda: LUA),
-    Timed("mujs", "mujs", [], lambda: JAVASCRIPT),
-    Timed("sqlite3", "sqlite3", ["-batch", "-vfs", "unix-none", ":memory:"], lambda: SQL),
-    Timed("bc", "bc", ["-q"], lambda: BC),
-    Timed("dc", "dc", ["-"], lambda: DC),
-    Timed("picosat", "picosat", [], lambda: formula(150, 640)),
-    Timed("basez", "basez", ["--base64"], lambda: bytes(k * k >> 3 & 255 for k in range(3_000_000))),
-    Timed("markdown", None, [], lambda: prose(12_000)),
-    Timed("json", None, [], lambda: json.dumps(objects(5_000))),
-    Timed("xml", None, [], lambda: xml(4_000)),
-    Timed("yaml", None, [], lambda: yaml(1_200)),
-    Timed("expressions", None, [], lambda: prose(1_200)),
-    Timed("numbers", None, [], lambda: "4500\n"),
-    Timed("deflate", None, [], lambda: prose(2_500)),
-    Timed("digests", None, [], lambda: prose(25_000)),
-    Timed("differences", None, [], lambda: halves(3_000)),
-    Timed("table", None, [], lambda: rows(20_000)),
+    Timed("minigzip", "minigzip", ["-9"], lambda part: prose(4_000 // part)),
+    Timed("bzip2", "bzip2", ["-z", "-c"], lambda part: prose(6_000 // part)),
+    Timed("clzip", "clzip", ["-c", "-3"], lambda part: prose(2_000 // part)),
+    Timed("brotli", "brotli", ["-c", "-q", "6"], lambda part: prose(9_000 // part)),
+    Timed("lz4", "lz4", ["-c", "-9"], lambda part: prose(5_000 // part)),
+    Timed("compress", "compress", ["-c"], lambda part: prose(32_000 // part)),
+    Timed("cmark", "cmark", ["-t", "html"], lambda part: prose(12_000 // part)),
+    Timed("par", "par", ["60", "j1"], lambda part: prose(1_500 // part)),
+    Timed("awk", "awk", ["{ gsub(/[aeiou]/, \"<&>\"); n[$2]++; t += length($0) } END { for (w in n) s += n[w]; print NR, s, t }"], lambda part: prose(1_500 // part)),
+    Timed("unifdef", "unifdef", ["-DA1", "-UA2"], lambda part: defines(4_000 // part)),
+    Timed("json_reformat", "json_reformat", ["-m"], lambda part: json.dumps(objects(4_000 // part))),
+    Timed("xmlwf", "xmlwf", ["-n"], lambda part: xml(4_000 // part)),
+    Timed("lua", "lua", ["-"], lambda _: LUA),
+    Timed("mujs", "mujs", [], lambda _: JAVASCRIPT),
+    Timed("sqlite3", "sqlite3", ["-batch", "-vfs", "unix-none", ":memory:"], lambda _: SQL),
+    Timed("bc", "bc", ["-q"], lambda _: BC),
+    Timed("dc", "dc", ["-"], lambda _: DC),
+    Timed("picosat", "picosat", [], lambda _: formula(150, 640)),
+    Timed("basez", "basez", ["--base64"], lambda part: bytes(k * k >> 3 & 255 for k in range(3_000_000 // part))),
+    Timed("markdown", None, [], lambda part: prose(12_000 // part)),
+    Timed("json", None, [], lambda part: json.dumps(objects(5_000 // part))),
+    Timed("xml", None, [], lambda part: xml(4_000 // part)),
+    Timed("yaml", None, [], lambda part: yaml(1_200 // part)),
+    Timed("expressions", None, [], lambda part: prose(1_200 // part)),
+    Timed("numbers", None, [], lambda _: "4500\n"),
+    Timed("deflate", None, [], lambda part: prose(2_500 // part)),
+    Timed("digests", None, [], lambda part: prose(25_000 // part)),
+    Timed("differences", None, [], lambda part: halves(3_000 // part)),
+    Timed("table", None, [], lambda part: rows(20_000 // part)),
 ]
 FLOATING = [
-    Timed("lua", "lua", ["-"], lambda: FLOATING_LUA, True),
-    Timed("awk", "awk", [FLOATING_AWK], lambda: prose(1_500), True),
-    Timed("mujs", "mujs", [], lambda: FLOATING_JAVASCRIPT, True),
-    Timed("sqlite3", "sqlite3", ["-batch", "-vfs", "unix-none", ":memory:"], lambda: FLOATING_SQL, True),
-    Timed("jq", "jq", ["-c", FLOATING_JQ], lambda: json.dumps(objects(1_000)), True),
-    Timed("brotli", "brotli", ["-c", "-q", "11"], lambda: prose(300), True),
+    Timed("lua", "lua", ["-"], lambda _: FLOATING_LUA, True),
+    Timed("awk", "awk", [FLOATING_AWK], lambda part: prose(1_500 // part), True),
+    Timed("mujs", "mujs", [], lambda _: FLOATING_JAVASCRIPT, True),
+    Timed("sqlite3", "sqlite3", ["-batch", "-vfs", "unix-none", ":memory:"], lambda _: FLOATING_SQL, True),
+    Timed("jq", "jq", ["-c", FLOATING_JQ], lambda part: json.dumps(objects(1_000 // part)), True),
+    Timed("brotli", "brotli", ["-c", "-q", "11"], lambda part: prose(300 // part), True),
 ]
 
 
@@ -256,10 +262,11 @@ def processor_time():
 class Run:
     """The commands of each engine for one program."""
 
-    def __init__(self, engines, it, module, room):
+    def __init__(self, engines, it, module, room, part=1):
+        os.makedirs(room, exist_ok=True)
         self.given = f"{room}/input"
         with open(self.given, "wb") as file:
-            file.write(it.input())
+            file.write(it.input(part))
         with open(f"{room}/random", "wb") as file:
             file.write(bytes(4096))
         self.report, self.whole, self.load = f"{room}/report", {}, {}
@@ -303,54 +310,41 @@ def least(run, native, times):
     return whole, load
 
 
-def instructions(words, given):
-    """The x86 instructions of a command, by callgrind."""
-    with tempfile.TemporaryDirectory() as room, open(given, "rb") as source:
-        tool = ["valgrind", "--tool=callgrind", f"--callgrind-out-file={room}/out"]
-        done = subprocess.run([*tool, *words], stdin=source, stdout=subprocess.DEVNULL, stderr=subprocess.PIPE, text=True)
-    return int(re.search(r"Collected : (\d+)", done.stderr)[1])
-
-
-def mean(values):
-    return math.exp(sum(map(math.log, values)) / len(values))
-
-
 def told(name, ratios, seconds, units, costs):
-    line = f"{name:14}{units / 1e6:9.1f} M units {seconds:7.3f} s net"
+    line = f"{name:14}{units / 1e6:9.1f} M units" + (f" {seconds:7.3f} s net" if seconds else "")
     for other, of in ratios.items():
         line += f"   {other}: " + ", ".join(f"{TITLES[kind]} {ratio:.2f}" for kind, ratio in of.items())
-    return line + "".join(f"   x86 a unit, {engine}: {it:.2f}" for engine, it in costs.items()) + ("" if seconds >= LEAST else f"   shorter than {LEAST} s")
+    if costs:
+        line += f"   x86 a unit {costs['sandbox']:.2f}" + "".join(f", {it} {costs[it] / costs['sandbox']:.2f} times" for it in costs if it != "sandbox")
+    return line + (f"   shorter than {LEAST} s" if seconds and seconds < LEAST else "")
+
+
+def counted(given, engines, it, module, room):
+    """The x86 instructions of each engine for a unit, without its load, over a part of the input."""
+    run = Run(engines, it, module, room, PART)
+    units = run.units(engines["sandbox"])
+    found = given.kept.between({name: (run.whole[name], run.load[name]) for name in COUNTED if name in run.load}, run.given)
+    return {name: it / units for name, it in found.items()}
 
 
 def measured(given, engines, it, module, native):
-    """A program's ratios, the others' time by ours, and its x86 instructions a unit; prints its line."""
+    """A program's row: the others' time by ours, and x86 instructions a unit; prints its line."""
     with tempfile.TemporaryDirectory(dir="/dev/shm" if os.access("/dev/shm", os.W_OK) else None) as room:
         run = Run(engines, it, module, room)
-        whole, load = least(run, [native, *it.words], given.times)
-        units = run.units(engines["sandbox"])
-        net = {name: max(whole[name] - load[name], 1e-6) for name in load}
-        times = {"net": net, "whole": whole, "load": load}
-        ratios = {other: {kind: times[kind][other] / times[kind]["sandbox"] for kind in KINDS if other in times[kind]} for other in engines if other != "sandbox"}
-        ours = [name for name in engines if name in OURS] if given.instructions else []
-        costs = {name: (instructions(run.whole[name], run.given) - instructions(run.load[name], run.given)) / units for name in ours}
-    print(told(it.name, ratios, net["sandbox"], units, costs), flush=True)
-    return ratios, costs
-
-
-def table(found, others, version, title):
-    """The table for `docs/USING.md`: a row a program, and the means. `others` has the label of each, `version` is that of what is timed."""
-    kinds = [(other, kind) for other, of in next(iter(found.values()))[0].items() for kind in of]
-    heads = [f"{others[other]} ({version}, {TITLES[kind]})" for other, kind in kinds]
-    lines = [[title, *heads], ["---"] * (1 + len(heads))]
-    cells = {name: [ratios[other][kind] for other, kind in kinds] for name, (ratios, _) in found.items()}
-    lines += [[name, *[f"{it:.2f}" for it in row]] for name, row in cells.items()]
-    lines.append(["**geometric mean**", *[f"{mean(column):.2f}" for column in zip(*cells.values())]])
-    return "".join(f"| {' | '.join(it)} |\n" for it in lines)
+        units, net, ratios = run.units(engines["sandbox"]), {}, {}
+        if given.times:
+            whole, load = least(run, [native, *it.words], given.times)
+            net = {name: max(whole[name] - load[name], 1e-6) for name in load}
+            times = {"net": net, "whole": whole, "load": load}
+            ratios = {other: {kind: times[kind][other] / times[kind]["sandbox"] for kind in KINDS if other in times[kind]} for other in engines if other != "sandbox"}
+        costs = counted(given, engines, it, module, f"{room}/part") if given.counts else {}
+    print(told(it.name, ratios, net.get("sandbox"), units, costs), flush=True)
+    return {"seconds": net.get("sandbox"), "units": units, "ratios": ratios, "x86": costs}
 
 
 def engines_of(given):
-    """What is timed, `sandbox` first: wasmi out of `bench/peers`, with --floats wazero, and the program of --beside."""
-    engines = {"sandbox": given.program}
+    """What is timed, `sandbox` first: wasmi out of `bench/peers`, with --floats wazero, and the program of --beside; and the others' versions."""
+    engines, versions = {"sandbox": given.program}, {}
     for name in ("wasmi", *["wazero"] * given.floats):
         done = subprocess.run([f"{TOP}/bench/peers", "--program", name, given.peers], stdout=subprocess.PIPE, text=True)
         if done.returncode:
@@ -359,47 +353,49 @@ def engines_of(given):
             program, version = done.stdout.splitlines()
             engines[name] = f"{os.path.dirname(program)}/guest" if name == "wasmi" else program
             print(f"{name} {version}")
+            versions[name] = version
     if given.beside:
-        engines["beside"] = os.path.abspath(given.beside)
-    return engines
+        engines["older"] = os.path.abspath(given.beside)
+        versions["older"] = version_of(engines["older"])
+    return engines, versions
 
 
-def version_of(program):
-    return subprocess.run([program, "--version"], capture_output=True, text=True).stderr.split()[-1]
+def means(rows, others):
+    """Prints the geometric mean and the spread of each column."""
+    for other in others:
+        for kind in KINDS:
+            spread(f"{other}, {TITLES[kind]}", [row["ratios"][other][kind] for row in rows if kind in row["ratios"].get(other, {})])
+    spread("x86 instructions a unit", [row["x86"]["sandbox"] for row in rows if row["x86"]])
+    for other in others:
+        spread(f"x86 instructions of {other}, times as many", [row["x86"][other] / row["x86"]["sandbox"] for row in rows if other in row["x86"]])
 
 
-def load_of_machine():
-    return f"load {os.getloadavg()[0]:.1f} on {os.cpu_count()} processors"
+def spread(title, values):
+    if values:
+        print(f"{title}: mean {mean(values):.2f}, from {min(values):.2f} to {max(values):.2f} over {len(values)} programs")
 
 
 def rows_of(given, real):
     """Times the programs that are asked for; gives how many answer otherwise or aren't built."""
-    engines, found, failed = engines_of(given), {}, 0
-    version = version_of(given.program)
-    print(f"sandbox {version}; the others' time by ours, processor time, best of {given.times} in turn; {load_of_machine()}", flush=True)
+    (engines, versions), failed = engines_of(given), 0
+    given.kept = Counts(given.counts)
+    log = Log("float-programs" if given.floats else "programs", given.program, given.times, versions)
+    print(f"sandbox {log.said['version']}; the others' time by ours, processor time, best of {given.times} in turn; {load_of_machine()}", flush=True)
     for it in FLOATING if given.floats else TIMED:
         if given.names and it.name not in given.names:
             continue
         try:
             module, native = files(real, given.folder, it)
-            found[it.name] = measured(given, engines, it, module, native)
-        except (RuntimeError, subprocess.CalledProcessError, OSError) as problem:
+            log.add(it.name, **measured(given, engines, it, module, native))
+        except (RuntimeError, subprocess.CalledProcessError, OSError, Uncounted) as problem:
             print(f"{it.name:14} FAILED: {problem}"[:400], flush=True)
             failed += 1
-    others = [it for it in engines if it != "sandbox"]
-    for other in others if found else []:
-        for kind in KINDS:
-            values = [ratios[other][kind] for ratios, _ in found.values() if kind in ratios[other]]
-            if not values:
-                continue
-            print(f"{other}, {TITLES[kind]}: mean {mean(values):.2f}, from {min(values):.2f} to {max(values):.2f} over {len(values)} programs")
-    for engine in engines if given.instructions and found else []:
-        values = [costs[engine] for _, costs in found.values() if engine in costs]
-        if values:
-            print(f"x86 instructions a unit, {engine}: mean {mean(values):.2f}, from {min(values):.2f} to {max(values):.2f}")
+    means(log.said["rows"].values(), list(engines)[1:])
     print(load_of_machine())
-    if given.table and found:
-        with open(given.table, "w", encoding="utf-8") as file:
-            labels = {it: f"sandbox {version_of(engines[it])}" if it == "beside" else it for it in others}
-            file.write(table(found, labels, version, "Program with floats" if given.floats else "Program"))
+    if given.log:
+        log.keep(given.log)
     return failed
+
+
+def load_of_machine():
+    return f"load {os.getloadavg()[0]:.1f} on {os.cpu_count()} processors"

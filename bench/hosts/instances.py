@@ -49,11 +49,12 @@ with plugin.instance(imports={("env", "twice"): busy}) as one, plugin.instance(i
     tell(stood == [("fail", 0x8e)] and one.frames() == [], f"a trap is told where it was: {stood}")
     tell(end and end.told.kind == 1 and one.call("count") == 42, "a trap leaves an instance")
     tell(raised(plugins.Ended, one.call, "count", fuel=2) and one.call("count") == 43, "and so does a call without fuel")
-    for words, number in (["none"], 108), (["add", 1], 109), (["add", 2**32, 0], 109):
-        it = raised(sandbox.Refused, one.call, *words)
-        tell(it and it.number == number, f"{words} is refused with {number}")
-    it = raised(sandbox.Refused, one.read, 65533, 4)
-    tell(it and it.number == 110, "nothing is read past the end")
+    tries: list[tuple[list, int]] = [(["none"], 108), (["add", 1], 109), (["add", 2**32, 0], 109)]
+    for words, number in tries:
+        why = raised(sandbox.Refused, one.call, *words)
+        tell(why and why.number == number, f"{words} is refused with {number}")
+    why = raised(sandbox.Refused, one.read, 65533, 4)
+    tell(why and why.number == 110, "nothing is read past the end")
     tell(raised(OverflowError, one.call, "add", -1, 0) and raised(ValueError, one.call, "add", 1.0, 0), "numbers that don't fit")
     tell(len(one.finish()) == 202 * 512, "its volume")
     tell(raised(sandbox.Refused, one.call, "count"), "nothing is called of a finished one")

@@ -14,6 +14,7 @@ import threading
 import sandbox
 from sandbox import CALLED, MOST_32, MOST_64, MOST_SIZE, Session, Told, _check, _lib, _Limits, _number, _Why
 
+Refused = sandbox.Refused
 RETURNED, ASKED = 6, 7
 MOST_VALUES = MOST_FRAMES = 16
 
