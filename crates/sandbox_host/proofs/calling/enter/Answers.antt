@@ -6,7 +6,7 @@ use Rattle.sandbox_host.proofs.calling.enter.Goals as goal
 
 -- its name isn't UTF-8
 pub returns-in_default : goal.returns-in_default
-returns-in_default c = (λ zero. absurd (c.misuse_number.ensures.some zero), λ some. (refl, (NoFunction, c.misuse_number.ensures.number, inl (refl, λ u. cc (rw c.in_default.is at (c.from_utf8.ensures.succeeds u))))))
+returns-in_default c = (λ zero. absurd (c.misuse_number.ensures.some zero), λ some. (refl, (NoFunction, c.misuse_number.ensures.number, inl (refl, c.in_default.ensures.cases.0))))
 
 pub returns : goal.returns
 returns c =
