@@ -8,4 +8,4 @@ use Rattle.sandbox_host.proofs.calling.let_go.Goals as goal
 pub returns : goal.returns
 returns c =
     told_of c.abandon.result c.number_of.result c.args.instance.now c.abandon.new.self (Does known c.args.instance.now acts.abandoned c.abandon.new.self) (NoLettingGo c.args.instance.now)
-    c.number_of.ensures c.abandon.ensures.abandoned (stage_alone _ _ _ _ c.abandon.ensures.refused)
+    c.number_of.ensures c.abandon.ensures.abandoned (stage_alone c.abandon.result c.args.instance.now c.abandon.new.self (acts.IsOpen c.args.instance.now.stage) (NoLettingGo c.args.instance.now) c.abandon.ensures.refused)
