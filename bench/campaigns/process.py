@@ -519,6 +519,63 @@ def killed(setting, item):
     return 1
 
 
+# What calls of the system may answer in place of doing what they are for. Those of the loader alone, as `mmap`, are left out.
+ANSWERS = {
+    "read": ("EIO", "EINTR"),
+    "pread64": ("EIO", "EINTR"),
+    "write": ("EIO", "ENOSPC", "EINTR"),
+    "pwrite64": ("EIO", "ENOSPC", "EINTR"),
+    "openat": ("EACCES", "EMFILE"),
+    "fsync": ("EIO",),
+    "fdatasync": ("EIO",),
+    "rename": ("EBUSY", "EACCES", "EIO"),
+    "unlink": ("EACCES",),
+    "flock": ("ENOLCK", "EINTR", "EWOULDBLOCK"),
+    "ftruncate": ("EIO", "EFBIG"),
+    "fstat": ("EIO",),
+    "statx": ("EIO", "EACCES"),
+    "fchmod": ("EPERM",),
+    "readlink": ("EIO",),
+    "lseek": ("EIO",),
+    "fcntl": ("EMFILE",),
+}
+
+
+def answered(setting, item):
+    """An error of one call of the system: what the command says is so, each file is the old one or the new one, or a volume in order."""
+    at, name, number, error = item
+    words, targets, given = KILLED[at]
+    with killed_scene(setting) as it:
+        before, source = it.files(), described(given)
+        inject = ["strace", "-f", "-o", os.devnull, "-e", f"trace={name}", "-e", f"inject={name}:error={error}:when={number}"]
+        done = subprocess.run([*inject, setting.program, *words], cwd=it.folder, stdin=source, capture_output=True, timeout=100)
+        os.close(source)
+        after, what = it.files(), f"{' '.join(words)}, {error} of {name} number {number}: status {done.returncode}, {done.stderr[:200]!r}"
+        wanted(0 <= done.returncode <= 125 or done.returncode == 127 and b"shared libraries" in done.stderr, what)
+        wanted(done.returncode == 0 or done.stderr or name == "write" or words[0] == "run" and done.returncode < 120, f"{what}: nothing is said")
+        wanted(name != "rename" or error == "EIO" or done.returncode == 0, f"{what}: what the run left is lost")
+        for each in before:
+            if each in targets or each in words and each in ("o", "e", "r"):
+                continue
+            wanted(after.get(each) == before[each], f"{what}: {each} has changed")
+        for each in targets:
+            if each in given_out(words):
+                may_be = [given_out(words)[each], *([] if done.returncode == 0 else [before.get(each)])]
+                wanted(after.get(each) in may_be, f"{what}: {each} has {len(after.get(each, b''))} bytes")
+            else:
+                check = it.call(["check", each])
+                wanted(check[0] == 0 or words[0] == "format" and check[2].startswith("sandbox: fault 30"), f"{what}: {check}")
+    return 1
+
+
+def errors(setting):
+    """The row: each call of the system of each command answers an error."""
+    prepare(setting)
+    calls = [(at, *call) for at, (words, _, given) in enumerate(KILLED) for call in calls_of(setting, words, given)]
+    items = [(*call, error) for call in calls for error in ANSWERS.get(call[1], ())]
+    return sum(setting.each(lambda item: answered(setting, item), drawn(setting, items, 20))), f"errors of {len(KILLED)} commands"
+
+
 def kills(setting):
     """The row: each command, killed at each of its calls of the system."""
     prepare(setting)
