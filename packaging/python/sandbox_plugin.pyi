@@ -1,25 +1,30 @@
 """Types of the module `sandbox_plugin`, which is examples/hosts/python/sandbox_plugin.py. packaging/check-types compares the two."""
 from typing import Any, Callable, List, Mapping, NoReturn, Optional, Tuple
 
-from sandbox import Bytes, Session, Told
+import sandbox
+from sandbox import Bytes, Frame, Session, Told
 
 # The functions of the host by module name and name. Each gets the instance and its arguments.
 Imports = Mapping[Tuple[str, str], Callable[..., Optional[int]]]
 
+Refused = sandbox.Refused
 RETURNED: int
 ASKED: int
 MOST_VALUES: int
+MOST_FRAMES: int
 
 class Busy(Exception): ...
 
 class Ended(Exception):
     told: Told
-    def __init__(self, told: Told) -> None: ...
+    frames: List[Frame]
+    def __init__(self, told: Told, frames: List[Frame]) -> None: ...
 
 class Plugin:
     def __init__(self, given: Bytes, pages: int = ..., floats: bool = ...) -> None: ...
     def imports(self) -> List[Tuple[str, str]]: ...
     def exports(self) -> List[str]: ...
+    def function_name(self, function: int) -> str: ...
     def instance(self, imports: Optional[Imports] = ..., **supplies: Any) -> Instance: ...
     def __del__(self) -> None: ...
 
