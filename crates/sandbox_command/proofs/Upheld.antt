@@ -3,19 +3,19 @@ use Rattle.std.proofs.Common.{ℕ, [], ◌∷◌, Option}
 use Rattle.vol_sector.specs.Disk.{Image}
 use Rattle.vol_tree.specs.Stands.{StandsAs}
 use Rattle.wasm_module.specs.declared.module.Module.{Module}
+use Rattle.wasm_interp.specs.Snapshots.{StandsFor}
 use Rattle.wasi_calls.specs.declared.host.wasi_host.HostParts.{HostParts}
 use Rattle.wasi_calls.specs.declared.streams.Terminals.{Terminals}
 use Rattle.sandbox_core.specs.Devices.{Devices}
-use Rattle.sandbox_core.specs.Session.{SessionState, OpensWith, Shares, History, Follow}
+use Rattle.sandbox_core.specs.Sessions.{SessionState, OpensBy, Shares, History, FollowBy}
 use Rattle.sandbox_core.specs.Safety.{TurnsAreSafe}
-use Rattle.wasm_interp.specs.Machine.{Represents}
 use Rattle.sandbox_core.specs.Headline.{OpenedHeadline, Upholds}
 
-module _ {D R W1 W2 : Type 0} (on : Devices D R W1 W2) where
-  pub upheld : OpenedHeadline Represents on → TurnsAreSafe on
+module _ {D R W1 W2 : Type 0} (Stands : StandsFor) (on : Devices D R W1 W2) where
+  pub upheld : OpenedHeadline Stands on → TurnsAreSafe on
       → (m : Module) (parts : HostParts D R W1 W2) (s s' : SessionState D R W1 W2) (rs : History (SessionState D R W1 W2)) (seed : Option ℕ) (terminals : Option Terminals)
-      → OpensWith seed terminals m parts s → Shares on.device parts s → on.device.honest parts.volume.device
+      → OpensBy Stands seed terminals m parts s → Shares on.device parts s → on.device.honest parts.volume.device
       → ((c : Image) → (on.device.disk parts.volume.device).may_leave c → StandsAs c parts.volume.numbers parts.volume.tree)
-      → Follow on s rs s' → Upholds Represents on m parts.settings.pages (parts.volume.tree ∷ []) 0 s rs s'
+      → FollowBy Stands on s rs s' → Upholds Stands on m parts.settings.pages (parts.volume.tree ∷ []) 0 s rs s'
   upheld holds safe m parts s s' rs seed terminals opens shares is lasts follow =
       holds seed terminals m parts (parts.volume.tree ∷ []) 0 s s' rs opens shares is (safe.opened parts.volume is lasts) follow

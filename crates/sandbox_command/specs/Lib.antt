@@ -10,6 +10,8 @@ pub mod Flushing
 pub mod Checking
 pub mod Sources
 pub mod Supplies
+pub mod RunHost
+pub mod Guest
 pub mod Reporting
 pub mod Running
 pub mod Inspecting

@@ -1,16 +1,14 @@
 -- What the report of a run says of it (`crates/sandbox_report/specs`). Here stands where each field of a `Summary` comes
 -- from, for a run that could not begin (`not_run`) and for one that did (`run_summary`).
-use Rattle.std.specs.Prelude.{◌||◌, ◌-◌, ◌^◌, ℕ, List, Bool, true, false, Option, Some, None, Result, Ok, Err, unwrap_or, if◌then◌else◌}
+use Rattle.std.specs.Prelude.{◌||◌, ℕ, Bool, true, false, Option, Some, None, Result, Ok, Err, if◌then◌else◌}
 use Rattle.std.specs.Borrow.{Bor}
 use Rattle.std.specs.Option.{option_or}
 use Rattle.vol_sector.specs.declared.fault.VolumeFault.{VolumeFault}
 use Rattle.vol_sector.specs.declared.fault.VolumeFault.TheVariants as volume
-use Rattle.wasi_calls.specs.declared.host.wasi_host.HostParts.{HostParts}
 use Rattle.sandbox_core.specs.declared.fault.SessionFault.{SessionFault}
 use Rattle.sandbox_core.specs.declared.fault.SessionFault.TheVariants as opening
 use Rattle.sandbox_core.specs.declared.report.Report.{Report}
 use Rattle.sandbox_core.specs.declared.tally.Tally.{Tally}
-use Rattle.sandbox_core.specs.Session.{given}
 use Rattle.sandbox_args.specs.declared.request.Run.{Run}
 use Rattle.sandbox_args.specs.Request.{Text}
 use Rattle.sandbox_report.specs.declared.counted.Counted.{Counted}
@@ -21,6 +19,7 @@ use Rattle.sandbox_report.specs.declared.summary.CutStreams.{CutStreams}
 use Rattle.sandbox_report.specs.declared.summary.VolumeEnd.{VolumeEnd}
 use Rattle.sandbox_report.specs.declared.summary.VolumeEnd.TheVariants as kept
 use Rattle.sandbox_report.specs.declared.summary.Summary.{Summary}
+pub use Rattle.sandbox_command.specs.RunHost.{counted_bytes, from_here, output_of, counting}
 
 -- ---- the volume of a run
 
@@ -88,23 +87,7 @@ kept_after_run file (Err refused) = kept.Failed
 kept_after_run None (Ok v) = kept.None
 kept_after_run (Some file) (Ok v) = kept.Kept
 
--- the bytes of a stream that is counted
-abbrev pub counted_bytes : {S : Type 0} → (S → Option (List ℕ)) → Counted S → Option (List ℕ)
-counted_bytes bytes c = bytes c.stream
-
--- a stream that is counted from here on, and takes so many bytes at most
-abbrev pub from_here : {S : Type 0} → ℕ → S → Counted S
-from_here most s = record { stream = s; count = 0; most = most; full = false; failed = false }
-
--- how many bytes each output of a run takes at most; without its option as many as can be counted
-abbrev pub output_of : Run → ℕ
-output_of run = unwrap_or run.limits.output (2 ^ 64 - 1)
-
 module _ {D R W1 W2 : Type 0} where
-  -- what a host is made of, with streams that are counted from here on
-  abbrev pub counting : Run → HostParts D R W1 W2 → HostParts D (Counted R) (Counted W1) (Counted W2)
-  counting run parts = given parts.settings parts.volume (from_here (2 ^ 64 - 1) parts.input) (from_here (output_of run) parts.out) (from_here (output_of run) parts.err)
-
   -- A stream failed. Where an output was cut, which its calls are told as a failure too, it is one that refused by itself.
   abbrev pub broken_in : Report D (Counted R) (Counted W1) (Counted W2) → Bool
   broken_in report = if report.out.full || report.err.full then report.input.failed || (report.out.failed || report.err.failed) else report.broken

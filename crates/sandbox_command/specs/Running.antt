@@ -1,31 +1,29 @@
 -- What it means that a valid module is run on an open volume (`docs/USING.md`, "How a run ends"). Either it gets no
 -- session (`NotOpened`), or `Ran` has one that ran from the module's first configuration, with its report, its end and
 -- what a crash may leave.
-use Rattle.std.specs.Prelude.{◌≡◌, ◌⊎◌, ◌≤◌, ℕ, true, List, Option, Some, Result, Ok, Err}
+use Rattle.std.specs.Prelude.{◌≡◌, ◌⊎◌, ◌≤◌, ℕ, true, List, Option, Some}
 use Rattle.std.proofs.Common.{inl, inr}
 use Rattle.std.specs.Io.KnownBytes.{Keeps}
 use Rattle.vol_sector.specs.Disk.{Image, Disk, Leaves}
-use Rattle.vol_sector.specs.declared.device.Device.{Ghosts}
-use Rattle.vol_sector.specs.declared.fault.Refused.{Refused}
 use Rattle.vol_tree.specs.Opened.{Opened}
 use Rattle.vol_tree.specs.Stands.{StandsAs}
 use Rattle.wasm_module.specs.declared.module.Module.{Module}
 use Rattle.wasm_steps.specs.Configuration.{first_configuration}
-use Rattle.wasm_steps.specs.Steps.{CallsOf, Reach}
+use Rattle.wasm_steps.specs.Steps.{Reach}
 use Rattle.wasi_calls.specs.declared.host.wasi_host.HostParts.{HostParts}
 use Rattle.wasi_calls.specs.World.{World}
 use Rattle.wasi_calls.specs.Calls as world
-use Rattle.wasi_calls.specs.host.Worlds.{HostState, StreamBytes, StreamsMove, MayFollow, before_moving, after_moving, world_of, Hearing, hearing}
+use Rattle.wasi_calls.specs.host.Worlds.{StreamBytes, StreamsMove, MayFollow, before_moving, after_moving, world_of, Hearing}
 use Rattle.sandbox_core.specs.declared.fault.SessionFault.{SessionFault}
 use Rattle.sandbox_core.specs.declared.report.Report.{Report}
 use Rattle.sandbox_core.specs.Devices.{Devices, Calls, numbers_of, tree_of}
 use Rattle.sandbox_core.specs.Session.{SessionState, OpensWith, Shares, IsRefused, KeepsVolume}
-use Rattle.sandbox_core.specs.Runs.{StandsInRun}
+use Rattle.sandbox_core.specs.Within.{StandsInRun}
 use Rattle.sandbox_core.specs.declared.tally.Tally.{Tally}
 use Rattle.sandbox_core.specs.Report.{ReportsCounted}
 use Rattle.sandbox_args.specs.declared.request.Run.{Run}
 use Rattle.sandbox_report.specs.declared.counted.Counted.{Counted}
-use Rattle.sandbox_report.specs.Counting.{counted_moved, counted_refused, counted_refused_or_full}
+use Rattle.wasm_interp.specs.Machine.{Represents}
 use Rattle.wasm_interp.specs.Frames.{frames_of}
 use Rattle.observed_run.specs.Telling.{TellsFrames}
 use Rattle.sandbox_command.specs.declared.program.Executed.{Executed}
@@ -34,48 +32,21 @@ use Rattle.sandbox_command.specs.Supplies.{terminals_of}
 use Rattle.sandbox_command.specs.Status.{EndsWith, session_status}
 use Rattle.sandbox_command.specs.Streams.{IsSilent}
 use Rattle.sandbox_command.specs.Profiling.{IsFuelUse, slice_of}
-use Rattle.sandbox_command.specs.Reporting.{counted_bytes, counting, kept_where_not_begun, not_run, run_summary, session_reason}
-
--- the device of a volume that is handed back, or the device itself
-abbrev pub returned_device : {D : Type 0} → Result (Opened D) (Refused D) → D
-returned_device (Ok v) = v.device
-returned_device (Err refused) = refused.device
-
--- what is known of a device, as one record
-abbrev pub known_of : {D : Type 0} → (D → Type 0) → (D → Disk) → (D → ℕ) → (D → ℕ) → (ℕ → D → D → Type 0) → Ghosts D
-known_of is_honest disk sectors_on failures goes_on =
-    record { honest = is_honest; disk = disk; size = sectors_on; failures = failures; goes_on = goes_on }
-
--- what is told of the calls on streams that are counted
-abbrev pub counted_hearing : {R W1 W2 : Type 0} → Hearing R W1 W2 → Hearing (Counted R) (Counted W1) (Counted W2)
-counted_hearing ear = hearing (counted_moved ear.input.moved) (counted_refused ear.input.refused)
-    (counted_moved ear.out.moved) (counted_refused_or_full ear.out.refused) (counted_moved ear.err.moved) (counted_refused_or_full ear.err.refused)
+pub use Rattle.sandbox_command.specs.RunHost.{counted_bytes, counting, counted_devices, counted_hearing, known_of, returned_device, Host, HostCalls}
+use Rattle.sandbox_command.specs.Guest.{GuestRan}
+use Rattle.sandbox_command.specs.Reporting.{kept_where_not_begun, not_run, run_summary, session_reason}
 
 module _ {D R W1 W2 : Type 0} (is_honest : D → Type 0) (disk : D → Disk) (sectors_on failures : D → ℕ) (goes_on : ℕ → D → D → Type 0)
     (remaining : R → Option (List ℕ)) (out_contents : W1 → Option (List ℕ)) (err_contents : W2 → Option (List ℕ)) (ear : Hearing R W1 W2) where
-  -- a host whose streams are counted
-  abbrev pub Host : Type 0
-  Host = HostState D (Counted R) (Counted W1) (Counted W2)
-
-  -- and what is known of its device and of these streams
-  abbrev pub counted_devices : Devices D (Counted R) (Counted W1) (Counted W2)
-  counted_devices = record {
-    device = known_of is_honest disk sectors_on failures goes_on;
-    input = record { remaining = counted_bytes remaining };
-    out = record { contents = counted_bytes out_contents };
-    err = record { contents = counted_bytes err_contents };
-    ear = counted_hearing ear;
-  }
-
-  abbrev pub HostCalls : CallsOf Host
-  HostCalls = Calls counted_devices
+  abbrev pub on : Devices D (Counted R) (Counted W1) (Counted W2)
+  on = counted_devices is_honest disk sectors_on failures goes_on remaining out_contents err_contents ear
 
   -- The module gets no session, and nothing but reads was done with the volume.
   pub record NotOpened (m : Module) (run : Run) (parts : HostParts D R W1 W2) (left : Executed D R W1 W2) : Type 0 where
     pub fault : SessionFault
     pub refused : IsRefused is_honest fault m (counting run parts)
     pub volume : Opened D
-    pub kept : KeepsVolume counted_devices.device fault parts.volume volume
+    pub kept : KeepsVolume on.device fault parts.volume volume
     pub device : left.device ≡ volume.device
     pub ends : left.status ≡ session_status fault
     pub flushed : left.flushed ≡ true
@@ -87,10 +58,10 @@ module _ {D R W1 W2 : Type 0} (is_honest : D → Type 0) (disk : D → Disk) (se
   pub record Ran (m : Module) (run : Run) (parts : HostParts D R W1 W2) (left : Executed D R W1 W2) : Type 0 where
     pub session : SessionState D (Counted R) (Counted W1) (Counted W2)
     pub opens : OpensWith run.seed (terminals_of run) m (counting run parts) session
-    pub shares : Shares counted_devices.device (counting run parts) session
+    pub shares : Shares on.device (counting run parts) session
     pub report : Report D (Counted R) (Counted W1) (Counted W2)
     pub tally : Tally
-    pub counted : ReportsCounted counted_devices session run.limits.fuel report tally
+    pub counted : ReportsCounted on session run.limits.fuel report tally
     -- the functions that were at work when it stopped are those of its last session
     pub stopped : Stopped
     pub is_stopped : left.stopped ≡ Some stopped
@@ -120,7 +91,7 @@ module _ {D R W1 W2 : Type 0} (is_honest : D → Type 0) (disk : D → Disk) (se
     pub crash : is_honest parts.volume.device → ((c : Image) → (disk parts.volume.device).may_leave c → StandsAs c parts.volume.numbers parts.volume.tree)
         → let first = first_configuration opens.starts.entered opens.starts.store in
         Leaves (disk parts.volume.device) (disk left.device)
-        (StandsInRun HostCalls numbers_of tree_of (counted.reports.run opens.starts.instance first opens.starts.stands))
+        (StandsInRun (Calls on) numbers_of tree_of (counted.reports.run opens.starts.instance first opens.starts.stands))
 
   -- a valid module gets no session, or runs
   abbrev pub Launches : Module → Run → HostParts D R W1 W2 → Executed D R W1 W2 → Type 0
@@ -131,5 +102,10 @@ module _ {D R W1 W2 : Type 0} (is_honest : D → Type 0) (disk : D → Disk) (se
   LeftByRun m run parts left (inl refused) image = ⊥
   LeftByRun m run parts left (inr r) image =
       let first = first_configuration r.opens.starts.entered r.opens.starts.store in
-      StandsInRun HostCalls numbers_of tree_of
+      StandsInRun (Calls on) numbers_of tree_of
       (r.counted.reports.run r.opens.starts.instance first r.opens.starts.stands) image
+
+  -- in a run a guest ran, by the machine's own relation
+  abbrev pub RunsAreGuests : Type 0
+  RunsAreGuests = (m : Module) (run : Run) (parts : HostParts D R W1 W2) (left : Executed D R W1 W2)
+      → Ran m run parts left → GuestRan Represents is_honest disk sectors_on failures goes_on remaining out_contents err_contents ear m run parts left

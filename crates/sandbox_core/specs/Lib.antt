@@ -5,6 +5,7 @@ pub mod Devices
 pub mod Sessions
 pub mod Session
 pub mod Pauses
+pub mod Within
 pub mod Runs
 pub mod Tally
 pub mod Report
