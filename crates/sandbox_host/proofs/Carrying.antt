@@ -25,8 +25,7 @@ use Rattle.sandbox_host.specs.declared.volumes.Origin.{Origin}
 use Rattle.sandbox_host.specs.declared.volumes.Origin.TheVariants.{Fresh, Sectors}
 use Rattle.sandbox_host.specs.Host.{State, HostVolume, Commits, known, size_of}
 use Rattle.sandbox_host.specs.Volumes.{IsVolume, RefusesSectors, is_huge, most_sectors}
-use Rattle.sandbox_host.specs.Sessions.{Begins, Finishes, returned_device, commit_number}
-use Rattle.sandbox_host.specs.Headline.{Resumed}
+use Rattle.sandbox_host.specs.Sessions.{Begins, Finishes, returned_device, commit_number, Resumed}
 use Rattle.sandbox_host.specs.Carried.{OpensAgain, FitsDevice, IsCarried, IsCarriedOn}
 
 -- an image stands for at most one tree

@@ -12,8 +12,7 @@ use Rattle.sandbox_host.specs.declared.numbers.Told.{Told}
 use Rattle.sandbox_host.specs.declared.supplies.Supplies.{Supplies}
 use Rattle.sandbox_host.specs.declared.volumes.Origin.TheVariants.{Sectors}
 use Rattle.sandbox_host.specs.Host.{State, HostVolume, known}
-use Rattle.sandbox_host.specs.Sessions.{Begins}
-use Rattle.sandbox_host.specs.Headline.{Resumed}
+use Rattle.sandbox_host.specs.Sessions.{Begins, Resumed}
 use Rattle.sandbox_host.specs.Recording.{KeepsRecord}
 use Rattle.sandbox_host.specs.Settled.{IsRecordKept, IsRecordKeptSoFar}
 use Rattle.sandbox_host.proofs.Carrying.{Same, begun_same, resumed_same, same_then}

@@ -28,8 +28,7 @@ use Rattle.sandbox_host.specs.declared.volumes.Origin.{Origin}
 use Rattle.sandbox_host.specs.declared.volumes.Origin.TheVariants.{Sectors}
 use Rattle.sandbox_host.specs.Numbers.{call_number, told_end, told_pause}
 use Rattle.sandbox_host.specs.Host.{State, HostVolume, Bytes, Commits, IsHonest, disk_of}
-use Rattle.sandbox_host.specs.Sessions.{Begins, returned_device}
-use Rattle.sandbox_host.specs.Headline.{Resumed}
+use Rattle.sandbox_host.specs.Sessions.{Begins, returned_device, Resumed}
 use Rattle.sandbox_host.specs.Settled.{StandsForOne, IsSettled, IsSettledSoFar, TellsSync, IsSyncSettled}
 use Rattle.sandbox_host.proofs.Carrying.{OneTree, resumed_same}
 

@@ -13,8 +13,7 @@ use Rattle.sandbox_host.specs.declared.supplies.Supplies.{Supplies}
 use Rattle.sandbox_host.specs.declared.volumes.Origin.{Origin}
 use Rattle.sandbox_host.specs.Host.{State, HostVolume, size_of}
 use Rattle.sandbox_host.specs.Volumes.{IsIn, RefusesSectors, is_huge, most_sectors}
-use Rattle.sandbox_host.specs.Sessions.{Begins, Finishes}
-use Rattle.sandbox_host.specs.Headline.{Resumed}
+use Rattle.sandbox_host.specs.Sessions.{Begins, Finishes, Resumed}
 
 -- A volume that is opened from these sectors, as a huge one or not, has these numbers and this tree, and nothing but memory can
 -- be wanting.

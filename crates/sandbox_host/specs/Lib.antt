@@ -1,10 +1,13 @@
 -- What public contracts cite, in reading order: the numbers that a host in C is told, supplies, types and volumes, then
 -- what a handle has and what calls make of it (`Instances`: of those whose exports are called). `Headline`, `Carried` and `Settled` state the laws over several calls,
 -- and `Handles` says what memory a handle owns.
+pub mod Telling
 pub mod Numbers
 pub mod Supplies
+pub mod HostTypes
 pub mod Host
 pub mod Volumes
+pub mod Begun
 pub mod Sessions
 pub mod Recording
 pub mod Frames

@@ -2,15 +2,14 @@
 -- module, a session that runs, one that is finished, a module for instances, an instance that isn't finished, one that is, or
 -- nothing) by its cases; in the second `Begins`, `Paused` and
 -- `Finishes` tie these calls to the session of `sandbox_core`.
-use Rattle.std.specs.Prelude.{◌≡◌, ◌-◌, ◌^◌, ◌==◌, ℕ, Bool, true, false, List, [], length, take, drop, ◌++◌, min, max, Option, Some, None, Result, Ok, Err, if◌then◌else◌}
+use Rattle.std.specs.Prelude.{◌≡◌, ◌==◌, ℕ, Bool, true, false, List, [], length, take, drop, ◌++◌, min, Option, Some, None, Result, Ok, Err, if◌then◌else◌}
 use Rattle.vol_sector.specs.declared.fault.Refused.{Refused}
 use Rattle.wasm_module.specs.declared.module.Module.{Module}
 use Rattle.wasm_module.specs.declared.profile.Profile.{Profile}
 use Rattle.wasm_module.specs.declared.profile.Profile.TheVariants.{Integers}
 use Rattle.wasm_module.specs.Module.{SpellsWith}
 use Rattle.wasm_valid.specs.Validity.{IsValid}
-use Rattle.wasm_steps.specs.declared.pause.Pause.{Pause}
-use Rattle.sandbox_core.specs.Session.{given, used_by}
+use Rattle.wasm_interp.specs.Machine.{Represents}
 use Rattle.sandbox_device.specs.declared.recorded_device.RecordedDevice.{RecordedDevice}
 use Rattle.sandbox_host.specs.declared.numbers.Told.{Told}
 use Rattle.sandbox_host.specs.declared.supplies.Supplies.{Supplies}
@@ -23,10 +22,8 @@ use Rattle.sandbox_host.specs.declared.modules.LoadedModule.TheVariants.{Plain, 
 use Rattle.sandbox_host.specs.declared.session.HostSession.{HostSession}
 use Rattle.sandbox_host.specs.declared.session.HostSession.TheVariants.{Own, Shared}
 use Rattle.wasm_interp.specs.Shared.{Ready}
-use Rattle.sandbox_host.specs.Numbers.{told_pause}
-use Rattle.sandbox_host.specs.Supplies.{most_output, most_values, is_known, settings_of}
-use Rattle.sandbox_host.specs.Host.{HostVolume, Bytes, State, Opens, Shares, Resumes, Commits}
-use Rattle.sandbox_host.specs.Volumes.{IsVolume}
+use Rattle.sandbox_host.specs.Host.{HostVolume, Bytes, State, Commits}
+use Rattle.sandbox_host.specs.Begun.{BeginsBy, PausedBy, ResumedBy}
 
 -- ---- modules and sessions, of which some share what was made once
 
@@ -227,22 +224,9 @@ sectors (Some held) = sectors_of held
 abbrev pub IsShown : {X : Type 0} → List X → List X → List X → Type 0
 IsShown items before after = let count = min (length before) (length items) in after ≡ take count items ++ drop count before
 
--- A session of the module over the volume that was named, with what the guest was given, which has used and written nothing.
-pub record Begins (m : Module) (supplies : Supplies) (origin : Origin) (s : State) : Type 0 where
-  pub known : is_known supplies.limits ≡ true
-  pub volume : HostVolume
-  pub is_volume : IsVolume origin volume
-  pub out : Bytes
-  pub err : Bytes
-  pub no_output : out.bytes.items ≡ []
-  pub no_errors : err.bytes.items ≡ []
-  pub output_bound : out.most ≡ most_output supplies.limits
-  pub errors_bound : err.most ≡ most_output supplies.limits
-  pub output_open : out.full ≡ false
-  pub errors_open : err.full ≡ false
-  pub values : s.machine.most_values ≡ max (most_values supplies.limits) 4097
-  pub opens : Opens m (given (settings_of supplies) volume supplies.input out err) s
-  pub shares : Shares (given (settings_of supplies) volume supplies.input out err) s
+-- by the relation that the machine has
+abbrev pub Begins : Module → Supplies → Origin → State → Type 0
+Begins = BeginsBy Represents
 
 -- the module that the bytes spell, with what the profile takes, which is valid
 pub record IsLoadedWith (p : Profile) (bytes : List ℕ) (m : Module) : Type 0 where
@@ -259,11 +243,12 @@ pub record BeginsFrom (bytes : List ℕ) (supplies : Supplies) (origin : Origin)
   pub is_loaded : IsLoaded bytes m
   pub begins : Begins m supplies origin s
 
--- a resume with at most these units, and not past 2^64 - 1 in all, and what it told
-pub record Paused (units : ℕ) (old new : State) (told : Told) : Type 0 where
-  pub pause : Pause
-  pub resumes : Resumes old new (min units (2 ^ 64 - 1 - used_by old)) pause
-  pub tells : told ≡ told_pause pause (used_by new)
+abbrev pub Paused : ℕ → State → State → Told → Type 0
+Paused = PausedBy Represents
+
+-- one call of `resume` after another: what each told, and the session after it
+abbrev pub Resumed : State → List (Told × State) → State → Type 0
+Resumed = ResumedBy Represents
 
 -- the device of what is handed back of a volume, and the number that is answered
 abbrev pub returned_device : Result HostVolume (Refused RecordedDevice) → RecordedDevice

@@ -16,8 +16,7 @@ use Rattle.sandbox_host.specs.declared.held.Ended.{Ended}
 use Rattle.sandbox_host.specs.declared.supplies.Supplies.{Supplies}
 use Rattle.sandbox_host.specs.declared.volumes.Origin.TheVariants.{Sectors}
 use Rattle.sandbox_host.specs.Host.{State}
-use Rattle.sandbox_host.specs.Sessions.{Begins, Paused, Finishes}
-use Rattle.sandbox_host.specs.Headline.{Resumed}
+use Rattle.sandbox_host.specs.Sessions.{Begins, Paused, Finishes, Resumed}
 use Rattle.sandbox_host.specs.Recording.{KeepsRecord}
 
 -- the image stands for the tree at first, or for that after one of these resumes

@@ -8,7 +8,7 @@ use Rattle.vol_sector.specs.declared.fault.VolumeFault.TheVariants as fault
 use Rattle.vol_tree.specs.Stands.{StandsAs, empty_tree}
 use Rattle.vol_tree.specs.Fresh.{fresh}
 use Rattle.vol_tree.specs.Opening.{StandsOn, NoVolumeOn, HasNoVersion, IsDamaged}
-use Rattle.sandbox_host.specs.Host.{HostVolume, disk_of, size_of}
+use Rattle.sandbox_host.specs.HostTypes.{HostVolume, disk_of, size_of}
 use Rattle.sandbox_host.specs.declared.volumes.VolumeSource.{VolumeSource}
 use Rattle.sandbox_host.specs.declared.volumes.Origin.{Origin}
 use Rattle.sandbox_host.specs.declared.volumes.Origin.TheVariants.{Fresh, Sectors}

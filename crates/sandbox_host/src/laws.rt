@@ -5,19 +5,19 @@ ghost use Rattle.sandbox_host.specs.Carried.{IsCarried, IsCarriedOn};
 ghost use Rattle.sandbox_host.specs.Settled.{IsSettled, IsSettledSoFar, IsSyncSettled, IsRecordKept, IsRecordKeptSoFar};
 
 use crate::kept::KeptOutput;
-use sandbox_core::laws::{OwnMeaning, headline, turns_are_safe};
+use sandbox_core::laws::{SnapshotMeaning, headline, turns_are_safe};
 use sandbox_device::RecordedDevice;
 use sandbox_device::laws::record_is_followed;
 use vol_tree::one_tree;
 
-/// Whatever is called on a session that was opened, the calls of `resume` are resumes of it, told by their numbers, and the
-/// headline of `sandbox_core` holds of them: the guest's steps are a run of the reduction rules over a tree of paths, each
-/// image that a crash may leave stands for the tree after a first part of its calls, and what is outside its directories
-/// stays.
-pub fn host_headline()
-    ensures { HostHeadline }
+/// By whichever relation machines stand for configurations, whatever is called on a session that was opened, the calls of
+/// `resume` are resumes of it, told by their numbers, and the headline of `sandbox_core` holds of them: the guest's steps are a
+/// run of the reduction rules over a tree of paths, each image that a crash may leave stands for the tree after a first part of
+/// its calls, and what is outside its directories stays.
+pub fn host_headline<M: SnapshotMeaning>()
+    ensures { HostHeadline M.stands }
 {
-    headline::<OwnMeaning, RecordedDevice, &'static [u8], KeptOutput, KeptOutput>();
+    headline::<M, RecordedDevice, &'static [u8], KeptOutput, KeptOutput>();
     turns_are_safe::<RecordedDevice, &'static [u8], KeptOutput, KeptOutput>();
 }
 

@@ -2,5 +2,6 @@
 -- `Faults`, and `Reporting` its lines on the end from `Ends`.
 pub mod Counting
 pub mod Faults
+pub mod EndNumbers
 pub mod Ends
 pub mod Reporting
