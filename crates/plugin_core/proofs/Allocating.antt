@@ -6,7 +6,8 @@ use Rattle.wasm_module.specs.declared.module.Import.{Import}
 use Rattle.wasm_store.specs.declared.linked.Linked.TheVariants.{Host}
 use Rattle.wasm_store.specs.Instances.{Callee}
 use Rattle.wasm_store.specs.Instantiation.{LinksOf, AreLinked}
-use Rattle.wasm_store.specs.Allocating.{AreLinkedTo, all_by_host}
+use Rattle.wasm_store.specs.Allocation.{AreLinkedTo}
+use Rattle.wasm_store.specs.Allocating.{all_by_host}
 use Rattle.plugin_core.specs.Allocating.{InstancesAllocate}
 
 linked_to : (links : LinksOf) (types : List FuncType) (n : ℕ) (is : List Import) (cs : List Callee) → AreLinked links types is cs → AreLinkedTo (all_by_host links) types n is cs

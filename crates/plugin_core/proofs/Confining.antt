@@ -23,7 +23,7 @@ use Rattle.wasi_calls.proofs.runs.RowsKeep.{row_keeps}
 use Rattle.wasi_calls.proofs.runs.Confinement.{confined, answered_keeps}
 use Rattle.wasm_module.specs.declared.module.Module.{Module}
 use Rattle.plugin_steps.specs.Lives.{Invocation}
-use Rattle.wasm_store.specs.Allocating.{AllLinks}
+use Rattle.wasm_store.specs.Allocation.{AllLinks}
 use Rattle.plugin_core.specs.WholeLives.{Life}
 use Rattle.plugin_core.specs.Confined.{ConfinesLives}
 use Rattle.plugin_core.proofs.Living.{talk_carries, lives_carry}

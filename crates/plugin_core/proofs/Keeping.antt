@@ -12,7 +12,7 @@ use Rattle.wasi_calls.specs.laws.Moments.{CallsKeepMoments, Turn, Turns, is_sync
 use Rattle.wasi_calls.proofs.runs.Moments.{Changes, step_changes, keeps_all}
 use Rattle.wasm_module.specs.declared.module.Module.{Module}
 use Rattle.plugin_steps.specs.Lives.{Invocation}
-use Rattle.wasm_store.specs.Allocating.{AllLinks}
+use Rattle.wasm_store.specs.Allocation.{AllLinks}
 use Rattle.plugin_core.specs.WholeLives.{Life, calls_in}
 use Rattle.plugin_core.specs.Moments.{is_synced, ChangesBy, KeepsLives}
 use Rattle.plugin_core.proofs.Living.{talk_carries, lives_carry}

@@ -3,7 +3,8 @@ use Rattle.std.specs.Prelude.{ℕ, List}
 use Rattle.wasm_module.specs.declared.module.Module.{Module}
 use Rattle.wasm_store.specs.Instances.{Instance, Store}
 use Rattle.wasm_store.specs.Instantiation.{LinksOf, Instantiates}
-use Rattle.wasm_store.specs.Allocating.{Allocates, all_by_host}
+use Rattle.wasm_store.specs.Allocation.{Allocates}
+use Rattle.wasm_store.specs.Allocating.{all_by_host}
 
 -- its imports are all answered by the host
 abbrev pub InstancesAllocate : Type 0

@@ -7,7 +7,7 @@ use Rattle.wasm_steps.specs.Steps.{CallsOf}
 use Rattle.wasi_calls.specs.World.{World}
 use Rattle.wasi_calls.specs.laws.Confined.{IsConfined, named_by, HasOnlyDirectoriesOpen, IsHostOf}
 use Rattle.plugin_steps.specs.Lives.{Invocation}
-use Rattle.wasm_store.specs.Allocating.{AllLinks}
+use Rattle.wasm_store.specs.Allocation.{AllLinks}
 use Rattle.plugin_core.specs.WholeLives.{Life}
 
 -- over a host whose calls are those of the worlds that it shows, where its device keeps its model

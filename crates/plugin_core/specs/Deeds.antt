@@ -6,7 +6,7 @@ use Rattle.wasm_steps.specs.Configuration.{Instance, Store, Configuration, store
 use Rattle.wasm_steps.specs.Steps.{CallsOf}
 use Rattle.plugin_steps.specs.Lives.{returns}
 use Rattle.plugin_steps.specs.Acting.{Deed, at_work, invocations, Acts}
-use Rattle.wasm_store.specs.Allocating.{AllLinks, Allocates, HasInitializer}
+use Rattle.wasm_store.specs.Allocation.{AllLinks, Allocates, HasInitializer}
 use Rattle.plugin_core.specs.WholeLives.{OnlyLastExits, Life}
 
 -- Of a machine that stood for the first configuration. Another function is entered only where the opening returned, and none after

@@ -12,7 +12,7 @@ use Rattle.wasm_steps.specs.declared.pause.Pause.TheVariants.{Called, Spent, End
 use Rattle.wasm_num.specs.declared.trap.Trap.{Trap}
 use Rattle.wasm_store.specs.declared.call.HostCall.{HostCall}
 use Rattle.wasm_store.specs.declared.call.Errno.{Errno}
-use Rattle.wasm_store.specs.Allocating.{AllLinks}
+use Rattle.wasm_store.specs.Allocation.{AllLinks}
 use Rattle.wasm_store.specs.Instances.{outside}
 use Rattle.wasm_steps.specs.Configuration.{Val, numbers, Instance, Configuration, store_of}
 use Rattle.wasm_steps.specs.Steps.{CallsOf}

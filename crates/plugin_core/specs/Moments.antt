@@ -11,7 +11,7 @@ use Rattle.wasm_steps.specs.Steps.{CallsOf}
 use Rattle.wasi_calls.specs.Errnos.{SUCCESS}
 use Rattle.wasi_calls.specs.laws.Moments.{Turn, IsSafe, AllKept, CallsKeepMoments, is_sync}
 use Rattle.plugin_steps.specs.Lives.{Invocation}
-use Rattle.wasm_store.specs.Allocating.{AllLinks}
+use Rattle.wasm_store.specs.Allocation.{AllLinks}
 use Rattle.plugin_core.specs.WholeLives.{Life, answered_in}
 
 -- a sync that was answered with success

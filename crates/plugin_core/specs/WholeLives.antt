@@ -10,7 +10,7 @@ use Rattle.wasm_steps.specs.Steps.{CallsOf}
 use Rattle.plugin_steps.specs.Serving.{Exchange}
 use Rattle.plugin_steps.specs.Talks.{Talk}
 use Rattle.plugin_steps.specs.Lives.{Ending, returns, exits, EndsWith, Invocation, LivesBy}
-use Rattle.wasm_store.specs.Allocating.{AllLinks, Allocates, HasInitializer}
+use Rattle.wasm_store.specs.Allocation.{AllLinks, Allocates, HasInitializer}
 
 -- what an invocation ends with after which others may come
 abbrev pub MayGoOn : Ending → Type 0

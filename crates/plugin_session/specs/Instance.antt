@@ -5,7 +5,8 @@ use Rattle.std.specs.Option.{option_map}
 use Rattle.wasm_module.specs.declared.module.ExportKind.TheVariants as exports
 use Rattle.wasm_module.specs.declared.module.Module.{Module}
 use Rattle.wasm_store.specs.declared.fault.InstanceFault.TheVariants.{Memory as NoMemory}
-use Rattle.wasm_store.specs.Allocating.{AllLinks, NotAllocated, with_embedder}
+use Rattle.wasm_store.specs.Allocation.{AllLinks, with_embedder}
+use Rattle.wasm_store.specs.Allocating.{NotAllocated}
 use Rattle.wasm_interp.specs.declared.invoking.Event.{Event}
 use Rattle.wasm_interp.specs.declared.invoking.Event.TheVariants as events
 use Rattle.wasm_steps.specs.Outcomes.{UnitsRise}

@@ -1,7 +1,7 @@
 -- A limit on values changes no configuration that a machine stands for.
 use Rattle.std.proofs.Common.{ℕ, arith}
 use Rattle.wasm_module.specs.declared.module.Module.{Module}
-use Rattle.wasm_store.specs.Allocating.{AllLinks}
+use Rattle.wasm_store.specs.Allocation.{AllLinks}
 use Rattle.wasm_store.specs.Instantiation.{LinksOf}
 use Rattle.wasm_steps.specs.Configuration.{Configuration, Instance}
 use Rattle.wasm_interp.specs.Machine.{Represents, Snapshot, limited}

@@ -7,7 +7,8 @@ use Rattle.wasm_store.specs.declared.linked.Linked.{Linked}
 use Rattle.wasm_store.specs.declared.linked.Linked.TheVariants.{Host, Embedder}
 use Rattle.wasm_store.specs.declared.instantiation.Allocated.{Allocated}
 use Rattle.wasm_store.specs.declared.instantiation.Instantiated.{Instantiated}
-use Rattle.wasm_store.specs.Allocating.{AllLinks, AreLinkedTo, IsAllocated, IsLinkedTo}
+use Rattle.wasm_store.specs.Allocation.{AllLinks, AreLinkedTo, IsLinkedTo}
+use Rattle.wasm_store.specs.Allocating.{IsAllocated}
 use Rattle.wasm_store.specs.Instantiation.{LinksOf, IsLinked, AreLinked}
 use Rattle.wasm_store.specs.Instantiating.{IsCallee, IsInstantiated}
 use Rattle.wasm_steps.specs.Configuration.{Callee, signature_of}

@@ -10,7 +10,7 @@ use Rattle.wasm_module.specs.Nested.{done, invoke}
 use Rattle.wasm_steps.specs.Operators.{width}
 use Rattle.wasm_steps.specs.Configuration.{Val, val, numbers, Callee, signature_of, Instance, Store, first_configuration, Code, code, code_of, Configuration, at, store_of, used_by}
 use Rattle.wasm_steps.specs.Steps.{CallsOf, Reach, tick}
-use Rattle.wasm_store.specs.Allocating.{AllLinks, Allocates, HasInitializer}
+use Rattle.wasm_store.specs.Allocation.{AllLinks, Allocates, HasInitializer}
 use Rattle.wasm_store.specs.Instances.{outside}
 use Rattle.plugin_steps.specs.Serving.{Exchange, ServeStep, with_memory}
 use Rattle.plugin_steps.specs.Asking.{Asks}

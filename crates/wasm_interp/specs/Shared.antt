@@ -4,7 +4,7 @@ use Rattle.wasm_module.specs.declared.module.Module.{Module}
 use Rattle.wasm_store.specs.declared.linked.Linked.{Linked}
 use Rattle.wasm_steps.specs.Configuration.{Callee}
 use Rattle.wasm_store.specs.Instantiation.{LinksOf, AreLinked}
-use Rattle.wasm_store.specs.Allocating.{AllLinks, AreLinkedTo}
+use Rattle.wasm_store.specs.Allocation.{AllLinks, AreLinkedTo}
 use Rattle.wasm_interp.specs.Stands.{AreCallees}
 
 -- what callers see of it: the module, found valid, how many pages a memory may have, and what answers each import

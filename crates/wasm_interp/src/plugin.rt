@@ -1,7 +1,8 @@
 //! Modules that are prepared for instances whose exports are called.
 
 ghost use Rattle.std.specs.Prelude.{◌≡◌, IfOk, IfErr};
-ghost use Rattle.wasm_store.specs.Allocating.{NotAllocated, with_embedder};
+ghost use Rattle.wasm_store.specs.Allocation.{with_embedder};
+ghost use Rattle.wasm_store.specs.Allocating.{NotAllocated};
 ghost use Rattle.wasm_interp.specs.Invoking.{Opens};
 ghost use Rattle.wasm_interp.specs.Shared.{AreLinksOf};
 

@@ -12,7 +12,8 @@ use Rattle.wasm_store.specs.declared.linked.Linked.TheVariants.{Host}
 use Rattle.wasm_store.specs.Instances.{Callee, callee_of}
 use Rattle.wasm_store.specs.Instantiation.{LinksOf, IsLinked, AreLinked, SomeUnlinked}
 use Rattle.wasm_store.specs.Instantiating.{AreCallees}
-use Rattle.wasm_store.specs.Allocating.{AllLinks, IsLinkedTo, AreLinkedTo, SomeUnlinkedTo, all_by_host}
+use Rattle.wasm_store.specs.Allocation.{AllLinks, IsLinkedTo, AreLinkedTo}
+use Rattle.wasm_store.specs.Allocating.{SomeUnlinkedTo, all_by_host}
 use Rattle.wasm_store.specs.internal.Finding.{AreFound}
 use Rattle.wasm_store.proofs.Functions.{left_from, nothing_left}
 

@@ -18,7 +18,8 @@ use Rattle.wasm_store.specs.Instantiating.{AreCallees, IsInstantiated}
 use Rattle.wasm_store.specs.Instances.{Callee, callee_of, outside}
 use Rattle.wasm_store.specs.declared.linked.Linked.{Linked}
 use Rattle.wasm_store.specs.declared.linked.Linked.TheVariants.{Embedder}
-use Rattle.wasm_store.specs.Allocating.{AllLinks, EntersFirst, all_by_host, AllLinked, HasInitializer, IsInitializer, IsAllocated, NotAllocated}
+use Rattle.wasm_store.specs.Allocation.{AllLinks, HasInitializer, IsInitializer}
+use Rattle.wasm_store.specs.Allocating.{EntersFirst, all_by_host, AllLinked, IsAllocated, NotAllocated}
 use Rattle.wasm_store.proofs.Functions.{own_callees}
 use Rattle.wasm_store.proofs.Imports.{by_host_linked, by_host_unlinked}
 

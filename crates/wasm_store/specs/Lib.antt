@@ -8,6 +8,7 @@ pub mod Elements
 pub mod Instances
 pub mod Instantiation
 pub mod Instantiating
+pub mod Allocation
 pub mod Allocating
 pub mod Lending
 pub mod internal

@@ -9,7 +9,8 @@ ghost use Rattle.std.specs.Option.{option_map};
 ghost use Rattle.wasm_store.specs.Instantiation.{IsExportedAs, AreFirst, minimum, page_limit as limit_of, segment_start, ElementsInside, ElementsOutside, DataInside, DataOutside, with_elements, with_data, RefusedFor};
 ghost use Rattle.wasm_store.specs.internal.Finding.{IsNarrow, ImportsFunctions, HasType, ExportsAs, AreFound, NotFound, HaveFirst, AreStored, NotStored, links_with};
 ghost use Rattle.wasm_store.specs.Instantiating.{IsInstantiated};
-ghost use Rattle.wasm_store.specs.Allocating.{IsAllocated, NotAllocated, may_embed as may_be_embedders, with_embedder};
+ghost use Rattle.wasm_store.specs.Allocation.{may_embed as may_be_embedders, with_embedder};
+ghost use Rattle.wasm_store.specs.Allocating.{IsAllocated, NotAllocated};
 
 use crate::fault::InstanceFault;
 use crate::globals::Globals;

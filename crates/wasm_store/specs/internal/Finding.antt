@@ -19,7 +19,8 @@ use Rattle.wasm_store.specs.Values.{Val, IsInType, numbers}
 use Rattle.wasm_store.specs.Instances.{Callee}
 use Rattle.wasm_store.specs.Instantiation.{LinksOf, AreFirst, minimum, ElementsInside, ElementsOutside, DataInside, DataOutside, with_elements, with_data}
 use Rattle.wasm_store.specs.Instantiating.{AreCallees}
-use Rattle.wasm_store.specs.Allocating.{AllLinks, AreLinkedTo, SomeUnlinkedTo, all_by_host, with_embedder}
+use Rattle.wasm_store.specs.Allocation.{AllLinks, AreLinkedTo, with_embedder}
+use Rattle.wasm_store.specs.Allocating.{SomeUnlinkedTo, all_by_host}
 
 -- an expression of a constant of 32 bits
 abbrev pub IsNarrow : List Instruction → Type 0

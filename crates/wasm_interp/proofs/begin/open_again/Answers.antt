@@ -1,5 +1,5 @@
 use Rattle.std.proofs.Common.{length, sym, ap, subst, ◌∙◌, arith}
-use Rattle.wasm_store.specs.Allocating.{with_embedder}
+use Rattle.wasm_store.specs.Allocation.{with_embedder}
 use Rattle.wasm_interp.specs.declared.state.State.{State}
 use Rattle.wasm_interp.proofs.PlainSteps.Opening.{first_of}
 use Rattle.wasm_interp.proofs.Linking.{links_again, limit_opened}

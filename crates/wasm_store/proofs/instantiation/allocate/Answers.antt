@@ -4,7 +4,8 @@ use Rattle.wasm_module.specs.declared.module.Module.{Module}
 use Rattle.wasm_valid.specs.Validity.{IsValid}
 use Rattle.wasm_store.specs.declared.instantiation.Allocated.{Allocated}
 use Rattle.wasm_store.specs.Instantiation.{minimum, page_limit}
-use Rattle.wasm_store.specs.Allocating.{with_embedder, IsAllocated, NotAllocated}
+use Rattle.wasm_store.specs.Allocation.{with_embedder}
+use Rattle.wasm_store.specs.Allocating.{IsAllocated, NotAllocated}
 use Rattle.wasm_store.proofs.Functions.{imports_functions}
 use Rattle.wasm_store.specs.declared.linked.Linked.{Linked}
 use Rattle.wasm_store.specs.declared.fault.InstanceFault.TheVariants as faults
