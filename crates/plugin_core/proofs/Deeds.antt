@@ -3,7 +3,7 @@ use Rattle.std.proofs.Common.{refl, subst}
 use Rattle.wasm_steps.specs.Configuration.{Instance, Configuration}
 use Rattle.wasm_steps.specs.Steps.{CallsOf}
 use Rattle.plugin_steps.specs.Lives.{Ending, EndsWith}
-use Rattle.plugin_steps.specs.Acting.{at_work}
+use Rattle.plugin_steps.specs.Deeds.{at_work}
 use Rattle.plugin_steps.proofs.Acting.{acts_are_a_life}
 use Rattle.plugin_core.specs.Deeds.{DeedsAreALife}
 

@@ -23,10 +23,11 @@ use Rattle.wasm_interp.proofs.PlainSteps.Arguments.{types_given, numbers_given, 
 use Rattle.wasm_interp.proofs.PlainSteps.Answering.{in_types}
 use Rattle.wasm_interp.proofs.PlainSteps.Invoking.{all_turned, globals_represented}
 use Rattle.plugin_steps.specs.Serving.{Exchange, ServeStep, with_memory}
-use Rattle.plugin_steps.specs.Talks.{Does}
-use Rattle.plugin_steps.specs.Talks as talks
+use Rattle.plugin_steps.specs.Embedding.{Does}
+use Rattle.plugin_steps.specs.Embedding as embedding
 use Rattle.plugin_steps.specs.Lives.{Ending, returns, traps, exits, is_abandoned, EndsWith, Writes, Invocation, invocation}
-use Rattle.plugin_steps.specs.Acting.{Deed, at_work, invocations, Enters, Acts}
+use Rattle.plugin_steps.specs.Deeds.{Deed, at_work, invocations}
+use Rattle.plugin_steps.specs.Acting.{Enters, Acts}
 use Rattle.plugin_steps.specs.Acting as acting
 use Rattle.plugin_steps.specs.Asking as asking
 use Rattle.plugin_steps.proofs.Asking.{answers_where_asked}
@@ -359,23 +360,23 @@ module _ (H : Type 0) (Calls : CallsOf H) (m : Module) (i : Instance) where
   follow g b h h'' q s u c d _ (handling.does {h' = h'} {t = t} {ks = ks} _ may (handling.pauses units (Called call e) v) rest) base now since w =
       let n = v.run i d now in
       let run : Reach H Calls i h d ((call, e) ∷ []) h' n.0 = reach_on H Calls i n.2.1 (steps_on (answered_by call e) [] n.2.2 stays) in
-      let does : Does H Calls i h c ((call, e) ∷ []) [] h' n.0 = subst (λ (z : Configuration). Does H Calls i h z ((call, e) ∷ []) [] h' n.0) (here_still g c d may since) (talks.resumes run talks.stops) in
+      let does : Does H Calls i h c ((call, e) ∷ []) [] h' n.0 = subst (λ (z : Configuration). Does H Calls i h z ((call, e) ∷ []) [] h' n.0) (here_still g c d may since) (embedding.resumes run embedding.stops) in
       going b h h' h'' q t c n.0 ((call, e) ∷ []) [] _ ks (goes_at_work g b may w) n.1 does (λ ds told. handling.called call e told)
       (follow g true h' h'' t t u n.0 n.0 ks rest n.1 n.1 (settled i g t n.0 n.1) (at_work_always g))
   follow g b h h'' q s u c d _ (handling.does {h' = h'} {t = t} {ks = ks} _ may (handling.pauses units Spent v) rest) base now since w =
       let n = v.run i d now in
-      let does : Does H Calls i h c [] [] h' n.0 = subst (λ (z : Configuration). Does H Calls i h z [] [] h' n.0) (here_still g c d may since) (talks.resumes n.2.0 talks.stops) in
+      let does : Does H Calls i h c [] [] h' n.0 = subst (λ (z : Configuration). Does H Calls i h z [] [] h' n.0) (here_still g c d may since) (embedding.resumes n.2.0 embedding.stops) in
       going b h h' h'' q t c n.0 [] [] _ ks (goes_at_work g b may w) n.1 does (λ ds told. handling.spent told)
       (follow g true h' h'' t t u n.0 n.0 ks rest n.1 n.1 (settled i g t n.0 n.1) (at_work_always g))
   follow g b h h'' q s u c d _ (handling.does {h' = h'} {t = t} {ks = ks} _ may (handling.pauses units (Ended o) v) rest) base now since w =
       let n = v.run i d now in
-      let does : Does H Calls i h c [] [] h' n.0 = subst (λ (z : Configuration). Does H Calls i h z [] [] h' n.0) (here_still g c d may since) (talks.resumes n.2.0 talks.stops) in
+      let does : Does H Calls i h c [] [] h' n.0 = subst (λ (z : Configuration). Does H Calls i h z [] [] h' n.0) (here_still g c d may since) (embedding.resumes n.2.0 embedding.stops) in
       let e = told_end h' o n.0 n.2.1 ks in
       ending b h h' h'' q t c n.0 e.0 _ ks (goes_at_work g b may w) n.1 does e.1 e.2
       (follow (ended_at g o) false h' h'' t t u n.0 n.0 ks rest n.1 n.1 (settled i (ended_at g o) t n.0 n.1) (ended_rests g o))
   follow g b h h'' q s u c d _ (handling.does {h' = h'} {t = t} {ks = ks} _ may (handling.has_returned units v) rest) base now since w =
       let n = v.run i d now in
-      let run : Does H Calls i h d [] [] h' n.0 = subst (λ (z : H). Does H Calls i h d [] [] z n.0) (sym v.host) (talks.resumes n.2 talks.stops) in
+      let run : Does H Calls i h d [] [] h' n.0 = subst (λ (z : H). Does H Calls i h d [] [] z n.0) (sym v.host) (embedding.resumes n.2 embedding.stops) in
       let does : Does H Calls i h c [] [] h' n.0 = subst (λ (z : Configuration). Does H Calls i h z [] [] h' n.0) (here_still g c d may since) run in
       let vs : List Val = n.5 in
       let so : EndsWith (returns vs) n.0 = subst (EndsWith (returns vs)) (sym n.6) refl in
@@ -383,7 +384,7 @@ module _ (H : Type 0) (Calls : CallsOf H) (m : Module) (i : Instance) where
       (follow (returned_at g (results_of t)) false h' h'' t t u n.0 n.0 ks rest n.1 n.1 (settled i (returned_at g (results_of t)) t n.0 n.1) (returned_rests g (results_of t)))
   follow g b h h'' q s u c d _ (handling.does {h' = h'} {t = t} {ks = ks} _ may (handling.asks units x v) rest) base now since w =
       let n = v.run i d now in
-      let run : Does H Calls i h d [] [] h' n.0 = subst (λ (z : H). Does H Calls i h d [] [] z n.0) (sym v.host) (talks.resumes n.2 talks.stops) in
+      let run : Does H Calls i h d [] [] h' n.0 = subst (λ (z : H). Does H Calls i h d [] [] z n.0) (sym v.host) (embedding.resumes n.2 embedding.stops) in
       let does : Does H Calls i h c [] [] h' n.0 = subst (λ (z : Configuration). Does H Calls i h z [] [] h' n.0) (here_still g c d may since) run in
       going b h h' h'' q t c n.0 [] [] _ ks (goes_at_work g b may w) n.1 does (λ ds told. handling.was_asked x told)
       (follow (asked_at g) true h' h'' t t u n.0 n.0 ks rest n.1 n.1 (settled i (asked_at g) t n.0 n.1) (at_work_always (asked_at g)))

@@ -5,7 +5,8 @@ use Rattle.wasm_module.specs.declared.module.Module.{Module}
 use Rattle.wasm_steps.specs.Configuration.{Instance, Store, Configuration, store_of, first_configuration}
 use Rattle.wasm_steps.specs.Steps.{CallsOf}
 use Rattle.plugin_steps.specs.Lives.{returns}
-use Rattle.plugin_steps.specs.Acting.{Deed, at_work, invocations, Acts}
+use Rattle.plugin_steps.specs.Deeds.{Deed, at_work, invocations}
+use Rattle.plugin_steps.specs.Acting.{Acts}
 use Rattle.wasm_store.specs.Allocation.{AllLinks, Allocates, HasInitializer}
 use Rattle.plugin_core.specs.WholeLives.{OnlyLastExits, Life}
 

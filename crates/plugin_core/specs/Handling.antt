@@ -23,7 +23,7 @@ use Rattle.wasm_interp.specs.Promise.{Resumed}
 use Rattle.wasm_interp.specs.Invoking.{Answers, Invokes, IsAsked, IsLetGo, IsWritten, Opens, Returns, results_of, values_of}
 use Rattle.plugin_steps.specs.Serving.{Exchange}
 use Rattle.plugin_steps.specs.Lives.{returns, traps, exits, is_abandoned}
-use Rattle.plugin_steps.specs.Acting.{Deed, went, ended, invocations}
+use Rattle.plugin_steps.specs.Deeds.{Deed, went, ended, invocations}
 use Rattle.plugin_steps.specs.Acting as deeds
 use Rattle.plugin_core.specs.declared.stage.Stage.{Stage}
 use Rattle.plugin_core.specs.declared.stage.Stage.TheVariants.{Opening, AskedOpening, Ready, Running, Asked, Stopped, Over}

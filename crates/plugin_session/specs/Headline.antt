@@ -12,7 +12,7 @@ use Rattle.wasi_calls.specs.laws.Confined.{IsConfined, named_by}
 use Rattle.sandbox_core.specs.Devices.{Devices, Calls, IsHonest, disk_of, numbers_of, tree_of}
 use Rattle.sandbox_core.specs.Session.{Shares}
 use Rattle.sandbox_core.specs.Safety.{IsSafeVolume}
-use Rattle.plugin_steps.specs.Acting.{Deed, invocations}
+use Rattle.plugin_steps.specs.Deeds.{Deed, invocations}
 use Rattle.plugin_core.specs.Handling.{Act, AreTold}
 use Rattle.plugin_core.specs.WholeLives.{Life, answered_in}
 use Rattle.plugin_core.specs.Moments.{KeptIn}

@@ -6,22 +6,23 @@ use Rattle.wasm_store.specs.declared.call.Errno.{Errno}
 use Rattle.wasm_steps.specs.Configuration.{Val, Instance, Store, Configuration, store_of}
 use Rattle.wasm_steps.specs.Steps.{CallsOf}
 use Rattle.plugin_steps.specs.Serving.{Exchange}
-use Rattle.plugin_steps.specs.Talks.{Does}
-use Rattle.plugin_steps.specs.Talks as talks
+use Rattle.plugin_steps.specs.Embedding.{Does}
+use Rattle.plugin_steps.specs.Embedding as embedding
 use Rattle.plugin_steps.specs.Lives.{invocation, EndsWith, LivesBy}
 use Rattle.plugin_steps.specs.Lives as lives
-use Rattle.plugin_steps.specs.Acting.{Deed, invoked, at_work, invocations, Enters, Acts, ActsAreALife}
+use Rattle.plugin_steps.specs.Deeds.{Deed, invoked, at_work, invocations}
+use Rattle.plugin_steps.specs.Acting.{Enters, Acts, ActsAreALife}
 use Rattle.plugin_steps.specs.Acting as acting
 use Rattle.plugin_steps.proofs.Talking.{one_talk, one_life}
 
 module _ (H : Type 0) (Calls : CallsOf H) (i : Instance) where
   -- one after the other
   does_on : (h g h' : H) (c d e : Configuration) (es fs : List (HostCall × Errno)) (xs ys : List Exchange) → Does H Calls i h c es xs g d → Does H Calls i g d fs ys h' e → Does H Calls i h c (es ++ fs) (xs ++ ys) h' e
-  does_on h g h' c d e _ fs _ ys talks.stops more = more
-  does_on h g h' c d e _ fs _ ys (talks.resumes {h' = k} {d = b} {es = es} {fs = later} {xs = xs} run rest) more =
-      subst (λ (z : List (HostCall × Errno)). Does H Calls i h c z (xs ++ ys) h' e) (sym (append_assoc es later fs)) (talks.resumes run (does_on k g h' b d e later fs xs ys rest more))
-  does_on h g h' c d e _ fs _ ys (talks.answers {d = b} {es = es} {xs = xs} m x longer left step rest) more =
-      talks.answers m x longer left step (does_on h g h' b d e es fs xs ys rest more)
+  does_on h g h' c d e _ fs _ ys embedding.stops more = more
+  does_on h g h' c d e _ fs _ ys (embedding.resumes {h' = k} {d = b} {es = es} {fs = later} {xs = xs} run rest) more =
+      subst (λ (z : List (HostCall × Errno)). Does H Calls i h c z (xs ++ ys) h' e) (sym (append_assoc es later fs)) (embedding.resumes run (does_on k g h' b d e later fs xs ys rest more))
+  does_on h g h' c d e _ fs _ ys (embedding.answers {d = b} {es = es} {xs = xs} m x longer left step rest) more =
+      embedding.answers m x longer left step (does_on h g h' b d e es fs xs ys rest more)
 
 module _ (H : Type 0) (Calls : CallsOf H) (m : Module) (i : Instance) {S : Type 0} (Stands : S → Configuration → Type 0) where
   -- the invocations from a store on
@@ -55,7 +56,7 @@ module _ (H : Type 0) (Calls : CallsOf H) (m : Module) (i : Instance) {S : Type 
       }
 
   comes : (b : Bool) (h h' : H) (s s' : S) (ds : List Deed) → Acts H Calls m i Stands b h s ds h' s' → (c : Configuration) → Stands s c → Comes b h c ds h' s'
-  comes true h h' s s' _ acting.stops c st = record { between = h; reached = c; goes_on = talks.stops; ends_so = tt; followed = record { last = c; stands = st; lives = lives.rests } }
+  comes true h h' s s' _ acting.stops c st = record { between = h; reached = c; goes_on = embedding.stops; ends_so = tt; followed = record { last = c; stands = st; lives = lives.rests } }
   comes false h h' s s' _ acting.stops c st = record { last = c; stands = st; lives = lives.rests }
   comes b h h' s s' _ (acting.goes {h' = g} {s' = t} {ds = ds} es xs run rest) c st =
       let (d, now, does) = run c st in
@@ -69,9 +70,9 @@ module _ (H : Type 0) (Calls : CallsOf H) (m : Module) (i : Instance) {S : Type 
       }
   comes b h h' s s' _ (acting.ends {ds = ds} e so rest) c st =
       let followed = comes false h h' s s' ds rest c st in
-      record { between = h; reached = c; goes_on = talks.stops; ends_so = so c st; followed = record { last = followed.last; stands = followed.stands; lives = followed.lives } }
+      record { between = h; reached = c; goes_on = embedding.stops; ends_so = so c st; followed = record { last = followed.last; stands = followed.stands; lives = followed.lives } }
   comes true h h' s s' _ (acting.invokes {s' = t} {ds = ds} x args e rest) c st =
-      record { between = h; reached = c; goes_on = talks.stops; ends_so = tt; followed = entered h h' s t s' c x args ds st e (λ d now. comes true h h' t s' ds rest d now) }
+      record { between = h; reached = c; goes_on = embedding.stops; ends_so = tt; followed = entered h h' s t s' c x args ds st e (λ d now. comes true h h' t s' ds rest d now) }
   comes false h h' s s' _ (acting.invokes {s' = t} {ds = ds} x args e rest) c st = entered h h' s t s' c x args ds st e (λ d now. comes true h h' t s' ds rest d now)
 
 pub acts_are_a_life : (H : Type 0) (Calls : CallsOf H) (S : Type 0) (Stands : S → Instance → Configuration → Type 0) → ActsAreALife H Calls S Stands

@@ -3,8 +3,9 @@ use Rattle.std.proofs.Common.{ℕ, suc, List, []}
 use Rattle.wasm_steps.specs.Configuration.{Val, Instance, Store, Code, at}
 use Rattle.wasm_steps.specs.Steps.{CallsOf, tick, silent, Step, plain_step, call_step, call_indirect_step, stays, goes}
 use Rattle.wasm_steps.specs.Steps as steps
-use Rattle.plugin_steps.specs.Talks as talks
-use Rattle.plugin_steps.specs.Asking.{Asks, AnswersWhereAsked}
+use Rattle.plugin_steps.specs.Embedding as embedding
+use Rattle.plugin_steps.specs.Asking.{Asks}
+use Rattle.plugin_steps.specs.Embedding.{AnswersWhereAsked}
 use Rattle.plugin_steps.specs.Asking as asking
 
 module _ (H : Type 0) (Calls : CallsOf H) where
@@ -16,4 +17,4 @@ module _ (H : Type 0) (Calls : CallsOf H) where
 
   pub answers_where_asked : AnswersWhereAsked H Calls
   answers_where_asked i x h s f c c' m e d a longer left served =
-      talks.resumes (goes silent [] (asks_steps i x h s 0 f c c' a) stays) (talks.answers m e longer left served talks.stops)
+      embedding.resumes (goes silent [] (asks_steps i x h s 0 f c c' a) stays) (embedding.answers m e longer left served embedding.stops)

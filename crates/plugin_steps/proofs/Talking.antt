@@ -4,9 +4,11 @@ use Rattle.wasm_steps.specs.Configuration.{Val, Instance, Store, Code, Configura
 use Rattle.wasm_steps.specs.Steps.{CallsOf}
 use Rattle.plugin_steps.specs.Serving.{Exchange, ServeStep, with_memory, ServingTakesNoUnit}
 use Rattle.plugin_steps.specs.Serving as serving
-use Rattle.plugin_steps.specs.Talks.{Talk, Does, OneTalk}
+use Rattle.plugin_steps.specs.Talks.{Talk}
 use Rattle.plugin_steps.specs.Talks as talks
-use Rattle.plugin_steps.specs.Lives.{OneLife, invocation, rests, invokes}
+use Rattle.plugin_steps.specs.Lives.{invocation, rests, invokes}
+use Rattle.plugin_steps.specs.Embedding.{Does, OneLife, OneTalk}
+use Rattle.plugin_steps.specs.Embedding as embedding
 
 pub free : ServingTakesNoUnit
 free i _ _ _ (serving.serves args vs results callee is count typed longer) = refl
@@ -25,9 +27,9 @@ absorbs i s f _ m _ _ longer (serving.in_frame {s' = s'} {g = g} {g' = g'} {c = 
 
 module _ (H : Type 0) (Calls : CallsOf H) where
   pub one_talk : OneTalk H Calls
-  one_talk i h h' c d _ _ talks.stops = talks.ends
-  one_talk i h h' c d _ _ (talks.resumes {h' = g} {d = b} {es = es} {fs = fs} {xs = xs} run rest) = talks.runs run (one_talk i g h' b d fs xs rest)
-  one_talk i h h' (at s f c) d _ _ (talks.answers {d = b} {es = es} {xs = xs} m x longer left step rest) =
+  one_talk i h h' c d _ _ embedding.stops = talks.ends
+  one_talk i h h' c d _ _ (embedding.resumes {h' = g} {d = b} {es = es} {fs = fs} {xs = xs} run rest) = talks.runs run (one_talk i g h' b d fs xs rest)
+  one_talk i h h' (at s f c) d _ _ (embedding.answers {d = b} {es = es} {xs = xs} m x longer left step rest) =
       talks.serves (record x { memory = s.memory }) (absorbs i s f c m x b longer step) (one_talk i h h' b d es xs rest)
 
   pub one_life : OneLife H Calls

@@ -1,6 +1,6 @@
 -- What is done with a machine that stands for configurations of an instance: it is let go on, asked and answered, and told to enter
 -- exported functions. All of it is a life of the instance, whatever machine it is.
-use Rattle.std.specs.Prelude.{ℕ, Bool, true, false, List, [], ◌∷◌, ◌++◌}
+use Rattle.std.specs.Prelude.{ℕ, Bool, true, false, List, [], ◌∷◌}
 use Rattle.wasm_module.specs.declared.module.Module.{Module}
 use Rattle.wasm_module.specs.declared.module.FuncType.{FuncType}
 use Rattle.wasm_store.specs.declared.call.HostCall.{HostCall}
@@ -8,35 +8,10 @@ use Rattle.wasm_store.specs.declared.call.Errno.{Errno}
 use Rattle.wasm_steps.specs.Configuration.{Val, Instance, Store, Configuration, store_of}
 use Rattle.wasm_steps.specs.Steps.{CallsOf}
 use Rattle.plugin_steps.specs.Serving.{Exchange, AreOf}
-use Rattle.plugin_steps.specs.Talks.{Talk, Does}
-use Rattle.plugin_steps.specs.Lives.{invocation, Ending, is_abandoned, EndsWith, Writes, Invocation, IsExported, LivesBy}
-
-pub data Deed : Type 0 where
-  -- a function is entered with these arguments, the last one first, after what was written
-  invoked : ℕ → List Val → Deed
-  -- the machine went on: the WASI host answered these calls, and the embedder was asked these
-  went : List (HostCall × Errno) → List Exchange → Deed
-  -- it told that the invocation at work has ended so
-  ended : Ending → Deed
-
--- what became of the invocation at work, until another function is entered
-pub record Part : Type 0 where
-  pub calls : List (HostCall × Errno)
-  pub exchanges : List Exchange
-  pub ending : Ending
-
-abbrev pub at_work : List Deed → Part
-at_work [] = record { calls = []; exchanges = []; ending = is_abandoned }
-at_work (invoked x args ∷ ds) = record { calls = []; exchanges = []; ending = is_abandoned }
-at_work (went es xs ∷ ds) = record { calls = es ++ (at_work ds).calls; exchanges = xs ++ (at_work ds).exchanges; ending = (at_work ds).ending }
-at_work (ended e ∷ ds) = record { calls = []; exchanges = []; ending = e }
-
--- the invocations, with what became of each
-abbrev pub invocations : List Deed → List Invocation
-invocations [] = []
-invocations (invoked x args ∷ ds) = record { function = x; arguments = args; calls = (at_work ds).calls; exchanges = (at_work ds).exchanges; ending = (at_work ds).ending } ∷ invocations ds
-invocations (went es xs ∷ ds) = invocations ds
-invocations (ended e ∷ ds) = invocations ds
+use Rattle.plugin_steps.specs.Talks.{Talk}
+use Rattle.plugin_steps.specs.Embedding.{Does}
+use Rattle.plugin_steps.specs.Lives.{invocation, Ending, EndsWith, Writes, IsExported, LivesBy}
+pub use Rattle.plugin_steps.specs.Deeds.{Deed, invoked, went, ended, Part, at_work, invocations}
 
 module _ (H : Type 0) (Calls : CallsOf H) (m : Module) (i : Instance) {S : Type 0} (Stands : S → Configuration → Type 0) where
   -- whatever the machine stood for, it stands for the invocation of an exported function, over a store with what was written

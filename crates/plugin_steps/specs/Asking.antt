@@ -1,13 +1,10 @@
 -- Where the embedder is asked: the call of one of its functions comes next. It is stopped before that instruction, and what it writes
--- there and answers is what `Does` says of it: the call reads no memory.
-use Rattle.std.specs.Prelude.{◌≡◌, ℕ, ◌≤◌, List, [], ◌∷◌, length, slice_get, Some}
+-- there and answers is what `Does` says of it (`Embedding`): the call reads no memory.
+use Rattle.std.specs.Prelude.{◌≡◌, ℕ, List, ◌∷◌, slice_get, Some}
 use Rattle.wasm_module.specs.declared.instruction.ValueType.TheVariants.{I32}
 use Rattle.wasm_module.specs.declared.instruction.Instruction.TheVariants as op
 use Rattle.wasm_module.specs.Nested.{Instructions, plain, invoke}
-use Rattle.wasm_steps.specs.Configuration.{Val, val, Callee, signature_of, Instance, Store, Code, code, label, frame, Configuration, at}
-use Rattle.wasm_steps.specs.Steps.{CallsOf, tick}
-use Rattle.plugin_steps.specs.Serving.{Exchange, ServeStep}
-use Rattle.plugin_steps.specs.Talks.{Does}
+use Rattle.wasm_steps.specs.Configuration.{Val, val, Callee, signature_of, Instance, Store, Code, code, label, frame}
 
 -- with this table, the next instruction calls function x, by its index or by the table, and then x is entered
 pub data Asks (i : Instance) (x : ℕ) (s : Store) : Code → Code → Type 0 where
@@ -16,10 +13,3 @@ pub data Asks (i : Instance) (x : ℕ) (s : Store) : Code → Code → Type 0 wh
       → Asks i x s (code (val I32 e ∷ vs) (plain (op.CallIndirect y) rest)) (code vs (invoke x rest))
   in_label : {m : ℕ} {vs : List Val} {k rest : Instructions} {c c' : Code} → Asks i x s c c' → Asks i x s (label vs m k c rest) (label vs m k c' rest)
   in_frame : {m : ℕ} {g vs : List Val} {rest : Instructions} {c c' : Code} → Asks i x s c c' → Asks i x s (frame vs m g c rest) (frame vs m g c' rest)
-
--- stopped before the call, the embedder leaves memory m, and then its function gives this: it did so where it was asked, and the call
--- took its unit
-abbrev pub AnswersWhereAsked : (H : Type 0) → CallsOf H → Type 0
-AnswersWhereAsked H Calls = (i : Instance) (x : ℕ) (h : H) (s : Store) (f : List Val) (c c' : Code) (m : List ℕ) (e : Exchange) (d : Configuration)
-    → Asks i x s c c' → length s.memory ≤ length m → e.left ≡ m → ServeStep i (at (tick (record s { memory = m })) f c') e d
-    → Does H Calls i h (at s f c) [] (record e { memory = s.memory } ∷ []) h d

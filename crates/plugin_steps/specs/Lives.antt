@@ -13,7 +13,6 @@ use Rattle.wasm_store.specs.Values.{IsInType}
 use Rattle.wasm_steps.specs.Configuration.{Val, types, Callee, signature_of, Instance, Store, code, stopped, trapped, exited, Configuration, at, store_of}
 use Rattle.wasm_steps.specs.Steps.{CallsOf}
 use Rattle.plugin_steps.specs.Serving.{Exchange, AreOf}
-use Rattle.plugin_steps.specs.Talks.{Talk, Does}
 
 -- a function is entered with these arguments, the last one first
 abbrev pub invocation : Store → List Val → ℕ → Configuration
@@ -60,8 +59,3 @@ module _ (H : Type 0) (Calls : CallsOf H) (m : Module) (i : Instance) where
     rests : {h : H} {s : Store} → LivesBy Runs h s [] h s
     invokes : {h h' h'' : H} {s s' s'' : Store} {d : Configuration} {f : FuncType} {vs : List Invocation} (v : Invocation) → Writes s s' → IsExported m i v.function f → AreOf v.arguments f.params
         → Runs h (invocation s' v.arguments v.function) v.calls v.exchanges h' d → EndsWith v.ending d → LivesBy Runs h' (store_of d) vs h'' s'' → LivesBy Runs h s (v ∷ vs) h'' s''
-
--- whatever an embedder does in an instance's life is one run of the rules after another
-abbrev pub OneLife : (H : Type 0) → CallsOf H → Type 0
-OneLife H Calls = (m : Module) (i : Instance) (h h' : H) (s s' : Store) (vs : List Invocation)
-    → LivesBy H Calls m i (Does H Calls i) h s vs h' s' → LivesBy H Calls m i (Talk H Calls i) h s vs h' s'
