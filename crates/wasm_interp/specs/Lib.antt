@@ -8,4 +8,5 @@ pub mod Frames
 pub mod Promises
 pub mod Promise
 pub mod Shared
+pub mod Invocations
 pub mod Invoking
