@@ -15,13 +15,13 @@ use Rattle.wasm_steps.specs.declared.pause.Pause.TheVariants.{Called, Spent, End
 use Rattle.wasm_steps.specs.Configuration.{Val, val, numbers, types, Instance, Store, Code, code, Configuration, at, store_of}
 use Rattle.wasm_steps.specs.Steps.{CallsOf, answers as answered_by, Reach, stays, goes as steps_on, tick}
 use Rattle.wasm_steps.specs.Outcomes.{EndsAs}
-use Rattle.wasm_interp.specs.Machine.{Snapshot, Represents}
-use Rattle.wasm_interp.specs.Invoking.{Answers, Invokes, results_of, values_of}
+use Rattle.wasm_interp.specs.Snapshots.{Snapshot, StandsFor}
+use Rattle.wasm_interp.specs.Invocations.{AnswersBy, InvokesBy, TellsStores, results_of, values_of}
 use Rattle.wasm_interp.proofs.Anywhere.{reach_on}
 use Rattle.wasm_interp.proofs.PlainSteps.Lists.{types-reverse}
 use Rattle.wasm_interp.proofs.PlainSteps.Arguments.{types_given, numbers_given, given_in_range}
 use Rattle.wasm_interp.proofs.PlainSteps.Answering.{in_types}
-use Rattle.wasm_interp.proofs.PlainSteps.Invoking.{all_turned, globals_represented}
+use Rattle.wasm_interp.proofs.PlainSteps.Invoking.{all_turned}
 use Rattle.plugin_steps.specs.Serving.{Exchange, ServeStep, with_memory}
 use Rattle.plugin_steps.specs.Embedding.{Does}
 use Rattle.plugin_steps.specs.Embedding as embedding
@@ -43,8 +43,8 @@ record At : Type 0 where
   pub machine : Snapshot
   pub here : Configuration
 
-abbrev Follows : At → Instance → Configuration → Type 0
-Follows t i d = (t.here ≡ d) × Represents t.machine i d
+abbrev Follows : StandsFor → At → Instance → Configuration → Type 0
+Follows Stands t i d = (t.here ≡ d) × Stands t.machine i d
 
 abbrev place : Snapshot → Configuration → At
 place s c = record { machine = s; here = c }
@@ -66,11 +66,6 @@ memory_written memory (at s f c) = refl
 
 written_twice : (a b : List ℕ) (c : Configuration) → with_memory a (with_memory b c) ≡ with_memory a c
 written_twice a b (at s f c) = refl
-
--- what it shows of memory
-memory_shown : (s : Snapshot) (i : Instance) (c : Configuration) → Represents s i c → (store_of c).memory ≡ s.memory
-unfolding Represents
-memory_shown s i c r = r.0.memory
 
 -- one of the other by memory alone
 record IsRewritten (c d : Configuration) : Type 0 where
@@ -206,12 +201,12 @@ writes_since Running c d rests k = absurd rests
 writes_since Asked c d rests k = absurd rests
 writes_since Over c d rests k = absurd rests
 
-module _ (i : Instance) where
-  nothing_written : (s : Snapshot) (c : Configuration) → Represents s i c → Writes (store_of c) (store_of c)
-  nothing_written s c now = writes_of c c (globals_represented s i c now) (rewritten_none c)
+module _ (Stands : StandsFor) (tells : TellsStores Stands) (i : Instance) where
+  nothing_written : (s : Snapshot) (c : Configuration) → Stands s i c → Writes (store_of c) (store_of c)
+  nothing_written s c now = writes_of c c ((tells s i c now).1) (rewritten_none c)
 
   -- at the last deed
-  settled : (g : Stage) (s : Snapshot) (c : Configuration) → Represents s i c → Since g c c
+  settled : (g : Stage) (s : Snapshot) (c : Configuration) → Stands s i c → Since g c c
   settled Opening s c now = refl
   settled AskedOpening s c now = rewritten_none c
   settled Ready s c now = nothing_written s c now
@@ -231,23 +226,23 @@ module _ (i : Instance) where
   since_written Over c d memory may long k = absurd may
 
   -- what was at work is let go
-  since_let_go : (g : Stage) (s : Snapshot) (c d : Configuration) → Represents s i c → IsOpen g → Since g c d → Since (let_go_at g) c (at (store_of d) [] (code [] done))
+  since_let_go : (g : Stage) (s : Snapshot) (c d : Configuration) → Stands s i c → IsOpen g → Since g c d → Since (let_go_at g) c (at (store_of d) [] (code [] done))
   since_let_go Opening s c d now may k = tt
   since_let_go AskedOpening s c d now may k = tt
   since_let_go Ready s c d now may k = k
   since_let_go Stopped s c d now may k = k
   since_let_go Running s c d now may k = subst (λ (z : Configuration). Writes (store_of c) (store_of z)) (sym k) (nothing_written s c now)
-  since_let_go Asked s c d now may k = writes_of c d (globals_represented s i c now) k
+  since_let_go Asked s c d now may k = writes_of c d ((tells s i c now).1) k
   since_let_go Over s c d now may k = absurd may
 
-module _ (H : Type 0) (Calls : CallsOf H) (m : Module) (i : Instance) where
+module _ (Stands : StandsFor) (tells : TellsStores Stands) (H : Type 0) (Calls : CallsOf H) (m : Module) (i : Instance) where
   -- from one configuration to another
-  moves : (h h' : H) (s t : Snapshot) (c d : Configuration) (es : List (HostCall × Errno)) (xs : List Exchange) → Represents t i d → Does H Calls i h c es xs h' d
-      → (x : Configuration) → Follows (place s c) i x → (y : Configuration) × Follows (place t d) i y × Does H Calls i h x es xs h' y
+  moves : (h h' : H) (s t : Snapshot) (c d : Configuration) (es : List (HostCall × Errno)) (xs : List Exchange) → Stands t i d → Does H Calls i h c es xs h' d
+      → (x : Configuration) → Follows Stands (place s c) i x → (y : Configuration) × Follows Stands (place t d) i y × Does H Calls i h x es xs h' y
   moves h h' s t c d es xs now does x f = (d, (refl, now), subst (λ (z : Configuration). Does H Calls i h z es xs h' d) f.0 does)
 
   -- and there it has ended so
-  ends_there : (t : Snapshot) (d : Configuration) (e : Ending) → EndsWith e d → (x : Configuration) → Follows (place t d) i x → EndsWith e x
+  ends_there : (t : Snapshot) (d : Configuration) (e : Ending) → EndsWith e d → (x : Configuration) → Follows Stands (place t d) i x → EndsWith e x
   ends_there t d e so x f = subst (EndsWith e) f.0 so
 
   -- from the last deed on
@@ -255,13 +250,13 @@ module _ (H : Type 0) (Calls : CallsOf H) (m : Module) (i : Instance) where
     pub ds : List Deed
     pub told : AreTold i ks ds
     pub last : At
-    pub stands : Represents last.machine i last.here
-    pub acts : Acts H Calls m i (λ t d. Follows t i d) b h (place q c) ds h' last
+    pub stands : Stands last.machine i last.here
+    pub acts : Acts H Calls m i (λ t d. Follows Stands t i d) b h (place q c) ds h' last
 
   -- ---- an exported function is entered
 
-  enters : (q s t : Snapshot) (c d : Configuration) (x : ℕ) (args name : List ℕ) → Contains m.exports (record { name = name; kind = exports.Function x }) → (v : Invokes s t x args) → Represents s i d → Writes (store_of c) (store_of d)
-      → Enters H Calls m i (λ t d. Follows t i d) (place q c) (place t (invocation (store_of d) (reverse (values_of v.func_type.params args)) x)) x (reverse (values_of v.func_type.params args))
+  enters : (q s t : Snapshot) (c d : Configuration) (x : ℕ) (args name : List ℕ) → Contains m.exports (record { name = name; kind = exports.Function x }) → (v : InvokesBy Stands s t x args) → Stands s i d → Writes (store_of c) (store_of d)
+      → Enters H Calls m i (λ t d. Follows Stands t i d) (place q c) (place t (invocation (store_of d) (reverse (values_of v.func_type.params args)) x)) x (reverse (values_of v.func_type.params args))
   enters q s t c d x args name exported v now writes =
       let given : List Val = values_of v.func_type.params args in
       let e : Configuration = invocation (store_of d) (reverse given) x in
@@ -273,16 +268,16 @@ module _ (H : Type 0) (Calls : CallsOf H) (m : Module) (i : Instance) where
           typed = ap reverse (types-reverse given) ∙ reverse-reverse (types given) ∙ types_given v.func_type.params args v.fit.count;
           in_range = in_types (reverse given) (all_turned given (given_in_range v.func_type.params args v.fit));
         };
-        run = λ z f. subst (λ (y : Configuration). (w : Store) × Writes (store_of y) w × Follows (place t e) i (invocation w (reverse given) x)) f.0 (store_of d, writes, (refl, v.run i d now));
+        run = λ z f. subst (λ (y : Configuration). (w : Store) × Writes (store_of y) w × Follows Stands (place t e) i (invocation w (reverse given) x)) f.0 (store_of d, writes, (refl, v.run i d now));
       }
 
   -- ---- the embedder answers
 
-  answered_there : (h : H) (s t : Snapshot) (c d : Configuration) (results : List ℕ) → IsRewritten c d → (a : Answers s t results) → Represents s i d
-      → (n : Configuration) × Represents t i n × (e : Exchange) × IsEmbedders i a.function e.function × (numbers e.arguments ≡ a.arguments) × (numbers e.results ≡ results) × (e.left ≡ s.memory) × Does H Calls i h c [] (e ∷ []) h n
+  answered_there : (h : H) (s t : Snapshot) (c d : Configuration) (results : List ℕ) → IsRewritten c d → (a : AnswersBy Stands s t results) → Stands s i d
+      → (n : Configuration) × Stands t i n × (e : Exchange) × IsEmbedders i a.function e.function × (numbers e.arguments ≡ a.arguments) × (numbers e.results ≡ results) × (e.left ≡ s.memory) × Does H Calls i h c [] (e ∷ []) h n
   answered_there h s t (at w f k) d results written a now =
       let memory : List ℕ = (store_of d).memory in
-      let here : Represents s i (at (record w { memory = memory }) f k) = subst (Represents s i) written.is now in
+      let here : Stands s i (at (record w { memory = memory }) f k) = subst (Stands s i) written.is now in
       let n = a.run i (at (record w { memory = memory }) f k) here in
       let v = n.2 in
       let none : f ≡ [] = bare_locals (record w { memory = memory }) f k v.bare in
@@ -294,7 +289,7 @@ module _ (H : Type 0) (Calls : CallsOf H) (m : Module) (i : Instance) where
         (a.func_type, v.is_callee),
         v.arguments_are,
         ap numbers v.results_are ∙ numbers_given a.func_type.results results a.fit.count,
-        left ∙ memory_shown s i d now,
+        left ∙ (tells s i d now).0,
         answers_where_asked H Calls i a.function h w f k v.asked memory v.exchange n.0 (asks_anywhere i a.function (record w { memory = memory }) w k v.asked refl v.asks) size left
             (subst (λ (z : List Val). ServeStep i (at (tick (record w { memory = memory })) z v.asked) v.exchange n.0) (sym none) v.serves),
       )
@@ -315,29 +310,29 @@ module _ (H : Type 0) (Calls : CallsOf H) (m : Module) (i : Instance) where
   -- ---- call after call
 
   -- what is done next while a function is at work goes on from the last deed
-  going : (b : Bool) (h h' h'' : H) (q t : Snapshot) (c e : Configuration) (es : List (HostCall × Errno)) (xs : List Exchange) (k : Act) (ks : List Act) → b ≡ true → Represents t i e → Does H Calls i h c es xs h' e
+  going : (b : Bool) (h h' h'' : H) (q t : Snapshot) (c e : Configuration) (es : List (HostCall × Errno)) (xs : List Exchange) (k : Act) (ks : List Act) → b ≡ true → Stands t i e → Does H Calls i h c es xs h' e
       → ((ds : List Deed) → AreTold i ks ds → AreTold i (k ∷ ks) (acting.went es xs ∷ ds)) → Followed true h' t e ks h'' → Followed b h q c (k ∷ ks) h''
   going b h h' h'' q t c e es xs k ks working now does told f = record {
     ds = acting.went es xs ∷ f.ds;
     told = told f.ds f.told;
     last = f.last;
     stands = f.stands;
-    acts = subst (λ (z : Bool). Acts H Calls m i (λ t d. Follows t i d) z h (place q c) (acting.went es xs ∷ f.ds) h'' f.last) (sym working) (acting.goes es xs (moves h h' q t c e es xs now does) f.acts);
+    acts = subst (λ (z : Bool). Acts H Calls m i (λ t d. Follows Stands t i d) z h (place q c) (acting.went es xs ∷ f.ds) h'' f.last) (sym working) (acting.goes es xs (moves h h' q t c e es xs now does) f.acts);
   }
 
   -- and has ended
-  ending : (b : Bool) (h h' h'' : H) (q t : Snapshot) (c e : Configuration) (so : Ending) (k : Act) (ks : List Act) → b ≡ true → Represents t i e → Does H Calls i h c [] [] h' e → EndsWith so e
+  ending : (b : Bool) (h h' h'' : H) (q t : Snapshot) (c e : Configuration) (so : Ending) (k : Act) (ks : List Act) → b ≡ true → Stands t i e → Does H Calls i h c [] [] h' e → EndsWith so e
       → ((ds : List Deed) → AreTold i ks ds → AreTold i (k ∷ ks) (acting.went [] [] ∷ (acting.ended so ∷ ds))) → Followed false h' t e ks h'' → Followed b h q c (k ∷ ks) h''
   ending b h h' h'' q t c e so k ks working now does ends told f = record {
     ds = acting.went [] [] ∷ (acting.ended so ∷ f.ds);
     told = told f.ds f.told;
     last = f.last;
     stands = f.stands;
-    acts = subst (λ (z : Bool). Acts H Calls m i (λ t d. Follows t i d) z h (place q c) (acting.went [] [] ∷ (acting.ended so ∷ f.ds)) h'' f.last) (sym working)
+    acts = subst (λ (z : Bool). Acts H Calls m i (λ t d. Follows Stands t i d) z h (place q c) (acting.went [] [] ∷ (acting.ended so ∷ f.ds)) h'' f.last) (sym working)
         (acting.goes [] [] (moves h h' q t c e [] [] now does) (acting.ends so (ends_there t e so ends) f.acts));
   }
 
-  follow : (g : Stage) (b : Bool) (h h'' : H) (q s u : Snapshot) (c d : Configuration) (ks : List Act) → Handles H Calls m g h s ks h'' u → Represents q i c → Represents s i d → Since g c d → IsAtWork g b → Followed b h q c ks h''
+  follow : (g : Stage) (b : Bool) (h h'' : H) (q s u : Snapshot) (c d : Configuration) (ks : List Act) → Handles Stands H Calls m g h s ks h'' u → Stands q i c → Stands s i d → Since g c d → IsAtWork g b → Followed b h q c ks h''
   follow g b h h'' q s u c d _ handling.stops base now since w = record { ds = []; told = handling.nothing; last = place q c; stands = base; acts = acting.stops }
   follow g b h h'' q s u c d _ (handling.does {t = t} {ks = ks} _ may (handling.invokes x args name exported v) rest) base now since w =
       let given : List Val = reverse (values_of v.func_type.params args) in
@@ -351,29 +346,29 @@ module _ (H : Type 0) (Calls : CallsOf H) (m : Module) (i : Instance) where
         acts = acting.invokes x given (enters q s t c d x args name exported v now (writes_since g c d may since)) f.acts;
       }
   follow g b h h'' q s u c d _ (handling.does {t = t} {ks = ks} _ may (handling.writes memory long written) rest) base now since w =
-      let long_there : length memory ≡ length (store_of d).memory = long ∙ ap length (sym (memory_shown s i d now)) in
-      let f = follow g b h h'' q t u c (with_memory memory d) ks rest base (written.run i d now) (since_written i g c d memory may long_there since) w in
+      let long_there : length memory ≡ length (store_of d).memory = long ∙ ap length (sym ((tells s i d now).0)) in
+      let f = follow g b h h'' q t u c (with_memory memory d) ks rest base (written.run i d now) (since_written Stands tells i g c d memory may long_there since) w in
       record { ds = f.ds; told = handling.written memory f.told; last = f.last; stands = f.stands; acts = f.acts }
   follow g b h h'' q s u c d _ (handling.does {t = t} {ks = ks} _ may (handling.lets_go gone) rest) base now since w =
-      let f = follow (let_go_at g) b h h'' q t u c (at (store_of d) [] (code [] done)) ks rest base (gone.run i d now) (since_let_go i g q c d base may since) (let_go_rests g b) in
+      let f = follow (let_go_at g) b h h'' q t u c (at (store_of d) [] (code [] done)) ks rest base (gone.run i d now) (since_let_go Stands tells i g q c d base may since) (let_go_rests g b) in
       record { ds = f.ds; told = handling.let_go f.told; last = f.last; stands = f.stands; acts = f.acts }
   follow g b h h'' q s u c d _ (handling.does {h' = h'} {t = t} {ks = ks} _ may (handling.pauses units (Called call e) v) rest) base now since w =
       let n = v.run i d now in
       let run : Reach H Calls i h d ((call, e) ∷ []) h' n.0 = reach_on H Calls i n.2.1 (steps_on (answered_by call e) [] n.2.2 stays) in
       let does : Does H Calls i h c ((call, e) ∷ []) [] h' n.0 = subst (λ (z : Configuration). Does H Calls i h z ((call, e) ∷ []) [] h' n.0) (here_still g c d may since) (embedding.resumes run embedding.stops) in
       going b h h' h'' q t c n.0 ((call, e) ∷ []) [] _ ks (goes_at_work g b may w) n.1 does (λ ds told. handling.called call e told)
-      (follow g true h' h'' t t u n.0 n.0 ks rest n.1 n.1 (settled i g t n.0 n.1) (at_work_always g))
+      (follow g true h' h'' t t u n.0 n.0 ks rest n.1 n.1 (settled Stands tells i g t n.0 n.1) (at_work_always g))
   follow g b h h'' q s u c d _ (handling.does {h' = h'} {t = t} {ks = ks} _ may (handling.pauses units Spent v) rest) base now since w =
       let n = v.run i d now in
       let does : Does H Calls i h c [] [] h' n.0 = subst (λ (z : Configuration). Does H Calls i h z [] [] h' n.0) (here_still g c d may since) (embedding.resumes n.2.0 embedding.stops) in
       going b h h' h'' q t c n.0 [] [] _ ks (goes_at_work g b may w) n.1 does (λ ds told. handling.spent told)
-      (follow g true h' h'' t t u n.0 n.0 ks rest n.1 n.1 (settled i g t n.0 n.1) (at_work_always g))
+      (follow g true h' h'' t t u n.0 n.0 ks rest n.1 n.1 (settled Stands tells i g t n.0 n.1) (at_work_always g))
   follow g b h h'' q s u c d _ (handling.does {h' = h'} {t = t} {ks = ks} _ may (handling.pauses units (Ended o) v) rest) base now since w =
       let n = v.run i d now in
       let does : Does H Calls i h c [] [] h' n.0 = subst (λ (z : Configuration). Does H Calls i h z [] [] h' n.0) (here_still g c d may since) (embedding.resumes n.2.0 embedding.stops) in
       let e = told_end h' o n.0 n.2.1 ks in
       ending b h h' h'' q t c n.0 e.0 _ ks (goes_at_work g b may w) n.1 does e.1 e.2
-      (follow (ended_at g o) false h' h'' t t u n.0 n.0 ks rest n.1 n.1 (settled i (ended_at g o) t n.0 n.1) (ended_rests g o))
+      (follow (ended_at g o) false h' h'' t t u n.0 n.0 ks rest n.1 n.1 (settled Stands tells i (ended_at g o) t n.0 n.1) (ended_rests g o))
   follow g b h h'' q s u c d _ (handling.does {h' = h'} {t = t} {ks = ks} _ may (handling.has_returned units v) rest) base now since w =
       let n = v.run i d now in
       let run : Does H Calls i h d [] [] h' n.0 = subst (λ (z : H). Does H Calls i h d [] [] z n.0) (sym v.host) (embedding.resumes n.2 embedding.stops) in
@@ -381,17 +376,17 @@ module _ (H : Type 0) (Calls : CallsOf H) (m : Module) (i : Instance) where
       let vs : List Val = n.5 in
       let so : EndsWith (returns vs) n.0 = subst (EndsWith (returns vs)) (sym n.6) refl in
       ending b h h' h'' q t c n.0 (returns vs) _ ks (goes_at_work g b may w) n.1 does so (λ ds told. handling.came_back (results_of t) vs n.7 told)
-      (follow (returned_at g (results_of t)) false h' h'' t t u n.0 n.0 ks rest n.1 n.1 (settled i (returned_at g (results_of t)) t n.0 n.1) (returned_rests g (results_of t)))
+      (follow (returned_at g (results_of t)) false h' h'' t t u n.0 n.0 ks rest n.1 n.1 (settled Stands tells i (returned_at g (results_of t)) t n.0 n.1) (returned_rests g (results_of t)))
   follow g b h h'' q s u c d _ (handling.does {h' = h'} {t = t} {ks = ks} _ may (handling.asks units x v) rest) base now since w =
       let n = v.run i d now in
       let run : Does H Calls i h d [] [] h' n.0 = subst (λ (z : H). Does H Calls i h d [] [] z n.0) (sym v.host) (embedding.resumes n.2 embedding.stops) in
       let does : Does H Calls i h c [] [] h' n.0 = subst (λ (z : Configuration). Does H Calls i h z [] [] h' n.0) (here_still g c d may since) run in
       going b h h' h'' q t c n.0 [] [] _ ks (goes_at_work g b may w) n.1 does (λ ds told. handling.was_asked x told)
-      (follow (asked_at g) true h' h'' t t u n.0 n.0 ks rest n.1 n.1 (settled i (asked_at g) t n.0 n.1) (at_work_always (asked_at g)))
+      (follow (asked_at g) true h' h'' t t u n.0 n.0 ks rest n.1 n.1 (settled Stands tells i (asked_at g) t n.0 n.1) (at_work_always (asked_at g)))
   follow g b h h'' q s u c d _ (handling.does {t = t} {ks = ks} _ may (handling.answers results a) rest) base now since w =
       let n = answered_there h s t c d results (asked_since g c d may since) a now in
       going b h h h'' q t c n.0 [] (n.2 ∷ []) _ ks (asks_at_work g b may w) n.1 n.7 (λ ds told. handling.served s.memory a.function a.arguments results n.2 n.3 n.4 n.5 n.6 told)
-      (follow (answered_at g) true h h'' t t u n.0 n.0 ks rest n.1 n.1 (settled i (answered_at g) t n.0 n.1) (at_work_always (answered_at g)))
+      (follow (answered_at g) true h h'' t t u n.0 n.0 ks rest n.1 n.1 (settled Stands tells i (answered_at g) t n.0 n.1) (at_work_always (answered_at g)))
 
 -- ---- in what order
 
@@ -400,9 +395,9 @@ abbrev AreInOrder : Stage → List Act → Type 0
 AreInOrder g [] = Unit {0}
 AreInOrder g (k ∷ ks) = MayDo g k × AreInOrder (after g k) ks
 
-in_order : (H : Type 0) (Calls : CallsOf H) (m : Module) (g : Stage) (h h' : H) (s s' : Snapshot) (ks : List Act) → Handles H Calls m g h s ks h' s' → AreInOrder g ks
-in_order H Calls m g h h' s s' _ handling.stops = tt
-in_order H Calls m g h h' s s' _ (handling.does {h' = k'} {t = t} {ks = ks} k may one rest) = (may, in_order H Calls m (after g k) k' h' t s' ks rest)
+in_order : (Stands : StandsFor) (H : Type 0) (Calls : CallsOf H) (m : Module) (g : Stage) (h h' : H) (s s' : Snapshot) (ks : List Act) → Handles Stands H Calls m g h s ks h' s' → AreInOrder g ks
+in_order Stands H Calls m g h h' s s' _ handling.stops = tt
+in_order Stands H Calls m g h h' s s' _ (handling.does {h' = k'} {t = t} {ks = ks} k may one rest) = (may, in_order Stands H Calls m (after g k) k' h' t s' ks rest)
 
 abbrev IsOpening : Stage → Type 0
 IsOpening Opening = Unit {0}
@@ -602,9 +597,9 @@ from_the_opening i g _ _ (handling.came_back {ks = ks} {ds = ds} (n ∷ ns) vs e
 from_the_opening i g _ _ (handling.was_asked {ks = ks} {ds = ds} x t) k o = from_the_opening i (asked_at g) ks ds t (opening_asks g o.0 k) o.1
 from_the_opening i g _ _ (handling.served {ks = ks} {ds = ds} memory x arguments results e f a r l t) k o = from_the_opening i (answered_at g) ks ds t (opening_answers g o.0 k) o.1
 
-pub handling_is_a_life : (H : Type 0) (Calls : CallsOf H) → HandlingIsALife H Calls
-handling_is_a_life H Calls links pages m h h' s s' ks opens handled =
-    let k = follow H Calls m opens.instance Opening true h h' s s s' _ _ ks handled opens.stands opens.stands refl refl in
-    let order = from_the_opening opens.instance Opening ks k.ds k.told tt (in_order H Calls m Opening h h' s s' ks handled) in
-    let life = deeds_are_a_life H Calls At Follows links pages m opens.instance opens.store opens.initializer h h' _ _ k.ds opens.allocates opens.has_initializer (refl, opens.stands) k.acts order.0 order.1 in
+pub handling_is_a_life : (Stands : StandsFor) (H : Type 0) (Calls : CallsOf H) → HandlingIsALife Stands H Calls
+handling_is_a_life Stands H Calls tells links pages m h h' s s' ks opens handled =
+    let k = follow Stands tells H Calls m opens.instance Opening true h h' s s s' _ _ ks handled opens.stands opens.stands refl refl in
+    let order = from_the_opening opens.instance Opening ks k.ds k.told tt (in_order Stands H Calls m Opening h h' s s' ks handled) in
+    let life = deeds_are_a_life H Calls At (λ t i d. Follows Stands t i d) links pages m opens.instance opens.store opens.initializer h h' _ _ k.ds opens.allocates opens.has_initializer (refl, opens.stands) k.acts order.0 order.1 in
     (k.ds, life.0, life.2, subst (λ (i : Instance). AreTold i ks k.ds) (sym life.3) k.told)

@@ -18,13 +18,13 @@ use Rattle.wasm_steps.specs.Configuration.{Val, numbers, Instance, Configuration
 use Rattle.wasm_steps.specs.Steps.{CallsOf}
 use Rattle.wasm_interp.specs.declared.invoking.Event.{Event}
 use Rattle.wasm_interp.specs.declared.invoking.Event.TheVariants as event
-use Rattle.wasm_interp.specs.Machine.{Snapshot}
-use Rattle.wasm_interp.specs.Promise.{Resumed}
-use Rattle.wasm_interp.specs.Invoking.{Answers, Invokes, IsAsked, IsLetGo, IsWritten, Opens, Returns, results_of, values_of}
+use Rattle.wasm_interp.specs.Snapshots.{Snapshot, StandsFor}
+use Rattle.wasm_interp.specs.Promises.{ResumedBy}
+use Rattle.wasm_interp.specs.Invocations.{AnswersBy, AsksBy, InvokesBy, LetsGoBy, OpensBy, ReturnsBy, TellsStores, WritesBy, results_of, values_of}
 use Rattle.plugin_steps.specs.Serving.{Exchange}
 use Rattle.plugin_steps.specs.Lives.{returns, traps, exits, is_abandoned}
 use Rattle.plugin_steps.specs.Deeds.{Deed, went, ended, invocations}
-use Rattle.plugin_steps.specs.Acting as deeds
+use Rattle.plugin_steps.specs.Deeds as deeds
 use Rattle.plugin_core.specs.declared.stage.Stage.{Stage}
 use Rattle.plugin_core.specs.declared.stage.Stage.TheVariants.{Opening, AskedOpening, Ready, Running, Asked, Stopped, Over}
 use Rattle.plugin_core.specs.WholeLives.{Life}
@@ -123,17 +123,17 @@ MayDo g (returned ns) = Goes g
 MayDo g (asked x) = Goes g
 MayDo g (answered memory x args results) = Asks g
 
--- ---- by what the calls of the machine promise
+-- ---- by what the calls of the machine promise, whichever relation it stands for configurations by
 
-module _ (H : Type 0) (Calls : CallsOf H) (m : Module) where
+module _ (Stands : StandsFor) (H : Type 0) (Calls : CallsOf H) (m : Module) where
   pub data Handled : H → Snapshot → Act → H → Snapshot → Type 0 where
-    invokes : {h : H} {s t : Snapshot} (x : ℕ) (args name : List ℕ) → Contains m.exports (record { name = name; kind = exports.Function x }) → Invokes s t x args → Handled h s (invoked x args) h t
-    writes : {h : H} {s t : Snapshot} (memory : List ℕ) → length memory ≡ length s.memory → IsWritten s t memory → Handled h s (wrote memory) h t
-    lets_go : {h : H} {s t : Snapshot} → IsLetGo s t → Handled h s abandoned h t
-    pauses : {h h' : H} {s t : Snapshot} (units : ℕ) (p : Pause) → Resumed H Calls h h' s t units p → Handled h s (paused p) h' t
-    has_returned : {h h' : H} {s t : Snapshot} (units : ℕ) → Returns H Calls h h' s t units → Handled h s (returned (results_of t)) h' t
-    asks : {h h' : H} {s t : Snapshot} (units x : ℕ) → IsAsked H Calls h h' s t units x → Handled h s (asked x) h' t
-    answers : {h : H} {s t : Snapshot} (results : List ℕ) → (a : Answers s t results) → Handled h s (answered s.memory a.function a.arguments results) h t
+    invokes : {h : H} {s t : Snapshot} (x : ℕ) (args name : List ℕ) → Contains m.exports (record { name = name; kind = exports.Function x }) → InvokesBy Stands s t x args → Handled h s (invoked x args) h t
+    writes : {h : H} {s t : Snapshot} (memory : List ℕ) → length memory ≡ length s.memory → WritesBy Stands s t memory → Handled h s (wrote memory) h t
+    lets_go : {h : H} {s t : Snapshot} → LetsGoBy Stands s t → Handled h s abandoned h t
+    pauses : {h h' : H} {s t : Snapshot} (units : ℕ) (p : Pause) → ResumedBy Stands H Calls h h' s t units p → Handled h s (paused p) h' t
+    has_returned : {h h' : H} {s t : Snapshot} (units : ℕ) → ReturnsBy Stands H Calls h h' s t units → Handled h s (returned (results_of t)) h' t
+    asks : {h h' : H} {s t : Snapshot} (units x : ℕ) → AsksBy Stands H Calls h h' s t units x → Handled h s (asked x) h' t
+    answers : {h : H} {s t : Snapshot} (results : List ℕ) → (a : AnswersBy Stands s t results) → Handled h s (answered s.memory a.function a.arguments results) h t
 
   -- act after act, where each is allowed
   pub data Handles : Stage → H → Snapshot → List Act → H → Snapshot → Type 0 where
@@ -166,8 +166,9 @@ pub data AreTold (i : Instance) : List Act → List Deed → Type 0 where
   served : {ks : List Act} {ds : List Deed} (memory : List ℕ) (x : ℕ) (arguments results : List ℕ) (e : Exchange) → IsEmbedders i x e.function → numbers e.arguments ≡ arguments → numbers e.results ≡ results → e.left ≡ memory → AreTold i ks ds
       → AreTold i (answered memory x arguments results ∷ ks) (went [] (e ∷ []) ∷ ds)
 
--- From the opening on, whatever is done with the machine of an instance is its life, in which just that happened which was told.
-abbrev pub HandlingIsALife : (H : Type 0) → CallsOf H → Type 0
-HandlingIsALife H Calls = (links : AllLinks) (pages : ℕ) (m : Module) (h h' : H) (s s' : Snapshot) (ks : List Act)
-    → Opens links pages m s → Handles H Calls m Opening h s ks h' s'
+-- From the opening on, whatever is done with the machine of an instance is its life, in which just that happened which was told: by
+-- whichever relation that tells of stores the machine stands for configurations.
+abbrev pub HandlingIsALife : StandsFor → (H : Type 0) → CallsOf H → Type 0
+HandlingIsALife Stands H Calls = TellsStores Stands → (links : AllLinks) (pages : ℕ) (m : Module) (h h' : H) (s s' : Snapshot) (ks : List Act)
+    → OpensBy Stands links pages m s → Handles Stands H Calls m Opening h s ks h' s'
     → (ds : List Deed) × (last : Configuration) × (life : Life H Calls links pages m h (invocations ds) h' (store_of last)) × AreTold life.instance ks ds

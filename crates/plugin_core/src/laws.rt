@@ -8,6 +8,7 @@ ghost use Rattle.plugin_core.specs.Moments.{KeepsLives};
 
 use plugin_steps::InstanceMachine;
 use wasi_calls::VolumeHost;
+use wasm_interp::SnapshotMeaning;
 use wasm_store::Host;
 
 /// A law: the instance that a command begins with is one by allocation, whose imports the host answers all.
@@ -22,9 +23,10 @@ pub fn deeds_are_a_life<H: Host, S: InstanceMachine>()
 {}
 
 /// A law: whatever an embedder does with the machine of an instance from its opening on (it goes on, answers, writes, enters exported
-/// functions, lets one go) is a life of the instance by the standard's rules, in which just that happened which was told.
-pub fn handling_is_a_life<H: Host>()
-    ensures { HandlingIsALife H H.calls }
+/// functions, lets one go) is a life of the instance by the standard's rules, in which just that happened which was told. It holds of
+/// any relation by which the machine stands for configurations, if that tells of stores.
+pub fn handling_is_a_life<M: SnapshotMeaning, H: Host>()
+    ensures { HandlingIsALife M.stands H H.calls }
 {}
 
 /// A law: whatever is called of an instance in all its life, and whatever its embedder answers and writes, an entry that was no

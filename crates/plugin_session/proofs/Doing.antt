@@ -7,7 +7,7 @@ use Rattle.wasm_steps.specs.declared.pause.Pause.{Pause}
 use Rattle.wasm_steps.specs.Steps.{CallsOf}
 use Rattle.wasm_interp.specs.declared.invoking.Event.{Event}
 use Rattle.wasm_interp.specs.declared.invoking.Event.TheVariants.{Asked, Paused, Returned}
-use Rattle.wasm_interp.specs.Machine.{Snapshot}
+use Rattle.wasm_interp.specs.Machine.{Snapshot, Represents}
 use Rattle.wasm_interp.specs.Promise.{Resumed}
 use Rattle.wasm_interp.specs.Invoking.{IsAsked, Returns}
 use Rattle.plugin_core.specs.declared.stage.Stage.{Stage}
@@ -16,7 +16,7 @@ use Rattle.plugin_session.specs.Instance.{RisesBy}
 
 -- it went on until this event
 pub went : (H : Type 0) (Calls : CallsOf H) (m : Module) (h h' : H) (s t : Snapshot) (units : ℕ) (e : Event) → (e ≡ Returned → Returns H Calls h h' s t units) → ((x : ℕ) → e ≡ Asked x → IsAsked H Calls h h' s t units x)
-    → ((p : Pause) → e ≡ Paused p → Resumed H Calls h h' s t units p) → Handled H Calls m h s (act_of e t) h' t
+    → ((p : Pause) → e ≡ Paused p → Resumed H Calls h h' s t units p) → Handled Represents H Calls m h s (act_of e t) h' t
 went H Calls m h h' s t units Returned returned asked paused = has_returned units (returned refl)
 went H Calls m h h' s t units (Asked x) returned asked paused = asks units x (asked x refl)
 went H Calls m h h' s t units (Paused p) returned asked paused = pauses units p (paused p refl)

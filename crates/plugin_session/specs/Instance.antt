@@ -1,50 +1,31 @@
 -- An instance is a machine whose exported functions are called, the host that answers its guest's calls of WASI, and where it is. Here
--- stands how one is opened or refused, and what each call of it does.
-use Rattle.std.specs.Prelude.{◌≡◌, ◌≢◌, ◌≤◌, ◌+◌, ℕ, true, false, List, codes, Contains, Option, Some, None}
-use Rattle.std.specs.Option.{option_map}
+-- stands how one is opened or refused, and what each call of it does (`States` says it of any relation by which machines stand for
+-- configurations).
+use Rattle.std.specs.Prelude.{◌≡◌, ◌≢◌, ◌≤◌, ◌+◌, ℕ, true, false, List, Contains, Option, Some, None}
 use Rattle.wasm_module.specs.declared.module.ExportKind.TheVariants as exports
 use Rattle.wasm_module.specs.declared.module.Module.{Module}
 use Rattle.wasm_store.specs.declared.fault.InstanceFault.TheVariants.{Memory as NoMemory}
-use Rattle.wasm_store.specs.Allocation.{AllLinks, with_embedder}
 use Rattle.wasm_store.specs.Allocating.{NotAllocated}
 use Rattle.wasm_interp.specs.declared.invoking.Event.{Event}
 use Rattle.wasm_interp.specs.declared.invoking.Event.TheVariants as events
 use Rattle.wasm_steps.specs.Outcomes.{UnitsRise}
-use Rattle.wasm_interp.specs.Machine.{Snapshot, limited}
+use Rattle.wasm_interp.specs.Machine.{Snapshot, Represents, limited}
 use Rattle.wasm_interp.specs.Invoking as machine
 use Rattle.wasi_calls.specs.declared.streams.Terminals.{Terminals}
 use Rattle.wasi_calls.specs.declared.host.wasi_host.HostParts.{HostParts}
 use Rattle.wasi_calls.specs.host.Settings.{settings_fit}
-use Rattle.wasi_calls.specs.host.Links.{link}
 use Rattle.wasi_calls.specs.supplies.Random.{seeded}
-use Rattle.wasi_calls.specs.host.Worlds.{HostState}
 use Rattle.wasi_calls.specs.host.Making.{preopens_of}
-use Rattle.sandbox_core.specs.Devices.{Devices, Calls}
+use Rattle.sandbox_core.specs.Devices.{Devices}
 use Rattle.sandbox_core.specs.declared.fault.SessionFault.{SessionFault}
 use Rattle.sandbox_core.specs.declared.fault.SessionFault.TheVariants.{Setting, Device, Preopen, Memory}
 use Rattle.sandbox_core.specs.declared.fault.SessionFault.TheVariants.{Instance as NoInstance}
-use Rattle.sandbox_core.specs.Session.{SessionState}
-use Rattle.plugin_core.specs.declared.stage.Stage.{Stage}
-use Rattle.plugin_core.specs.declared.stage.Stage.TheVariants.{Opening}
-use Rattle.plugin_core.specs.Handling.{Act, Handled, MayDo, act_of, after, answered, invoked}
-
--- who answers an import: the host, and else the embedder, but none of WASI's
-abbrev pub links : AllLinks
-links = with_embedder link (codes "wasi_snapshot_preview1")
-
--- what callers see of an instance
-pub record InstanceState (D R W1 W2 : Type 0) : Type 0 where
-  pub machine : Snapshot
-  pub host : HostState D R W1 W2
-  pub stage : Stage
+use Rattle.plugin_core.specs.Handling.{Act, act_of, answered, invoked}
+pub use Rattle.plugin_session.specs.States.{links, InstanceState, session_of, OpensBy, DoesBy}
 
 module _ {D R W1 W2 : Type 0} where
   abbrev pub used_by : InstanceState D R W1 W2 → ℕ
   used_by s = s.machine.used
-
-  -- its machine and its host alone
-  abbrev pub session_of : InstanceState D R W1 W2 → SessionState D R W1 W2
-  session_of s = record { machine = s.machine; host = s.host }
 
   -- the same instance, whose random bytes are those of a seed from now on
   abbrev pub seeded_by : ℕ → InstanceState D R W1 W2 → InstanceState D R W1 W2
@@ -58,18 +39,9 @@ module _ {D R W1 W2 : Type 0} where
   abbrev pub limited_to : ℕ → InstanceState D R W1 W2 → InstanceState D R W1 W2
   limited_to most s = record s { machine = limited most s.machine }
 
-  -- The settings fit, the machine stands for the module's first configuration, no stream has failed, and random bytes come from this
-  -- seed; where there is none, from the settings. Where there are terminals, it is interactive with these.
-  pub record OpensWith (seed : Option ℕ) (terminals : Option Terminals) (m : Module) (parts : HostParts D R W1 W2) (s : InstanceState D R W1 W2) : Type 0 where
-    pub fits : settings_fit parts.settings ≡ true
-    pub opens : machine.Opens links parts.settings.pages m s.machine
-    pub input : s.host.input ≡ record { reader = parts.input; failed = false; ended = false }
-    pub out : s.host.out ≡ record { writer = parts.out; failed = false }
-    pub err : s.host.err ≡ record { writer = parts.err; failed = false }
-    pub settings : s.host.settings ≡ parts.settings
-    pub supply : s.host.generator ≡ option_map seeded seed
-    pub interactive : s.host.interactive ≡ terminals
-    pub stage : s.stage ≡ Opening
+  -- by the relation that the machine has
+  abbrev pub OpensWith : Option ℕ → Option Terminals → Module → HostParts D R W1 W2 → InstanceState D R W1 W2 → Type 0
+  OpensWith seed terminals m parts s = OpensBy Represents seed terminals m parts s
 
   -- as a new instance does
   abbrev pub Opens : Module → HostParts D R W1 W2 → InstanceState D R W1 W2 → Type 0
@@ -96,11 +68,9 @@ IsRefused honest Preopen m parts = (settings_fit parts.settings ≡ true) × IsO
 IsRefused honest Memory m parts = settings_fit parts.settings ≡ true
 
 module _ {D R W1 W2 : Type 0} (on : Devices D R W1 W2) where
-  -- what a call of an instance does with its machine and its host, where it is allowed
-  pub record Does (old : InstanceState D R W1 W2) (k : Act) (new : InstanceState D R W1 W2) : Type 0 where
-    pub may : MayDo old.stage k
-    pub handled : Handled (HostState D R W1 W2) (Calls on) old.machine.valid old.host old.machine k new.host new.machine
-    pub stage : new.stage ≡ after old.stage k
+  -- what a call of an instance does, by the relation that its machine has
+  abbrev pub Does : InstanceState D R W1 W2 → Act → InstanceState D R W1 W2 → Type 0
+  Does old k new = DoesBy Represents on old k new
 
   -- a function that is exported by this name is entered next
   abbrev pub Invokes : InstanceState D R W1 W2 → InstanceState D R W1 W2 → List ℕ → List ℕ → Type 0

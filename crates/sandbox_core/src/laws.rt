@@ -2,8 +2,6 @@
 
 ghost use Rattle.sandbox_core.specs.Devices.{devices};
 ghost use Rattle.sandbox_core.specs.Headline.{Headline, OpenedHeadline, SeededHeadline};
-ghost use Rattle.wasm_steps.specs.Configuration.{Instance, Configuration};
-ghost use Rattle.wasm_interp.specs.Machine.{Snapshot, Represents};
 ghost use Rattle.sandbox_core.specs.Runs.{PausesCompose, ResumesCompose};
 ghost use Rattle.sandbox_core.specs.Safety.{TurnsAreSafe};
 
@@ -11,20 +9,7 @@ use stream_answers::{Inlet, Outlet};
 use vol_sector::Device;
 pub use wasi_calls::{confined, confined_host, host_calls_are_rows, kept, streams_are_heard};
 use wasm_interp::Host;
-
-/// By what snapshots of a machine stand for configurations of an instance. What a session promises takes this from each turn to the
-/// next, so the headline holds whatever it is; the machine's own is that of `OwnMeaning`.
-pub trait SnapshotMeaning {
-    /// The snapshot stands for this configuration of this instance.
-    ghost stands: { Snapshot → Instance → Configuration → Type 0 };
-}
-
-/// The machine's own.
-pub struct OwnMeaning;
-
-impl SnapshotMeaning for OwnMeaning {
-    ghost stands = { Represents };
-}
+pub use wasm_interp::{OwnMeaning, SnapshotMeaning};
 
 /// Any list of resumes is one run, over any host: the pauses say which calls the host answered in it.
 pub fn compose<H: Host>()

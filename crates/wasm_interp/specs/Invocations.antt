@@ -1,6 +1,7 @@
 -- What a machine promises whose exported functions are called one after another, each over the store that is there then (section 4.5.5),
 -- by whichever relation its snapshots stand for configurations: `Invoking` says it by the machine's own.
 use Rattle.std.specs.Prelude.{◌≡◌, ◌⊎◌, ℕ, suc, ◌+◌, ◌-◌, ◌<◌, ◌≤◌, ◌^◌, List, [], ◌∷◌, ◌++◌, length, take, drop, reverse, Option, Some, None, slice_get}
+use Rattle.std.specs.List.{AllByRecursion}
 use Rattle.std.specs.Option.{option_to_list}
 use Rattle.wasm_module.specs.declared.instruction.ValueType.{ValueType}
 use Rattle.wasm_module.specs.declared.module.FuncType.{FuncType}
@@ -13,6 +14,7 @@ use Rattle.wasm_steps.specs.Configuration.{Val, val, numbers, Callee, signature_
 use Rattle.wasm_steps.specs.Steps.{CallsOf, Reach, tick}
 use Rattle.wasm_store.specs.Allocation.{AllLinks, Allocates, HasInitializer}
 use Rattle.wasm_store.specs.Instances.{outside}
+use Rattle.wasm_store.specs.Values.{IsInType}
 use Rattle.plugin_steps.specs.Serving.{Exchange, ServeStep, with_memory}
 use Rattle.plugin_steps.specs.Asking.{Asks}
 use Rattle.wasm_interp.specs.declared.phase.Phase.TheVariants.{Asking}
@@ -145,3 +147,8 @@ module _ (Stands : StandsFor) where
     pub used : new.used ≡ 0
     pub runs : outcome_of new ≡ None
     pub room : new.room ≡ 4097
+
+-- The relation tells of the store: its memory is what the machine shows, and its globals are in the ranges of their types.
+abbrev pub TellsStores : StandsFor → Type 0
+TellsStores Stands = (s : Snapshot) (i : Instance) (c : Configuration) → Stands s i c
+    → ((store_of c).memory ≡ s.memory) × AllByRecursion IsInType (store_of c).globals

@@ -15,7 +15,7 @@ use Rattle.wasm_interp.specs.declared.invoking.NotWritten.TheVariants.{AtWork, P
 use Rattle.wasm_interp.specs.declared.phase.Phase.TheVariants.{Between}
 use Rattle.wasm_interp.specs.Machine.{Snapshot, Represents}
 use Rattle.wasm_interp.specs.Invocations.{InvokesBy, ReturnsBy, AsksBy, AnswersBy, LetsGoBy, WritesBy, OpensBy}
-pub use Rattle.wasm_interp.specs.Invocations.{IsOwnType, IsImportType, Fit, values_of, invocation_over, results_of, IsAskedFor, AnswersAt}
+pub use Rattle.wasm_interp.specs.Invocations.{IsOwnType, IsImportType, Fit, values_of, invocation_over, results_of, IsAskedFor, AnswersAt, TellsStores}
 
 abbrev pub Opens : AllLinks → ℕ → Module → Snapshot → Type 0
 Opens = OpensBy Represents

@@ -12,6 +12,7 @@ mod laws;
 mod least;
 mod loads;
 mod machine;
+mod meaning;
 mod pending;
 mod phase;
 mod places;
@@ -33,6 +34,7 @@ pub use laws::{
     limits_change_no_configuration, machines_keep_to_their_values, machines_show_their_stores,
 };
 pub use machine::{Machine, RefusedInstance};
+pub use meaning::{OwnMeaning, SnapshotMeaning, own_meaning_tells_stores};
 pub use phase::{Ask, Phase};
 pub use plugin::PreparedPlugin;
 pub use shared::{PreparedModule, SharedMachine, shared_machines_cross};
