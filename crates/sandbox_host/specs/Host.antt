@@ -1,5 +1,5 @@
 -- What the calls of a session say, at the types that a host in C has (`HostTypes`), so that the other files can leave these out.
-use Rattle.std.specs.Prelude.{ℕ, Result}
+use Rattle.std.specs.Prelude.{ℕ, List, Result}
 use Rattle.std.specs.Borrow.{Bor}
 use Rattle.vol_sector.specs.declared.fault.Refused.{Refused}
 use Rattle.wasm_module.specs.declared.module.Module.{Module}
