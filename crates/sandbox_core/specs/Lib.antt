@@ -3,6 +3,7 @@
 -- proofs and the invariant of `Session`.
 pub mod Devices
 pub mod Sessions
+pub mod Finishing
 pub mod Session
 pub mod Pauses
 pub mod Within

@@ -23,9 +23,11 @@ use Rattle.sandbox_host.specs.declared.held.Ended.{Ended}
 use Rattle.sandbox_host.specs.declared.supplies.Supplies.{Supplies}
 use Rattle.sandbox_host.specs.declared.volumes.Origin.{Origin}
 use Rattle.sandbox_host.specs.declared.volumes.Origin.TheVariants.{Fresh, Sectors}
+use Rattle.wasm_interp.specs.Snapshots.{StandsFor}
 use Rattle.sandbox_host.specs.Host.{State, HostVolume, Commits, known, size_of}
 use Rattle.sandbox_host.specs.Volumes.{IsVolume, RefusesSectors, is_huge, most_sectors}
-use Rattle.sandbox_host.specs.Sessions.{Begins, Finishes, returned_device, commit_number, Resumed}
+use Rattle.sandbox_host.specs.Begun.{BeginsBy, ResumedBy}
+use Rattle.sandbox_host.specs.Finishing.{Finishes, returned_device, commit_number}
 use Rattle.sandbox_host.specs.Carried.{OpensAgain, FitsDevice, IsCarried, IsCarriedOn}
 
 -- an image stands for at most one tree
@@ -97,14 +99,14 @@ same_then a b c first next = record {
   goes = goes_then known.device.goes_on a b c first.numbers first.goes next.goes;
 }
 
-pub resumed_same : (s s' : State) (rs : List (Told × State)) → Resumed s rs s' → Same s.host.volume s'.host.volume
-resumed_same s s' [] is = record {
+pub resumed_same : (Stands : StandsFor) (s s' : State) (rs : List (Told × State)) → ResumedBy Stands s rs s' → Same s.host.volume s'.host.volume
+resumed_same Stands s s' [] is = record {
   numbers = ap (λ (t : State). t.host.volume.numbers) is;
   size = ap (λ (t : State). size_of t.host.volume.device) is;
   goes = goes_same known.device.goes_on s.host.volume s'.host.volume (ap (λ (t : State). t.host.volume.device) is);
 }
-resumed_same s s' (r ∷ rs) is =
-    let more = resumed_same r.1 s' rs is.1 in
+resumed_same Stands s s' (r ∷ rs) is =
+    let more = resumed_same Stands r.1 s' rs is.1 in
     same_then s.host.volume r.1.host.volume s'.host.volume (record { numbers = is.0.1.resumes.numbers; size = is.0.1.resumes.size; goes = is.0.1.resumes.goes }) more
 
 fits_at_first : (origin : Origin) (v : HostVolume) → IsVolume origin v → FitsDevice (is_huge origin) v
@@ -118,18 +120,18 @@ fits_then huge old new same fits = record {
 }
 
 -- a session that begins has only asked its volume
-pub begun_same : (m : Module) (supplies : Supplies) (origin : Origin) (s : State) (begins : Begins m supplies origin s) → Same begins.volume s.host.volume
-begun_same m supplies origin s begins = record {
+pub begun_same : (Stands : StandsFor) (m : Module) (supplies : Supplies) (origin : Origin) (s : State) (begins : BeginsBy Stands m supplies origin s) → Same begins.volume s.host.volume
+begun_same Stands m supplies origin s begins = record {
   numbers = begins.shares.reads.kept.numbers;
   size = begins.shares.reads.kept.size;
   goes = begins.shares.reads.goes;
 }
 
-pub carried_on : OneTree → IsCarriedOn
-carried_on one m supplies origin s s' rs e begins resumed ends =
+pub carried_on : (Stands : StandsFor) → OneTree → IsCarriedOn Stands
+carried_on Stands one m supplies origin s s' rs e begins resumed ends =
     let first : HostVolume = begins.volume in
     let last : HostVolume = s'.host.volume in
-    let resumes = resumed_same s s' rs resumed in
-    let same : Same first last = same_then first s.host.volume last (begun_same m supplies origin s begins) resumes in
+    let resumes = resumed_same Stands s s' rs resumed in
+    let same : Same first last = same_then first s.host.volume last (begun_same Stands m supplies origin s begins) resumes in
     let again = carried one (is_huge origin) s' e (fits_then (is_huge origin) first last same (fits_at_first origin first begins.is_volume)) ends in
     ((left_by s' e ends).size ∙ same.size, subst (λ (n : Superblock). OpensAgain (is_huge origin) e.device.sectors n last.tree) same.numbers again)

@@ -27,8 +27,10 @@ use Rattle.sandbox_host.specs.declared.supplies.Supplies.{Supplies}
 use Rattle.sandbox_host.specs.declared.volumes.Origin.{Origin}
 use Rattle.sandbox_host.specs.declared.volumes.Origin.TheVariants.{Sectors}
 use Rattle.sandbox_host.specs.Numbers.{call_number, told_end, told_pause}
+use Rattle.wasm_interp.specs.Snapshots.{StandsFor}
 use Rattle.sandbox_host.specs.Host.{State, HostVolume, Bytes, Commits, IsHonest, disk_of}
-use Rattle.sandbox_host.specs.Sessions.{Begins, returned_device, Resumed}
+use Rattle.sandbox_host.specs.Begun.{BeginsBy, ResumedBy}
+use Rattle.sandbox_host.specs.Finishing.{returned_device}
 use Rattle.sandbox_host.specs.Settled.{StandsForOne, IsSettled, IsSettledSoFar, TellsSync, IsSyncSettled}
 use Rattle.sandbox_host.proofs.Carrying.{OneTree, resumed_same}
 
@@ -54,12 +56,12 @@ closed_or one v T P closed c d U (inl p) stood stands = inl (closed c d U p stoo
 closed_or one v T P closed c d U (inr is) stood stands = inr (subst (StandsAs c v) (sym ((one d v v T U is stood).1)) stands)
 
 -- over resumes
-resumes_left : OneTree → (v : Superblock) (P : Image → Type 0) → IsClosed v P → (s s' : State) (rs : List (Told × State)) → Resumed s rs s' → s.host.volume.numbers ≡ v
+resumes_left : (Stands : StandsFor) → OneTree → (v : Superblock) (P : Image → Type 0) → IsClosed v P → (s s' : State) (rs : List (Told × State)) → ResumedBy Stands s rs s' → s.host.volume.numbers ≡ v
     → ((c : Image) → SessionLeft s.host.volume.device c → P c ⊎ StandsAs c v s.host.volume.tree) → (c : Image) → SessionLeft s'.host.volume.device c → P c ⊎ StandsForOne v s.host.volume.tree rs c
-resumes_left one v P closed s s' [] is numbers all c left = all c (subst (λ (t : State). SessionLeft t.host.volume.device c) is left)
-resumes_left one v P closed s s' (r ∷ rs) is numbers all c left =
+resumes_left Stands one v P closed s s' [] is numbers all c left = all c (subst (λ (t : State). SessionLeft t.host.volume.device c) is left)
+resumes_left Stands one v P closed s s' (r ∷ rs) is numbers all c left =
     ⊎_elim (λ before. ⊎_elim (λ p. inl p) (λ first. inr (inl first)) before) (λ later. inr (inr later))
-    (resumes_left one v Q closed_then r.1 s' rs is.1 (is.0.1.resumes.numbers ∙ numbers) next c left)
+    (resumes_left Stands one v Q closed_then r.1 s' rs is.1 (is.0.1.resumes.numbers ∙ numbers) next c left)
   where
     T : Tree
     T = s.host.volume.tree
@@ -77,9 +79,9 @@ resumes_left one v P closed s s' (r ∷ rs) is numbers all c left =
         (turn.since 0 d (omega arith) now)
 
 -- the tree after the last resume is one of them
-last_of : (v : Superblock) (s s' : State) (rs : List (Told × State)) (c : Image) → Resumed s rs s' → StandsAs c v s'.host.volume.tree → StandsForOne v s.host.volume.tree rs c
-last_of v s s' [] c is stands = subst (λ (t : State). StandsAs c v t.host.volume.tree) is stands
-last_of v s s' (r ∷ rs) c is stands = inr (last_of v r.1 s' rs c is.1 stands)
+last_of : (Stands : StandsFor) (v : Superblock) (s s' : State) (rs : List (Told × State)) (c : Image) → ResumedBy Stands s rs s' → StandsAs c v s'.host.volume.tree → StandsForOne v s.host.volume.tree rs c
+last_of Stands v s s' [] c is stands = subst (λ (t : State). StandsAs c v t.host.volume.tree) is stands
+last_of Stands v s s' (r ∷ rs) c is stands = inr (last_of Stands v r.1 s' rs c is.1 stands)
 
 closed_one : OneTree → (v : Superblock) (T : Tree) (rs : List (Told × State)) → IsClosed v (StandsForOne v T rs)
 closed_one one v T [] c d U is stood stands = subst (StandsAs c v) (sym ((one d v v T U is stood).1)) stands
@@ -92,21 +94,21 @@ committed v (Ok w) commits = ap (λ (x : HostVolume). x.device) commits.handed_b
 committed v (Err r) commits = commits.handed_back.0
 
 -- from an opening over sectors on
-all_left : OneTree → (m : Module) (supplies : Supplies) (sectors : Bor (List (List ℕ))) (recorded huge : Bool) (s s' : State) (rs : List (Told × State))
-    → (begins : Begins m supplies (Sectors sectors recorded huge) s) → Resumed s rs s' → (d : Image) → SessionLeft s'.host.volume.device d → StandsForOne begins.volume.numbers s.host.volume.tree rs d
-all_left one m supplies sectors recorded huge s s' rs begins resumed d now =
-    ⊎_elim (λ none. absurd none) (λ is. is) (resumes_left one begins.volume.numbers (λ i. ⊥) (λ i j U none a b. none) s s' rs resumed begins.shares.reads.kept.numbers at_first d now)
+all_left : (Stands : StandsFor) → OneTree → (m : Module) (supplies : Supplies) (sectors : Bor (List (List ℕ))) (recorded huge : Bool) (s s' : State) (rs : List (Told × State))
+    → (begins : BeginsBy Stands m supplies (Sectors sectors recorded huge) s) → ResumedBy Stands s rs s' → (d : Image) → SessionLeft s'.host.volume.device d → StandsForOne begins.volume.numbers s.host.volume.tree rs d
+all_left Stands one m supplies sectors recorded huge s s' rs begins resumed d now =
+    ⊎_elim (λ none. absurd none) (λ is. is) (resumes_left Stands one begins.volume.numbers (λ i. ⊥) (λ i j U none a b. none) s s' rs resumed begins.shares.reads.kept.numbers at_first d now)
   where
     at_first : (i : Image) → SessionLeft s.host.volume.device i → ⊥ ⊎ StandsAs i begins.volume.numbers s.host.volume.tree
     at_first i then = inr (subst (StandsAs i begins.volume.numbers) (sym (begins.shares.reads.tree tt)) (begins.is_volume.is_in.since i (⊎_elim (λ old. old) (λ none. absurd none) ((begins.shares.reads.crash tt).since 0 i (omega arith) then))))
 
-numbers_then : (m : Module) (supplies : Supplies) (origin : Origin) (s s' : State) (rs : List (Told × State)) (begins : Begins m supplies origin s) → Resumed s rs s' → s'.host.volume.numbers ≡ begins.volume.numbers
-numbers_then m supplies origin s s' rs begins resumed = (resumed_same s s' rs resumed).numbers ∙ begins.shares.reads.kept.numbers
+numbers_then : (Stands : StandsFor) (m : Module) (supplies : Supplies) (origin : Origin) (s s' : State) (rs : List (Told × State)) (begins : BeginsBy Stands m supplies origin s) → ResumedBy Stands s rs s' → s'.host.volume.numbers ≡ begins.volume.numbers
+numbers_then Stands m supplies origin s s' rs begins resumed = (resumed_same Stands s s' rs resumed).numbers ∙ begins.shares.reads.kept.numbers
 
-pub settled_so_far : OneTree → ((d : RecordedDevice) → IsFollowed d) → IsSettledSoFar
-settled_so_far one followed m supplies sectors recorded huge s s' rs k c begins resumed le left =
+pub settled_so_far : (Stands : StandsFor) → OneTree → ((d : RecordedDevice) → IsFollowed d) → IsSettledSoFar Stands
+settled_so_far Stands one followed m supplies sectors recorded huge s s' rs k c begins resumed le left =
     subst (λ (t : Tree). StandsForOne begins.volume.numbers t rs c) (begins.shares.reads.tree tt)
-    (all_left one m supplies sectors recorded huge s s' rs begins resumed c ((followed s'.host.volume.device).stops k c le left))
+    (all_left Stands one m supplies sectors recorded huge s s' rs begins resumed c ((followed s'.host.volume.device).stops k c le left))
 
 -- a call that is told by such a number is one that syncs
 is_sync_by : (c : HostCall) → IsTrue (call_number c == 20 || call_number c == 21) → IsTrue (is_sync c)
@@ -127,22 +129,22 @@ told_synced (Called call errno) h used c is stands left = stands (is_sync_by cal
 told_synced Spent h used c is stands left = absurd (omega (arith, is.called))
 told_synced (Ended outcome) h used c is stands left = absurd (no_end outcome used is.called)
 
-pub sync_settled : IsSyncSettled
-sync_settled m supplies sectors recorded huge s old new rs told units c begins resumed paused tells left =
-    subst (λ (v : Superblock). StandsAs c v new.host.volume.tree) (paused.resumes.numbers ∙ numbers_then m supplies (Sectors sectors recorded huge) s old rs begins resumed)
+pub sync_settled : (Stands : StandsFor) → IsSyncSettled Stands
+sync_settled Stands m supplies sectors recorded huge s old new rs told units c begins resumed paused tells left =
+    subst (λ (v : Superblock). StandsAs c v new.host.volume.tree) (paused.resumes.numbers ∙ numbers_then Stands m supplies (Sectors sectors recorded huge) s old rs begins resumed)
     (told_synced paused.pause new.host (used_by new) c (subst TellsSync paused.tells tells) (paused.resumes.synced tt) left)
 
-pub settled : OneTree → ((d : RecordedDevice) → IsFollowed d) → IsSettled
-settled one followed m supplies sectors recorded huge s s' rs e number k c begins resumed ends le left =
+pub settled : (Stands : StandsFor) → OneTree → ((d : RecordedDevice) → IsFollowed d) → IsSettled Stands
+settled Stands one followed m supplies sectors recorded huge s s' rs e number k c begins resumed ends le left =
     let v = begins.volume.numbers in
     let same : s.host.volume.tree ≡ begins.volume.tree = begins.shares.reads.tree tt in
     let T : Tree = s.host.volume.tree in
     let last : RecordedDevice = s'.host.volume.device in
-    let all : (d : Image) → SessionLeft last d → StandsForOne v T rs d = all_left one m supplies sectors recorded huge s s' rs begins resumed in
-    let numbers : s'.host.volume.numbers ≡ v = numbers_then m supplies (Sectors sectors recorded huge) s s' rs begins resumed in
+    let all : (d : Image) → SessionLeft last d → StandsForOne v T rs d = all_left Stands one m supplies sectors recorded huge s s' rs begins resumed in
+    let numbers : s'.host.volume.numbers ≡ v = numbers_then Stands m supplies (Sectors sectors recorded huge) s s' rs begins resumed in
     let commits = ends.commits in
     let turn = subst (λ (n : Superblock). Leaves (disk_of last) (disk_of commits.new.device) (ReflectsOr (disk_of last) n s'.host.volume.tree)) numbers (commits.crash tt) in
     let moment : SessionLeft commits.new.device c = subst (λ (d : RecordedDevice). SessionLeft d c) (ends.device ∙ committed s'.host.volume ends.volume commits) ((followed e.device).stops k c le left) in
     let stands : StandsForOne v T rs c = ⊎_elim (λ old. all c old)
-    (λ new. ⊎_elim (λ again. reflected last v (StandsForOne v T rs) (closed_one one v T rs) all c again) (λ tree. last_of v s s' rs c resumed tree) new) (turn.since 0 c (omega arith) moment) in
+    (λ new. ⊎_elim (λ again. reflected last v (StandsForOne v T rs) (closed_one one v T rs) all c again) (λ tree. last_of Stands v s s' rs c resumed tree) new) (turn.since 0 c (omega arith) moment) in
     subst (λ (t : Tree). StandsForOne v t rs c) same stands

@@ -11,9 +11,11 @@ use Rattle.sandbox_host.specs.declared.numbers.Told.{Told}
 use Rattle.sandbox_host.specs.declared.held.Ended.{Ended}
 use Rattle.sandbox_host.specs.declared.supplies.Supplies.{Supplies}
 use Rattle.sandbox_host.specs.declared.volumes.Origin.{Origin}
-use Rattle.sandbox_host.specs.Host.{State, HostVolume, size_of}
+use Rattle.wasm_interp.specs.Snapshots.{StandsFor}
+use Rattle.sandbox_host.specs.HostTypes.{State, HostVolume, size_of}
 use Rattle.sandbox_host.specs.Volumes.{IsIn, RefusesSectors, is_huge, most_sectors}
-use Rattle.sandbox_host.specs.Sessions.{Begins, Finishes, Resumed}
+use Rattle.sandbox_host.specs.Begun.{BeginsBy, ResumedBy}
+use Rattle.sandbox_host.specs.Finishing.{Finishes}
 
 -- A volume that is opened from these sectors, as a huge one or not, has these numbers and this tree, and nothing but memory can
 -- be wanting.
@@ -30,9 +32,9 @@ pub record FitsDevice (huge : Bool) (v : HostVolume) : Type 0 where
 abbrev pub IsCarried : Type 0
 IsCarried = (huge : Bool) (s : State) (e : Ended) → FitsDevice huge s.host.volume → Finishes s e 0 → OpensAgain huge e.device.sectors s.host.volume.numbers s.host.volume.tree
 
--- From an opening over any resumes to the end: there are as many sectors as at first, and they are opened again with the
+-- From an opening over any resumes to the end, by whichever relation machines stand for configurations: there are as many sectors as at first, and they are opened again with the
 -- volume's numbers and the tree at the end.
-abbrev pub IsCarriedOn : Type 0
-IsCarriedOn = (m : Module) (supplies : Supplies) (origin : Origin) (s s' : State) (rs : List (Told × State)) (e : Ended)
-    → (begins : Begins m supplies origin s) → Resumed s rs s' → Finishes s' e 0
+abbrev pub IsCarriedOn : StandsFor → Type 0
+IsCarriedOn Stands = (m : Module) (supplies : Supplies) (origin : Origin) (s s' : State) (rs : List (Told × State)) (e : Ended)
+    → (begins : BeginsBy Stands m supplies origin s) → ResumedBy Stands s rs s' → Finishes s' e 0
     → (length e.device.sectors ≡ size_of begins.volume.device) × OpensAgain (is_huge origin) e.device.sectors begins.volume.numbers s'.host.volume.tree

@@ -8,7 +8,9 @@ pub mod HostTypes
 pub mod Host
 pub mod Volumes
 pub mod Begun
+pub mod Finishing
 pub mod Sessions
+pub mod KeptRecords
 pub mod Recording
 pub mod Frames
 pub mod Refusals

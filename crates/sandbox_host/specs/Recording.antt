@@ -1,6 +1,6 @@
 -- What was done to a session's volume, as a host is told of it (`include/sandbox.h`). The call `operation_at` answers
 -- from the device as it is at that time, so what a running session has not committed is not told yet.
-use Rattle.std.specs.Prelude.{◌≡◌, ◌++◌, ℕ, Bool, List, Option, Some, None, slice_get, if◌then◌else◌}
+use Rattle.std.specs.Prelude.{ℕ, Option, Some, None, slice_get, if◌then◌else◌}
 use Rattle.vol_sector.specs.declared.record.Operation.{Operation}
 use Rattle.vol_sector.specs.declared.record.Operation.TheVariants.{Write, Sync}
 use Rattle.sandbox_device.specs.declared.recorded_device.RecordedDevice.{RecordedDevice}
@@ -8,6 +8,7 @@ use Rattle.sandbox_device.specs.Followed.{done_on}
 use Rattle.sandbox_host.specs.declared.recording.VolumeOperation.{VolumeOperation}
 use Rattle.sandbox_host.specs.declared.held.HandleContent.{HandleContent}
 use Rattle.sandbox_host.specs.declared.held.HandleContent.TheVariants.{Loaded, Running, Finished, Plugin, Instance, SessionLeft, Nothing}
+pub use Rattle.sandbox_host.specs.KeptRecords.{KeepsRecord}
 use Rattle.sandbox_host.specs.Sessions.{state_of}
 
 -- the write or sync with this number, in the order in which they were done
@@ -23,14 +24,6 @@ told_operation (Some Sync) before = record before { kind = 2 }
 -- the device, where its operations are recorded
 abbrev pub recorded_on : RecordedDevice → Option RecordedDevice
 recorded_on d = if d.is_recorded then Some d else None
-
--- The device of a session over these sectors, at a later time than another: it began with the sectors, and records what is done
--- just where a record was asked for; and what it had done by the earlier time is the first that it has done.
-pub record KeepsRecord (sectors : List (List ℕ)) (recorded : Bool) (earlier later : RecordedDevice) : Type 0 where
-  pub began : later.history.first ≡ sectors
-  pub is_recorded : later.is_recorded ≡ recorded
-  pub more : List Operation
-  pub done : done_on later ≡ done_on earlier ++ more
 
 -- that of a session or an instance as it is: while it runs, what isn't committed isn't on it yet
 abbrev pub recorded_in : HandleContent → Option RecordedDevice

@@ -2,15 +2,13 @@
 -- module, a session that runs, one that is finished, a module for instances, an instance that isn't finished, one that is, or
 -- nothing) by its cases; in the second `Begins`, `Paused` and
 -- `Finishes` tie these calls to the session of `sandbox_core`.
-use Rattle.std.specs.Prelude.{◌≡◌, ◌==◌, ℕ, Bool, true, false, List, [], length, take, drop, ◌++◌, min, Option, Some, None, Result, Ok, Err, if◌then◌else◌}
-use Rattle.vol_sector.specs.declared.fault.Refused.{Refused}
+use Rattle.std.specs.Prelude.{◌≡◌, ◌==◌, ℕ, Bool, true, false, List, [], length, take, drop, ◌++◌, min, Option, Some, None, if◌then◌else◌}
 use Rattle.wasm_module.specs.declared.module.Module.{Module}
 use Rattle.wasm_module.specs.declared.profile.Profile.{Profile}
 use Rattle.wasm_module.specs.declared.profile.Profile.TheVariants.{Integers}
 use Rattle.wasm_module.specs.Module.{SpellsWith}
 use Rattle.wasm_valid.specs.Validity.{IsValid}
 use Rattle.wasm_interp.specs.Machine.{Represents}
-use Rattle.sandbox_device.specs.declared.recorded_device.RecordedDevice.{RecordedDevice}
 use Rattle.sandbox_host.specs.declared.numbers.Told.{Told}
 use Rattle.sandbox_host.specs.declared.supplies.Supplies.{Supplies}
 use Rattle.sandbox_host.specs.declared.volumes.Origin.{Origin}
@@ -22,16 +20,13 @@ use Rattle.sandbox_host.specs.declared.modules.LoadedModule.TheVariants.{Plain, 
 use Rattle.sandbox_host.specs.declared.session.HostSession.{HostSession}
 use Rattle.sandbox_host.specs.declared.session.HostSession.TheVariants.{Own, Shared}
 use Rattle.wasm_interp.specs.Shared.{Ready}
-use Rattle.sandbox_host.specs.Host.{HostVolume, Bytes, State, Commits}
+use Rattle.sandbox_host.specs.Host.{Bytes, State}
+pub use Rattle.sandbox_host.specs.Finishing.{module_of, returned_device, commit_number, Finishes}
 use Rattle.sandbox_host.specs.Begun.{BeginsBy, PausedBy, ResumedBy}
 
 -- ---- modules and sessions, of which some share what was made once
 
--- the module that is loaded, and what it was prepared as, if it was
-abbrev pub module_of : LoadedModule → Module
-module_of (Plain m) = m
-module_of (Prepared ready) = ready.valid
-
+-- what a module was prepared as, if it was
 abbrev pub ready_of : LoadedModule → Option Ready
 ready_of (Plain m) = None
 ready_of (Prepared ready) = Some ready
@@ -249,22 +244,3 @@ Paused = PausedBy Represents
 -- one call of `resume` after another: what each told, and the session after it
 abbrev pub Resumed : State → List (Told × State) → State → Type 0
 Resumed = ResumedBy Represents
-
--- the device of what is handed back of a volume, and the number that is answered
-abbrev pub returned_device : Result HostVolume (Refused RecordedDevice) → RecordedDevice
-returned_device (Ok v) = v.device
-returned_device (Err r) = r.device
-
-abbrev pub commit_number : Result HostVolume (Refused RecordedDevice) → ℕ
-commit_number (Ok v) = 0
-commit_number (Err r) = 33
-
--- The session's calls are committed, and what it leaves is its module, the volume's device then, and what it has written.
-pub record Finishes (s : State) (e : Ended) (number : ℕ) : Type 0 where
-  pub volume : Result HostVolume (Refused RecordedDevice)
-  pub commits : Commits s.host.volume volume
-  pub device : e.device ≡ returned_device volume
-  pub number_told : number ≡ commit_number volume
-  pub valid : module_of e.loaded ≡ s.machine.valid
-  pub out : e.out ≡ s.host.out.writer
-  pub err : e.err ≡ s.host.err.writer

@@ -23,9 +23,9 @@ pub fn host_headline<M: SnapshotMeaning>()
 
 /// Where `finish` answers 0, the sectors that it leaves are opened again as a volume with the same numbers and the tree at the
 /// end, and nothing but memory can be wanting. From the opening on that needs no premise, and there are as many as at first.
-pub fn volume_is_carried()
+pub fn volume_is_carried<M: SnapshotMeaning>()
     ensures at_the_end { IsCarried }
-    ensures from_the_opening { IsCarriedOn }
+    ensures from_the_opening { IsCarriedOn M.stands }
 {
     one_tree();
 }
@@ -34,10 +34,10 @@ pub fn volume_is_carried()
 /// whatever a stop in between leaves stands for the tree at the opening, or for that after a resume. So it is after any resume
 /// with what the session has done by then; and once all of that is done, where the resume told of a sync, it is the tree after
 /// that resume.
-pub fn record_is_settled()
-    ensures at_the_end { IsSettled }
-    ensures so_far { IsSettledSoFar }
-    ensures synced { IsSyncSettled }
+pub fn record_is_settled<M: SnapshotMeaning>()
+    ensures at_the_end { IsSettled M.stands }
+    ensures so_far { IsSettledSoFar M.stands }
+    ensures synced { IsSyncSettled M.stands }
 {
     one_tree();
     record_is_followed();
@@ -45,7 +45,7 @@ pub fn record_is_settled()
 
 /// The device of a session over sectors began with these, and records what is done just where a record was asked for. What was
 /// done by some time is the first that is done by any later time, up to the end.
-pub fn record_is_kept()
-    ensures at_the_end { IsRecordKept }
-    ensures so_far { IsRecordKeptSoFar }
+pub fn record_is_kept<M: SnapshotMeaning>()
+    ensures at_the_end { IsRecordKept M.stands }
+    ensures so_far { IsRecordKeptSoFar M.stands }
 {}
