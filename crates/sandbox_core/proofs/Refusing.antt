@@ -6,7 +6,7 @@ use Rattle.vol_tree.specs.Opened.{Opened}
 use Rattle.wasm_module.specs.declared.module.Module.{Module}
 use Rattle.wasm_store.specs.declared.fault.InstanceFault.{InstanceFault}
 use Rattle.wasm_store.specs.declared.fault.InstanceFault.TheVariants as instance
-use Rattle.wasm_store.specs.Instantiation.{RefusedFor}
+use Rattle.wasm_store.specs.NotStarting.{RefusedFor}
 use Rattle.wasi_calls.specs.declared.host.fault.HostFault.{HostFault}
 use Rattle.wasi_calls.specs.declared.host.fault.HostFault.TheVariants as host
 use Rattle.wasi_calls.specs.declared.host.settings.Settings.{Settings}

@@ -5,7 +5,7 @@ use Rattle.vol_sector.specs.declared.device.Device.{Ghosts}
 use Rattle.vol_tree.specs.Opened.{Opened}
 use Rattle.wasm_module.specs.declared.module.Module.{Module}
 use Rattle.wasm_store.specs.declared.fault.InstanceFault.TheVariants.{Memory as NoMemory}
-use Rattle.wasm_store.specs.Instantiation.{RefusedFor}
+use Rattle.wasm_store.specs.NotStarting.{RefusedFor}
 use Rattle.wasm_steps.specs.declared.pause.Pause.{Pause}
 use Rattle.wasm_steps.specs.declared.pause.Pause.TheVariants.{Called}
 use Rattle.wasm_interp.specs.Machine.{Snapshot, Represents, limited}

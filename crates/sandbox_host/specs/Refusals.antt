@@ -12,7 +12,7 @@ use Rattle.wasm_module.specs.Module.{SpellsWith}
 use Rattle.wasm_valid.specs.Validity.{IsValid}
 use Rattle.wasm_valid.specs.Refusal.{IsRefusal}
 use Rattle.wasm_store.specs.declared.fault.InstanceFault.{InstanceFault}
-use Rattle.wasm_store.specs.Instantiation.{RefusedFor}
+use Rattle.wasm_store.specs.NotStarting.{RefusedFor}
 use Rattle.wasm_interp.specs.Shared.{Ready}
 use Rattle.wasi_calls.specs.host.Links.{link}
 use Rattle.sandbox_core.specs.declared.fault.SessionFault.{SessionFault}

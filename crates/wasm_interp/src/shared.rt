@@ -1,7 +1,7 @@
 //! Machines that share one prepared module.
 
 ghost use Rattle.std.specs.Prelude.{◌≡◌, ◌+◌, ◌^◌, ◌<◌, ◌/◌, IfOk, IfErr, length, slice_get};
-ghost use Rattle.wasm_store.specs.Instantiation.{RefusedFor};
+ghost use Rattle.wasm_store.specs.NotStarting.{RefusedFor};
 ghost use Rattle.wasm_interp.specs.Promise.{Starts, Resumed};
 ghost use Rattle.wasm_interp.specs.Frames.{frames_of};
 ghost use Rattle.wasm_interp.specs.Machine.{limited};

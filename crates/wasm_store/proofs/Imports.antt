@@ -10,7 +10,8 @@ use Rattle.wasm_store.specs.declared.call.HostCall.{HostCall}
 use Rattle.wasm_store.specs.declared.linked.Linked.{Linked}
 use Rattle.wasm_store.specs.declared.linked.Linked.TheVariants.{Host}
 use Rattle.wasm_store.specs.Instances.{Callee, callee_of}
-use Rattle.wasm_store.specs.Instantiation.{LinksOf, IsLinked, AreLinked, SomeUnlinked}
+use Rattle.wasm_store.specs.NotStarting.{SomeUnlinked}
+use Rattle.wasm_store.specs.Instantiation.{LinksOf, IsLinked, AreLinked}
 use Rattle.wasm_store.specs.Instantiating.{AreCallees}
 use Rattle.wasm_store.specs.Allocation.{AllLinks, IsLinkedTo, AreLinkedTo}
 use Rattle.wasm_store.specs.Allocating.{SomeUnlinkedTo, all_by_host}

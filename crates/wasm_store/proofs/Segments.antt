@@ -8,7 +8,8 @@ use Rattle.wasm_module.specs.declared.module.DataSegment.{DataSegment}
 use Rattle.wasm_store.specs.Values.{Val}
 use Rattle.wasm_store.specs.Bytes.{written}
 use Rattle.wasm_store.specs.Elements.{with_functions}
-use Rattle.wasm_store.specs.Instantiation.{segment_start, ElementsInside, ElementsOutside, DataInside, DataOutside, with_elements, with_data}
+use Rattle.wasm_store.specs.NotStarting.{ElementsOutside, DataOutside}
+use Rattle.wasm_store.specs.Instantiation.{segment_start, ElementsInside, DataInside, with_elements, with_data}
 use Rattle.wasm_store.proofs.Functions.{left_from, nothing_left}
 
 -- ---- tests of ranges

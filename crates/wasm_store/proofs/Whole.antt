@@ -12,7 +12,8 @@ use Rattle.wasm_store.specs.declared.instantiation.Allocated.{Allocated}
 use Rattle.wasm_store.specs.declared.fault.InstanceFault.{InstanceFault}
 use Rattle.wasm_store.specs.declared.fault.InstanceFault.TheVariants as faults
 use Rattle.wasm_store.specs.Values.{Val, numbers}
-use Rattle.wasm_store.specs.Instantiation.{LinksOf, IsStart, CanStart, minimum, page_limit, ElementsInside, DataInside, with_elements, with_data, RefusedFor}
+use Rattle.wasm_store.specs.NotStarting.{CanStart, RefusedFor}
+use Rattle.wasm_store.specs.Instantiation.{LinksOf, IsStart, minimum, page_limit, ElementsInside, DataInside, with_elements, with_data}
 use Rattle.wasm_store.specs.internal.Finding.{AreFound, NotFound, HaveFirst, NotStored}
 use Rattle.wasm_store.specs.Instantiating.{AreCallees, IsInstantiated}
 use Rattle.wasm_store.specs.Instances.{Callee, callee_of, outside}

@@ -13,7 +13,8 @@ use Rattle.wasm_store.specs.declared.fault.InstanceFault.TheVariants as faults
 use Rattle.wasm_store.specs.declared.instantiation.Allocated.{Allocated}
 use Rattle.wasm_store.specs.Values.{Val, IsInType, numbers}
 use Rattle.wasm_store.specs.Instances.{Callee, outside, Instance, Store}
-use Rattle.wasm_store.specs.Instantiation.{LinksOf, AreFirst, ElementsInside, ElementsOutside, DataOutside, minimum}
+use Rattle.wasm_store.specs.NotStarting.{ElementsOutside, DataOutside}
+use Rattle.wasm_store.specs.Instantiation.{LinksOf, AreFirst, ElementsInside, minimum}
 use Rattle.wasm_store.specs.Instantiating.{AreCallees}
 pub use Rattle.wasm_store.specs.Allocation.{AllLinks, may_embed, with_embedder, IsLinkedTo, AreLinkedTo, IsInitializer, Allocates, HasInitializer}
 

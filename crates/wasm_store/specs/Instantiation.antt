@@ -1,7 +1,6 @@
 -- From a valid module to its first configuration (section 4.5.4), cut to the profile: no import but functions.
--- `Instantiates` says what success means, `RefusedFor` what each fault but `Memory` means; both take the links of any
--- host.
-use Rattle.std.specs.Prelude.{◌≡◌, ℕ, ◌+◌, ◌*◌, ◌<◌, ◌≤◌, ◌⊎◌, min, List, [], ◌∷◌, ◌++◌, length, replicate, Option, Some, None, unwrap_or, slice_get, codes, Contains}
+-- `Instantiates` says what success means, over the links of any host; `NotStarting` says why there is none.
+use Rattle.std.specs.Prelude.{◌≡◌, ℕ, ◌+◌, ◌*◌, ◌≤◌, min, List, [], ◌∷◌, ◌++◌, length, replicate, Option, Some, None, unwrap_or, slice_get, codes, Contains}
 use Rattle.std.specs.List.{AllByRecursion}
 use Rattle.std.specs.Option.{option_to_list}
 use Rattle.wasm_module.specs.declared.instruction.ValueType.TheVariants.{I32, I64, F32, F64}
@@ -20,8 +19,6 @@ use Rattle.wasm_module.specs.declared.module.Module.{Module}
 use Rattle.wasm_module.specs.Nested.{Instructions, Nests}
 use Rattle.wasm_valid.specs.Spaces.{functions_of, local_types}
 use Rattle.wasm_store.specs.declared.call.HostCall.{HostCall}
-use Rattle.wasm_store.specs.declared.fault.InstanceFault.{InstanceFault}
-use Rattle.wasm_store.specs.declared.fault.InstanceFault.TheVariants as faults
 use Rattle.wasm_store.specs.Values.{Val, val, number_of}
 use Rattle.wasm_store.specs.Instances.{Callee, imported, own, Instance, Store}
 use Rattle.wasm_store.specs.Bytes.{written}
@@ -48,12 +45,6 @@ AreLinked links types [] [] = Unit {0}
 AreLinked links types [] (c ∷ cs) = ⊥
 AreLinked links types (i ∷ is) [] = ⊥
 AreLinked links types (i ∷ is) (c ∷ cs) = IsLinked links types i c × AreLinked links types is cs
-
--- one of the imports is no function, or the host has no call of its names and type; or its type index names no type
--- (no `type_is`), which a valid module rules out
-abbrev pub SomeUnlinked : LinksOf → List FuncType → List Import → Type 0
-SomeUnlinked links types [] = ⊥
-SomeUnlinked links types (i ∷ is) = ((c : Callee) → IsLinked links types i c → ⊥) ⊎ SomeUnlinked links types is
 
 -- one of the module's own functions: its type, its locals and its instructions as they nest
 pub record IsOwn (types : List FuncType) (x : ℕ) (b : Body) (c : Callee) : Type 0 where
@@ -114,16 +105,8 @@ page_limit pages (l ∷ ls) = min (min (unwrap_or l.max 65536) pages) 65536
 abbrev pub ElementsInside : List Val → ℕ → List ElementSegment → Type 0
 ElementsInside gs size es = AllByRecursion (λ e. segment_start gs e.offset + length e.functions ≤ size) es
 
-abbrev pub ElementsOutside : List Val → ℕ → List ElementSegment → Type 0
-ElementsOutside gs size [] = ⊥
-ElementsOutside gs size (e ∷ es) = (size < segment_start gs e.offset + length e.functions) ⊎ ElementsOutside gs size es
-
 abbrev pub DataInside : List Val → ℕ → List DataSegment → Type 0
 DataInside gs size ds = AllByRecursion (λ d. segment_start gs d.offset + length d.bytes ≤ size) ds
-
-abbrev pub DataOutside : List Val → ℕ → List DataSegment → Type 0
-DataOutside gs size [] = ⊥
-DataOutside gs size (d ∷ ds) = (size < segment_start gs d.offset + length d.bytes) ⊎ DataOutside gs size ds
 
 -- the segments are written one after the other
 abbrev pub with_elements : List Val → List (Option ℕ) → List ElementSegment → List (Option ℕ)
@@ -135,7 +118,7 @@ abbrev pub with_data : List Val → List ℕ → List DataSegment → List ℕ
 with_data gs memory [] = memory
 with_data gs memory (d ∷ ds) = with_data gs (written memory (segment_start gs d.offset) d.bytes) ds
 
--- ---- the first configuration, or a refusal
+-- ---- the first configuration
 
 -- the instance i and the store s of the module, and the functions xs that are entered: the start function, if there is
 -- one, and `_start`
@@ -157,22 +140,3 @@ pub record Instantiates (links : LinksOf) (pages : ℕ) (m : Module) (i : Instan
   pub memory : s.memory ≡ with_data s.globals (replicate (minimum m.memories * 65536) 0) m.data_segments
   pub used : s.used ≡ 0
   pub entered : xs ≡ option_to_list m.start ++ main ∷ []
-
--- every import is linked, and there is a `_start`
-abbrev pub CanStart : LinksOf → Module → Type 0
-CanStart links m = ((cs : List Callee) × AreLinked links m.types m.imports cs) × ((x : ℕ) × IsStart m x)
-
--- why a module is refused; of several reasons the first in this order is named
-abbrev pub RefusedFor : LinksOf → ℕ → Module → InstanceFault → Type 0
-RefusedFor links pages m faults.Import = SomeUnlinked links m.types m.imports
-RefusedFor links pages m faults.NoStart =
-    ((cs : List Callee) × AreLinked links m.types m.imports cs) × ((x : ℕ) → IsStart m x → ⊥)
-RefusedFor links pages m faults.PageLimit = CanStart links m × (pages < minimum m.memories)
-RefusedFor links pages m faults.ElementOutOfBounds =
-    CanStart links m × (minimum m.memories ≤ pages)
-    × ((gs : List Val) × AreFirst m.globals gs × ElementsOutside gs (minimum m.tables) m.element_segments)
-RefusedFor links pages m faults.DataOutOfBounds =
-    CanStart links m × (minimum m.memories ≤ pages)
-    × ((gs : List Val) × AreFirst m.globals gs × ElementsInside gs (minimum m.tables) m.element_segments
-    × DataOutside gs (minimum m.memories * 65536) m.data_segments)
-RefusedFor links pages m faults.Memory = Unit {0}

@@ -7,6 +7,7 @@ pub mod Bytes
 pub mod Elements
 pub mod Instances
 pub mod Instantiation
+pub mod NotStarting
 pub mod Instantiating
 pub mod Allocation
 pub mod Allocating

@@ -17,7 +17,8 @@ use Rattle.wasm_store.specs.declared.fault.InstanceFault.{InstanceFault}
 use Rattle.wasm_store.specs.declared.fault.InstanceFault.TheVariants as faults
 use Rattle.wasm_store.specs.Values.{Val, IsInType, numbers}
 use Rattle.wasm_store.specs.Instances.{Callee}
-use Rattle.wasm_store.specs.Instantiation.{LinksOf, AreFirst, minimum, ElementsInside, ElementsOutside, DataInside, DataOutside, with_elements, with_data}
+use Rattle.wasm_store.specs.NotStarting.{ElementsOutside, DataOutside}
+use Rattle.wasm_store.specs.Instantiation.{LinksOf, AreFirst, minimum, ElementsInside, DataInside, with_elements, with_data}
 use Rattle.wasm_store.specs.Instantiating.{AreCallees}
 use Rattle.wasm_store.specs.Allocation.{AllLinks, AreLinkedTo, with_embedder}
 use Rattle.wasm_store.specs.Allocating.{SomeUnlinkedTo, all_by_host}

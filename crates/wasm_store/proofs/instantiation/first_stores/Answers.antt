@@ -1,5 +1,6 @@
 use Rattle.std.proofs.Common.{◌≡◌, ◌*◌, ℕ, None, replicate, sym, ap, subst, ◌∙◌}
-use Rattle.wasm_store.specs.Instantiation.{minimum, ElementsInside, ElementsOutside, DataInside, DataOutside, with_elements, with_data}
+use Rattle.wasm_store.specs.NotStarting.{ElementsOutside, DataOutside}
+use Rattle.wasm_store.specs.Instantiation.{minimum, ElementsInside, DataInside, with_elements, with_data}
 use Rattle.wasm_store.proofs.instantiation.first_stores.Goals as goal
 
 pub first_memory-requires : goal.first_memory-requires

@@ -2,7 +2,8 @@ use Rattle.std.proofs.Common.{◌≡◌, ◌<◌, ◌≤◌, ℕ, IfErr, refl, s
 use Rattle.wasm_module.specs.declared.module.Module.{Module}
 use Rattle.wasm_valid.specs.Validity.{IsValid}
 use Rattle.wasm_store.specs.declared.instantiation.Instantiated.{Instantiated}
-use Rattle.wasm_store.specs.Instantiation.{minimum, page_limit, RefusedFor}
+use Rattle.wasm_store.specs.NotStarting.{RefusedFor}
+use Rattle.wasm_store.specs.Instantiation.{minimum, page_limit}
 use Rattle.wasm_store.specs.Instantiating.{IsInstantiated}
 use Rattle.wasm_store.proofs.Functions.{imports_functions}
 use Rattle.wasm_store.specs.Allocating.{all_by_host}

@@ -1,7 +1,7 @@
 use Rattle.std.proofs.Common.{ℕ, sym, ◌∙◌, subst}
 use Rattle.wasm_interp.specs.Promise.{Starts}
 use Rattle.wasm_interp.specs.Shared.{Ready}
-use Rattle.wasm_store.specs.Instantiation.{RefusedFor}
+use Rattle.wasm_store.specs.NotStarting.{RefusedFor}
 use Rattle.wasi_calls.specs.host.Links.{link}
 use Rattle.sandbox_core.specs.Session.{IsRefused, given}
 use Rattle.sandbox_core.specs.declared.fault.SessionFault.{SessionFault}
