@@ -3,7 +3,7 @@ use Rattle.wasm_steps.specs.Configuration.{first_configuration}
 use Rattle.sandbox_command.proofs.laws.runs_are_guests.Goals as goal
 
 pub returns : goal.returns
-returns g c = λ m run parts left ran.
+returns g c = λ m words parts left ran.
     let reports = ran.counted.reports in
     let starts = ran.opens.starts in
     record {
@@ -14,7 +14,7 @@ returns g c = λ m run parts left ran.
       resumes = reports.resumes;
       follow = reports.follow;
       outcome = ran.report.outcome;
-      within = subst (λ (n : ℕ). n ≤ run.limits.fuel) reports.used reports.within;
+      within = subst (λ (n : ℕ). n ≤ words.limits.fuel) reports.used reports.within;
       run = reports.run starts.instance (first_configuration starts.entered starts.store) starts.stands;
       volume = ran.report.volume;
       device = ran.device;
