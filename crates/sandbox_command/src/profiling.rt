@@ -50,11 +50,12 @@ pub(crate) fn no_stacks(alloc: Global) -> Result<FuelProfile, AllocError>
 fn add_byte(line: &mut Vec<u8>, byte: u8) -> io::Result<()>
     ensures { OnOk result (line.new.items ≡ line.old.items ++ stack_byte byte) }
 {
-    match byte {
-        b';' => line.extend_from_slice(b"\\3b")?,
-        b'#' => line.extend_from_slice(b"\\23")?,
-        _ => line.push(byte)?,
-    }
+    let shown: &[u8] = match byte {
+        b';' => b"\\3b",
+        b'#' => b"\\23",
+        _ => &[byte],
+    };
+    line.extend_from_slice(shown)?;
     Ok(())
 }
 
@@ -118,17 +119,15 @@ impl<'a> StackNames<'a> {
         names
     }
 
-    /// What a function is called in stacks, looked up.
-    fn looked_up(&self, own: usize) -> io::Result<Vec<u8>>
-        ensures { IfOk result (λ name. name.items ≡ stack_name self.now.bytes self.now.imported own) }
+    /// Adds what a function is called in stacks, looked up.
+    fn look_up(&self, line: &mut Vec<u8>, own: usize) -> io::Result<()>
+        ensures { OnOk result (line.new.items ≡ line.old.items ++ stack_name self.now.bytes self.now.imported own) }
     {
         let index = (self.imported as u64).saturating_add(own as u64);
         let mut called = Vec::new(self.alloc);
         add_called(&mut called, self.bytes, index)?;
         called.truncate(NAME);
-        let mut name = Vec::new(self.alloc);
-        add_bytes(&mut name, called.as_slice())?;
-        Ok(name)
+        add_bytes(line, called.as_slice())
     }
 
     /// Looks the name of a function up where it isn't known, and keeps it where there is memory for it.
@@ -138,7 +137,8 @@ impl<'a> StackNames<'a> {
         if self.known.contains_key(&own) {
             return;
         }
-        if let Ok(name) = self.looked_up(own) {
+        let mut name = Vec::new(self.alloc);
+        if self.look_up(&mut name, own).is_ok() {
             let _ = self.known.insert(own, name);
         }
     }
@@ -148,10 +148,10 @@ impl Names for StackNames<'_> {
     ghost text = { λ names function. stack_name names.bytes names.imported function };
 
     fn add(&self, line: &mut Vec<u8>, function: usize) -> io::Result<()> {
-        match self.known.get(&function) {
-            Some(name) => line.extend_from_slice(name.as_slice())?,
-            None => line.extend_from_slice(self.looked_up(function)?.as_slice())?,
-        }
+        let Some(name) = self.known.get(&function) else {
+            return self.look_up(line, function);
+        };
+        line.extend_from_slice(name.as_slice())?;
         Ok(())
     }
 }

@@ -174,10 +174,8 @@ fn lines_with_answers(
 pub(crate) fn no_lines(alloc: Global, run: &Run<'_>) -> Vec<u8>
     ensures { AreLinesOfNone result.items }
 {
-    if run.frames == 0 {
-        return Vec::new(alloc);
-    }
-    match Vec::from_slice(alloc, b"frames:0\n") {
+    let text: &[u8] = if run.frames == 0 { b"" } else { b"frames:0\n" };
+    match Vec::from_slice(alloc, text) {
         Ok(text) => text,
         Err(_) => Vec::new(alloc),
     }
@@ -239,20 +237,15 @@ fn tell_others<W: Write>(err: &mut W, depth: usize, told: usize)
     }
 }
 
-/// Prints the functions at work that are told, and how many others there were.
-fn tell_all<W: Write>(err: &mut W, stopped: &Stopped, lines: &str)
-    ensures { AppendsSome (W.contents err.old) (W.contents err.new) }
-{
-    tell_lines(err, lines);
-    tell_others(err, stopped.depth, stopped.innermost.len());
-}
-
 /// Prints where a run stopped, by the lines that its report has of it.
 pub(crate) fn tell_frames<W: Write>(err: &mut W, stopped: &Option<Stopped>, lines: &[u8])
     ensures { AppendsSome (W.contents err.old) (W.contents err.new) }
 {
     match (stopped, str::from_utf8(lines)) {
-        (Some(stopped), Ok(lines)) => tell_all(err, stopped, lines),
+        (Some(stopped), Ok(lines)) => {
+            tell_lines(err, lines);
+            tell_others(err, stopped.depth, stopped.innermost.len());
+        }
         _ => say(err, b""),
     }
 }

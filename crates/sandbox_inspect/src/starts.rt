@@ -64,8 +64,9 @@ fn entry_starts(alloc: Global, bytes: &[u8]) -> Result<Vec<usize>, AllocError>
 #[derive(Drop)]
 pub struct ModuleBytes<'a> {
     bytes: &'a [u8],
-    starts: Option<Vec<usize>>,
-    bodies: Option<Vec<Vec<usize>>>,
+    /// Empty until it is looked up, and so are the tables.
+    starts: Vec<usize>,
+    bodies: Vec<Vec<usize>>,
     /// How many instructions may still get into tables.
     room: usize,
 }
@@ -79,19 +80,19 @@ impl<'a> Model for ModuleBytes<'a> {
 
     ghost view = { λ m. m.bytes.now };
 
-    ghost invariant = { λ m. IfSome m.starts (λ starts. AreStarts m.bytes.now starts.items)
-        × IfSome m.bodies (λ tables. (own : ℕ) → IfSome (slice_get tables.items own) (λ places. ArePlaces m.bytes.now own places.items)) };
+    ghost invariant = { λ m. AreStarts m.bytes.now m.starts.items
+        × ((own : ℕ) → IfSome (slice_get m.bodies.items own) (λ places. ArePlaces m.bytes.now own places.items)) };
 }
 
 impl<'a> ModuleBytes<'a> {
     /// These bytes, in which nothing was looked up.
-    pub fn new(bytes: &'a [u8]) -> ModuleBytes<'a>
+    pub fn new(alloc: Global, bytes: &'a [u8]) -> ModuleBytes<'a>
         ensures { result ≡ bytes.now }
     {
         ModuleBytes {
             bytes,
-            starts: None,
-            bodies: None,
+            starts: Vec::new(alloc),
+            bodies: Vec::new(alloc),
             room: MOST_PLACES,
         }
     }
@@ -107,8 +108,10 @@ impl<'a> ModuleBytes<'a> {
     fn look_up(&mut self, alloc: Global)
         ensures { self.new ≡ self.old }
     {
-        if self.starts.is_none() {
-            self.starts = entry_starts(alloc, self.bytes).ok();
+        if self.starts.is_empty()
+            && let Ok(starts) = entry_starts(alloc, self.bytes)
+        {
+            self.starts = starts;
         }
     }
 
@@ -116,22 +119,17 @@ impl<'a> ModuleBytes<'a> {
     fn make_room(&mut self, alloc: Global)
         ensures { self.new ≡ self.old }
     {
-        let functions = match &self.starts {
-            Some(starts) => starts.len(),
-            None => return,
-        };
-        if self.bodies.is_none() {
-            self.bodies = no_places(alloc, functions).ok();
+        if self.bodies.is_empty()
+            && let Ok(tables) = no_places(alloc, self.starts.len())
+        {
+            self.bodies = tables;
         }
     }
 
     /// Whether so many instructions of this function may get into its table, and none are there.
     fn has_room(&self, own: usize, count: usize) -> bool {
-        match &self.bodies {
-            Some(tables) => match tables.as_slice().get(own) {
-                Some(places) => places.is_empty() && count <= self.room,
-                None => false,
-            },
+        match self.bodies.as_slice().get(own) {
+            Some(places) => places.is_empty() && count <= self.room,
             None => false,
         }
     }
@@ -142,9 +140,7 @@ impl<'a> ModuleBytes<'a> {
         ensures { self.new ≡ self.old }
     {
         self.room = self.room.saturating_sub(places.len());
-        if let Some(tables) = &mut self.bodies {
-            put(tables, own, places);
-        }
+        put(&mut self.bodies, own, places);
     }
 
     /// Looks up where so many instructions of this function begin, whose entry's content begins here, if there is room and memory
@@ -171,7 +167,7 @@ impl<'a> ModuleBytes<'a> {
         if index >= body.code.as_slice().len() {
             return None;
         }
-        let places = self.bodies.as_ref()?.as_slice().get(own)?;
+        let places = self.bodies.as_slice().get(own)?;
         let place = places.as_slice().get(index)?;
         Some(*place)
     }
@@ -182,8 +178,7 @@ impl<'a> ModuleBytes<'a> {
             → start ≡ length self.now - length behind - length content }
         ensures fits { length self.now < 2 ^ 64 }
     {
-        let starts = self.starts.as_ref()?;
-        let start = starts.as_slice().get(own)?;
+        let start = self.starts.as_slice().get(own)?;
         Some(*start)
     }
 
