@@ -72,7 +72,7 @@ fn open_into(
 {
     match begin_instance(alloc, plugin, supplies, origin) {
         Ok(instance) => {
-            let bytes = ModuleBytes::new(bytes);
+            let bytes = ModuleBytes::new(alloc, bytes);
             keep(
                 alloc,
                 handle,

@@ -204,7 +204,7 @@ fn open_from(
     match begin_from(alloc, module, supplies, origin, why) {
         Ok(begun) => {
             let session = HostSession::Own(begun);
-            let bytes = ModuleBytes::new(module);
+            let bytes = ModuleBytes::new(alloc, module);
             keep(
                 alloc,
                 handle,
@@ -280,7 +280,7 @@ pub fn load_module_with(
             keep(
                 alloc,
                 module,
-                HandleContent::Loaded(loaded, ModuleBytes::new(bytes)),
+                HandleContent::Loaded(loaded, ModuleBytes::new(alloc, bytes)),
             )
         }
         Err(told) => {

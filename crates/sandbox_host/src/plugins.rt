@@ -77,7 +77,7 @@ pub fn load_plugin(
         Ok(ready) => keep(
             alloc,
             plugin,
-            HandleContent::Plugin(ready, ModuleBytes::new(bytes)),
+            HandleContent::Plugin(ready, ModuleBytes::new(alloc, bytes)),
         ),
         Err(number) => number,
     }
@@ -98,7 +98,7 @@ fn share_into(
         Ok(shared) => keep(
             alloc,
             other,
-            HandleContent::Plugin(shared, ModuleBytes::new(bytes)),
+            HandleContent::Plugin(shared, ModuleBytes::new(alloc, bytes)),
         ),
         Err(_) => OUT_OF_MEMORY,
     }

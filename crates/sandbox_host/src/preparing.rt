@@ -100,7 +100,7 @@ pub fn prepare_with(
             keep(
                 alloc,
                 module,
-                HandleContent::Loaded(loaded, ModuleBytes::new(bytes)),
+                HandleContent::Loaded(loaded, ModuleBytes::new(alloc, bytes)),
             )
         }
         Err(number) => number,
@@ -125,7 +125,7 @@ fn share_into(
             keep(
                 alloc,
                 other,
-                HandleContent::Loaded(loaded, ModuleBytes::new(bytes)),
+                HandleContent::Loaded(loaded, ModuleBytes::new(alloc, bytes)),
             )
         }
         Err(_) => OUT_OF_MEMORY,

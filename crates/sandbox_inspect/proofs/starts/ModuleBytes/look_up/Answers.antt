@@ -1,10 +1,6 @@
-use Rattle.std.proofs.Common.{Result, Ok, Err, IfOk, IfSome}
-use Rattle.std.specs.Result.{result_ok}
+use Rattle.std.proofs.Common.{subst}
 use Rattle.sandbox_inspect.proofs.starts.ModuleBytes.look_up.Goals as goal
 
-if_ok : {T E : Type 0} (P : T → Type 0) (r : Result T E) → IfOk r P → IfSome (result_ok r) P
-if_ok P (Ok x) h = h
-if_ok P (Err e) h = h
-
-pub invariant_of-self-then-is_none-2 : goal.invariant_of-self-then-is_none-2
-invariant_of-self-then-is_none-2 c = (rw c.ok.ensures.value (if_ok _ c.entry_starts.result c.entry_starts.ensures), c.self.invariant.1)
+-- (written before a compiler has told the goal's name)
+pub invariant_of-self-in-Ok : goal.invariant_of-self-in-Ok
+invariant_of-self-in-Ok c = (c.in-Ok.ensures, c.self.invariant.1)

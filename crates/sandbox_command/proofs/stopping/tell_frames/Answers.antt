@@ -1,6 +1,7 @@
 use Rattle.sandbox_command.proofs.Lines.{lines_then}
-use Rattle.sandbox_command.proofs.stopping.tell_all.Goals as goal
+use Rattle.sandbox_command.proofs.stopping.tell_frames.Goals as goal
 
+-- (written before a compiler has told the goal's name)
 pub returns : goal.returns
 returns g c =
     let errs = g.W.Write.contents in
