@@ -15,8 +15,8 @@ use crate::new_bytes::Contents;
 use crate::opening::open_apart;
 use crate::written_file::lock_to_write;
 use std::fs::{File, Metadata, OpenOptions, TryLockError};
-use std::io::{BufWriter, ErrorKind, Write};
-use std::os::unix::fs::{MetadataExt, fchown};
+use std::io::{BufWriter, ErrorKind, Seek, Write};
+use std::os::unix::fs::{FileExt, MetadataExt, fchown};
 use std::path::Path;
 use std::rt::Files;
 use std::{fs, io};
@@ -276,19 +276,43 @@ fn there<R: Files<File = File>>(rt: &R, path: &str, old: Option<File>) -> io::Re
     }
 }
 
-/// Gives a file these bytes in the place of those that it has, and makes that last. A pipe, a terminal or a device takes them.
+/// Writes zeros behind the bytes of a file, so that it has this many.
+fn write_zeros<R: AllocGlobal>(rt: &R, file: &File, from: u64, to: u64) -> io::Result<()> {
+    let zeros = vec![in rt.alloc(); 0; PIECE]?;
+    let mut at = from;
+    while at < to {
+        let count = (to - at).min(PIECE as u64);
+        file.write_all_at(&zeros[..count as usize], at)?;
+        at += count;
+    }
+    Ok(())
+}
+
+/// Makes room behind a file for as many bytes as it is to have. Where there is none, it stays as it is.
+fn make_room<R: AllocGlobal>(rt: &R, file: &File, wanted: u64) -> io::Result<()> {
+    let had = file.metadata()?.len();
+    let done = write_zeros(rt, file, had, wanted);
+    if done.is_err() {
+        let _ = file.set_len(had);
+    }
+    done
+}
+
+/// Gives a file these bytes in the place of those that it has, and makes that last. A pipe, a terminal or a device takes them. What a
+/// file has stays where there is no room for more.
 fn overwrite<R: AllocGlobal>(rt: &R, file: &File, contents: Contents<'_>) -> io::Result<()>
     ensures { OnOk result (WasOverwritten file.now (bytes_of contents.entry)) }
 {
-    let is_file = file.metadata()?.is_file();
-    if is_file {
-        file.set_len(0)?;
+    if !file.metadata()?.is_file() {
+        write_contents(rt, file, contents)?;
+        let _ = file.sync_all();
+        return Ok(());
     }
+    make_room(rt, file, contents.len())?;
     write_contents(rt, file, contents)?;
-    match file.sync_all() {
-        Err(error) if is_file => Err(error),
-        _ => Ok(()),
-    }
+    let mut written = file;
+    file.set_len(written.stream_position()?)?;
+    file.sync_all()
 }
 
 /// Opens a file's folder.
