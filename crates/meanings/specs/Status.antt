@@ -1,4 +1,4 @@
--- The status of the process (`docs/USING.md`, "How a command ends").
+-- The status of the process (`docs/USING.md`, "How a run ends").
 use Rattle.std.specs.Prelude.{◌==◌, ℕ, if◌then◌else◌}
 
 -- 40 is memory that was refused

@@ -1,4 +1,4 @@
--- A run alone, on the files that its words name (`docs/USING.md`, "The command `run`"), over any `Places`: what is asked for in
+-- A run alone, on the files that its words name (`docs/USING.md`, "Options of `run`"), over any `Places`: what is asked for in
 -- turn, what the run begins with, how it ends, and that nothing follows on what it had.
 use Rattle.std.specs.Prelude.{◌≡◌, ◌⊎◌, ◌++◌, ℕ, List, [], Option, Some, None, Result, Ok, Err, IsSome, false, option_map, codes}
 use Rattle.std.specs.Borrow.{Bor}

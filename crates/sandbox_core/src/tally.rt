@@ -30,7 +30,7 @@ fn is_sync(call: HostCall) -> bool
     }
 }
 
-/// One where it is so, else none.
+/// A truth as a number: 1 or 0.
 fn count_of(is_so: bool) -> u64
     ensures { result ≡ (if is_so then 1 else 0) }
 {

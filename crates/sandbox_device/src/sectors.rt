@@ -59,7 +59,7 @@ impl Sectors {
         Ok(Sectors { parts, count })
     }
 
-    /// These.
+    /// The sectors that have these bytes.
     pub(crate) fn of(alloc: Global, images: &[[u8; 512]]) -> Result<Sectors, AllocError>
         requires { length images.now ≤ 16777216 }
         ensures { IfOk result (λ s. s ≡ images.now) }

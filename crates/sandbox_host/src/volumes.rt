@@ -11,7 +11,7 @@ use vol_sector::{Refused, VolumeFault};
 /// The sectors of a fresh volume.
 const FRESH_SECTORS: u32 = 202;
 
-/// And its slots for entries.
+/// The slots for entries of a fresh volume.
 const FRESH_SLOTS: u32 = 16;
 
 /// The sectors that a host may hand in, for a volume that is huge or not.

@@ -11,7 +11,7 @@ use vol_tree::Volume;
 /// The sectors of the volume of a run that names none.
 pub const FRESH_SECTORS: u32 = 202;
 
-/// And its slots for entries.
+/// The slots for entries of that volume.
 const FRESH_SLOTS: u32 = 16;
 
 /// Makes a device an empty volume of 202 sectors and 16 slots, and opens it. A refusal hands the

@@ -1,4 +1,4 @@
-//! What a host keeps, of which nothing is known.
+//! The fields of a host. What holds of them is the invariant of `WasiHost`.
 
 ghost use Rattle.std.specs.Prelude.{◌≡◌};
 
@@ -10,7 +10,7 @@ use vol_sector::Device;
 use vol_tree::{MemorySpan, Volume};
 use wasi_fd::Descriptors;
 
-/// What a host keeps, of which nothing is known.
+/// The fields of a host, with no invariant: `WasiHost` has it.
 #[derive(Drop)]
 pub(crate) struct Inner<'s, 't, D: Device, R, W1, W2> {
     pub volume: Volume<D>,
