@@ -73,7 +73,7 @@ pub(crate) fn stays_inside(text: &[u8]) -> bool
 }
 
 /// Whether a slash or `.` stands at the end of a path, which wants a directory then.
-pub fn ends_open(text: &[u8]) -> bool
+pub fn wants_a_directory(text: &[u8]) -> bool
     ensures { result ≡ wants_directory text.now }
 {
     let mut wants = false;

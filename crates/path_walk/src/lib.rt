@@ -7,7 +7,7 @@ mod path;
 mod rooted;
 mod walking;
 
-pub use components::ends_open;
+pub use components::wants_a_directory;
 pub use laws::{read_gives_names, steps_by_parents, walks_stay_below};
 pub use path::Path;
 pub use rooted::walk_from_root;

@@ -6,7 +6,7 @@ ghost use Rattle.std.specs.Str.Lossy.{utf8_valid_len};
 ghost use Rattle.path_walk.specs.Paths.{path_read, components_of, wants_directory, slash};
 ghost use Rattle.path_walk.specs.internal.Runs.{is_long};
 
-use crate::components::ends_open;
+use crate::components::wants_a_directory;
 use std::marker::Model;
 use vol_tree::Errno;
 
@@ -97,6 +97,6 @@ impl<'a> Path<'a> {
     pub fn wants_dir(&self) -> bool
         ensures { result ≡ wants_directory self.now }
     {
-        ends_open(self.text)
+        wants_a_directory(self.text)
     }
 }

@@ -5,7 +5,7 @@ ghost use Rattle.sandbox_report.specs.Faults.{load_offset};
 ghost use Rattle.sandbox_inspect.specs.Refusal.{fault_lines, lines_of, LiesIn, name_of, refusal_text};
 
 use crate::places::{function_at, function_name};
-use crate::words::{OptionalNumber, add_name};
+use crate::words::{NumberOrNothing, add_name};
 use sandbox_report::Fault;
 use std::alloc::Global;
 use std::io;
@@ -61,10 +61,10 @@ fn add_lines(
     write!(
         text,
         "loads:no\nfault:{}\ntext:{}\noffset:{}\nfunction:{}\nname:",
-        OptionalNumber(number),
+        NumberOrNothing(number),
         reason,
-        OptionalNumber(offset),
-        OptionalNumber(function)
+        NumberOrNothing(offset),
+        NumberOrNothing(function)
     )
 }
 

@@ -8,9 +8,9 @@ use std::{fmt, io};
 
 /// A number, or nothing.
 #[derive(Clone, Copy)]
-pub(crate) struct OptionalNumber(pub Option<u64>);
+pub(crate) struct NumberOrNothing(pub Option<u64>);
 
-impl fmt::Display for OptionalNumber {
+impl fmt::Display for NumberOrNothing {
     ghost output = { λ n. Some (number_text n.0) };
 
     fn fmt<W: fmt::Write>(&self, f: &mut fmt::Formatter<W>) -> fmt::Result {

@@ -26,7 +26,7 @@ use crate::errno::{EXIST, ISDIR, MFILE, NOENT, NOTDIR, NOTSUP, refused};
 use crate::numbers::le32;
 use crate::paths::reach;
 use bitflags::Flags;
-use path_walk::{Reached, ends_open, is_directory};
+use path_walk::{Reached, wants_a_directory, is_directory};
 use vol_sector::Device;
 use vol_tree::{Serial, Volume};
 use wasi_fd::{Descriptor, Descriptors, EntryKind, Fd, Opened, Rights};
@@ -287,7 +287,7 @@ fn reached_target<'p, D: Device>(
 {
     match reached {
         Reached::Found(serial) => found_target(volume, oflags, Serial::new(serial)),
-        Reached::Missing { parent, name } => match check_missing(oflags, ends_open(text)) {
+        Reached::Missing { parent, name } => match check_missing(oflags, wants_a_directory(text)) {
             Ok(()) => Ok(PathTarget::New {
                 parent: Serial::new(parent),
                 name,

@@ -27,7 +27,7 @@ use crate::checks::{DescriptorKinds, check_range, check_rights, check_that, desc
 use crate::errno::{BUSY, ISDIR, NOENT, NOTDIR, NOTEMPTY, refused};
 use crate::paths::reach;
 use crate::paths::removing::is_held;
-use path_walk::{Reached, ends_open, is_directory};
+use path_walk::{Reached, wants_a_directory, is_directory};
 use vol_inode::is_name;
 use vol_sector::Device;
 use vol_tree::{Serial, Volume};
@@ -445,7 +445,7 @@ fn walk_both<'m, D: Device>(
         Ok(source) => source,
         Err(errno) => return Err(errno),
     };
-    let slash = ends_open(ends.to_text);
+    let slash = wants_a_directory(ends.to_text);
     Ok(Walked {
         source,
         target,

@@ -47,4 +47,4 @@ pub returns-in-Ok-clause-checks : goal.returns-in-Ok-clause-checks
 returns-in-Ok-clause-checks c = grind (arith, common_steps)
 
 pub returns-in-Err-clause-io : goal.returns-in-Err-clause-io
-returns-in-Err-clause-io g c = not_29 (missing_checked c.args.oflags c.ends_open.result) _ (missing_checked_never c.args.oflags c.ends_open.result) c.in-Err.ensures
+returns-in-Err-clause-io g c = not_29 (missing_checked c.args.oflags c.wants_a_directory.result) _ (missing_checked_never c.args.oflags c.wants_a_directory.result) c.in-Err.ensures

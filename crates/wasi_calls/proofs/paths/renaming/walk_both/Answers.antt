@@ -116,7 +116,7 @@ returns g c = record {
       let two = c.in-Ok-reach-2.ensures.reaches now w c.in-Ok.ends.to _ (sym c.new-to.ensures) c.in-Ok.ensures.to (sym one.same) in (
         both_walked c.reach.new.volume c.reach-2.new.volume w c.args.memory.now c.args.asked.now (c.in-Ok.ends.from, c.in-Ok.ends.to) (λ v same. c.in-Ok.ensures.row v (same ∙ table)) (reached_as c.in-Ok-reach.moved) one
             (reached_as c.in-Ok-reach-2.target) two c.in-Ok-source_of.source (rw c.new-from.ensures at c.in-Ok-source_of.ensures.row),
-        c.ends_open-slash.ensures ∙ ap wants_directory c.in-Ok.ensures.to,
+        c.wants_a_directory-slash.ensures ∙ ap wants_directory c.in-Ok.ensures.to,
       );
   io = no_29_at_0;
 }

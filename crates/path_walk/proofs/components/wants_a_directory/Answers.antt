@@ -2,7 +2,7 @@ use Rattle.std.proofs.Common.{◌≡◌, ◌≢◌, ◌+◌, ◌<◌, ◌≤◌,
 use Rattle.std.proofs.lemmas.Bool.{eqb-true, eqb-false, cond-true}
 use Rattle.path_walk.specs.Paths.{parts_of, is_skipped, last_or}
 use Rattle.path_walk.proofs.Turning.{last_part, later_part}
-use Rattle.path_walk.proofs.components.ends_open.Goals as goal
+use Rattle.path_walk.proofs.components.wants_a_directory.Goals as goal
 
 pub loop-more-preserved-then-is_empty : goal.loop-more-preserved-then-is_empty
 loop-more-preserved-then-is_empty c =
