@@ -1,8 +1,8 @@
 -- An instance of a command is one by allocation.
 use Rattle.std.proofs.Common.{ℕ, suc, List, [], ◌∷◌, ap}
 use Rattle.std.specs.Option.{option_map}
-use Rattle.wasm_module.specs.declared.module.FuncType.{FuncType}
-use Rattle.wasm_module.specs.declared.module.Import.{Import}
+use Rattle.wasm_syntax.specs.declared.module.FuncType.{FuncType}
+use Rattle.wasm_syntax.specs.declared.module.Import.{Import}
 use Rattle.wasm_store.specs.declared.linked.Linked.TheVariants.{Host}
 use Rattle.wasm_store.specs.Instances.{Callee}
 use Rattle.wasm_store.specs.Instantiation.{LinksOf, AreLinked}

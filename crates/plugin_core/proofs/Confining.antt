@@ -21,7 +21,7 @@ use Rattle.wasi_calls.specs.laws.Confined.{Tops, named_by, HasOnlyDirectoriesOpe
 use Rattle.wasi_calls.proofs.runs.HeldAlongRuns.{is_directory_kind, Holds}
 use Rattle.wasi_calls.proofs.runs.RowsKeep.{row_keeps}
 use Rattle.wasi_calls.proofs.runs.Confinement.{confined, answered_keeps}
-use Rattle.wasm_module.specs.declared.module.Module.{Module}
+use Rattle.wasm_syntax.specs.declared.module.Module.{Module}
 use Rattle.plugin_steps.specs.Lives.{Invocation}
 use Rattle.wasm_store.specs.Allocation.{AllLinks}
 use Rattle.plugin_core.specs.WholeLives.{Life}

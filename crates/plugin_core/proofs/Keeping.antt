@@ -10,7 +10,7 @@ use Rattle.wasm_steps.specs.Configuration.{Instance, Store, Configuration, store
 use Rattle.wasm_steps.specs.Steps.{CallsOf, silent, answers, Reach, stays, goes}
 use Rattle.wasi_calls.specs.laws.Moments.{CallsKeepMoments, Turn, Turns, is_sync}
 use Rattle.wasi_calls.proofs.runs.Moments.{Changes, step_changes, keeps_all}
-use Rattle.wasm_module.specs.declared.module.Module.{Module}
+use Rattle.wasm_syntax.specs.declared.module.Module.{Module}
 use Rattle.plugin_steps.specs.Lives.{Invocation}
 use Rattle.wasm_store.specs.Allocation.{AllLinks}
 use Rattle.plugin_core.specs.WholeLives.{Life, calls_in}

@@ -1,6 +1,6 @@
 -- What each answered call keeps is kept over a life: the embedder's answers and writes leave the host as it is.
 use Rattle.std.proofs.Common.{List, [], ◌++◌}
-use Rattle.wasm_module.specs.declared.module.Module.{Module}
+use Rattle.wasm_syntax.specs.declared.module.Module.{Module}
 use Rattle.wasm_store.specs.declared.call.HostCall.{HostCall}
 use Rattle.wasm_store.specs.declared.call.Errno.{Errno}
 use Rattle.wasm_steps.specs.Configuration.{Instance, Store, Configuration, store_of}

@@ -1,6 +1,6 @@
 -- The instance that a command begins with is one by allocation.
 use Rattle.std.specs.Prelude.{ℕ, List}
-use Rattle.wasm_module.specs.declared.module.Module.{Module}
+use Rattle.wasm_syntax.specs.declared.module.Module.{Module}
 use Rattle.wasm_store.specs.Instances.{Instance, Store}
 use Rattle.wasm_store.specs.Instantiation.{LinksOf, Instantiates}
 use Rattle.wasm_store.specs.Allocation.{Allocates}

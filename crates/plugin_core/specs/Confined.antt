@@ -1,7 +1,7 @@
 -- What a guest can't reach in all its life. Any first part of a life is one, since an invocation may be abandoned anywhere, so
 -- this holds at each moment.
 use Rattle.std.specs.Prelude.{ℕ, List}
-use Rattle.wasm_module.specs.declared.module.Module.{Module}
+use Rattle.wasm_syntax.specs.declared.module.Module.{Module}
 use Rattle.wasm_steps.specs.Configuration.{Store}
 use Rattle.wasm_steps.specs.Steps.{CallsOf}
 use Rattle.wasi_calls.specs.World.{World}

@@ -1,7 +1,7 @@
 -- What is done with a machine from the opening of an instance on is its life: so what holds over lives holds of it.
 use Rattle.std.specs.Prelude.{◌≡◌, ◌≢◌, ℕ, true, List, [], ◌++◌, Option}
 use Rattle.std.specs.Option.{option_to_list}
-use Rattle.wasm_module.specs.declared.module.Module.{Module}
+use Rattle.wasm_syntax.specs.declared.module.Module.{Module}
 use Rattle.wasm_steps.specs.Configuration.{Instance, Store, Configuration, store_of, first_configuration}
 use Rattle.wasm_steps.specs.Steps.{CallsOf}
 use Rattle.plugin_steps.specs.Lives.{returns}

@@ -3,7 +3,7 @@ use Rattle.std.specs.Prelude.{◌≡◌, ◌==◌, ◌&&◌, ℕ, Bool, List, []
 use Rattle.vol_sector.specs.Disk.{Disk}
 use Rattle.vol_tree.specs.Tree.{Tree}
 use Rattle.vol_tree.specs.declared.superblock.Superblock.{Superblock}
-use Rattle.wasm_module.specs.declared.module.Module.{Module}
+use Rattle.wasm_syntax.specs.declared.module.Module.{Module}
 use Rattle.wasm_store.specs.declared.call.HostCall.{HostCall}
 use Rattle.wasm_store.specs.declared.call.Errno.{Errno}
 use Rattle.wasm_steps.specs.Configuration.{Store}

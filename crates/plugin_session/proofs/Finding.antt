@@ -3,8 +3,8 @@ use Rattle.std.proofs.Common.{◌≡◌, ℕ, ◌+◌, ◌<◌, ◌≤◌, List,
 use Rattle.std.specs.Prelude.{slice_get, ◌⊎◌, Contains}
 use Rattle.std.proofs.Math.Nat.{eq-or-lt_of_le}
 use Rattle.std.proofs.lemmas.Option.{slice_get_read, slice_get-get_or}
-use Rattle.wasm_module.specs.declared.module.Export.{Export}
-use Rattle.wasm_module.specs.declared.module.ExportKind.TheVariants as exports
+use Rattle.wasm_syntax.specs.declared.module.Export.{Export}
+use Rattle.wasm_syntax.specs.declared.module.ExportKind.TheVariants as exports
 
 abbrev export_of : List ℕ → ℕ → Export
 export_of name x = record { name = name; kind = exports.Function x }

@@ -1,7 +1,7 @@
 -- The headline of an instance, from what each call says.
 use Rattle.std.proofs.Common.{◌≡◌, ℕ, ◌≤◌, [], ◌∷◌, sym, ◌∙◌, ap, subst}
 use Rattle.vol_sector.specs.Disk.{Image}
-use Rattle.wasm_module.specs.declared.module.Module.{Module}
+use Rattle.wasm_syntax.specs.declared.module.Module.{Module}
 use Rattle.wasm_steps.specs.Steps.{CallsOf}
 use Rattle.wasm_interp.specs.Snapshots.{Snapshot, StandsFor}
 use Rattle.wasi_calls.specs.host.Worlds.{HostState, Shows}

@@ -1,6 +1,6 @@
 -- A limit on values changes nothing that an instance begins with.
 use Rattle.std.proofs.Common.{ℕ, Option}
-use Rattle.wasm_module.specs.declared.module.Module.{Module}
+use Rattle.wasm_syntax.specs.declared.module.Module.{Module}
 use Rattle.wasi_calls.specs.declared.host.wasi_host.HostParts.{HostParts}
 use Rattle.wasi_calls.specs.declared.streams.Terminals.{Terminals}
 use Rattle.wasm_interp.proofs.Limiting.{limited_opens}

@@ -1,7 +1,7 @@
 -- Why an instance is refused, from why its host or its machine is.
 use Rattle.std.proofs.Common.{◌≡◌, subst, true, None}
 use Rattle.vol_tree.specs.Opened.{Opened}
-use Rattle.wasm_module.specs.declared.module.Module.{Module}
+use Rattle.wasm_syntax.specs.declared.module.Module.{Module}
 use Rattle.wasm_store.specs.declared.fault.InstanceFault.{InstanceFault}
 use Rattle.wasm_store.specs.declared.fault.InstanceFault.TheVariants as instance
 use Rattle.wasm_store.specs.Allocating.{NotAllocated}

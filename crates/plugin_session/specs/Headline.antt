@@ -2,7 +2,7 @@
 -- directories stays as it is, and what a crash leaves of its volume at any moment is the tree after some of its answers.
 use Rattle.std.specs.Prelude.{◌≡◌, ℕ, List, [], ◌∷◌, Option, map}
 use Rattle.vol_tree.specs.Tree.{Tree}
-use Rattle.wasm_module.specs.declared.module.Module.{Module}
+use Rattle.wasm_syntax.specs.declared.module.Module.{Module}
 use Rattle.wasm_steps.specs.Configuration.{Configuration, store_of}
 use Rattle.wasm_interp.specs.Snapshots.{StandsFor}
 use Rattle.wasm_interp.specs.Invocations.{TellsStores}

@@ -2,8 +2,8 @@
 -- stands how one is opened or refused, and what each call of it does (`States` says it of any relation by which machines stand for
 -- configurations).
 use Rattle.std.specs.Prelude.{◌≡◌, ◌≢◌, ◌≤◌, ◌+◌, ℕ, true, false, List, Contains, Option, Some, None}
-use Rattle.wasm_module.specs.declared.module.ExportKind.TheVariants as exports
-use Rattle.wasm_module.specs.declared.module.Module.{Module}
+use Rattle.wasm_syntax.specs.declared.module.ExportKind.TheVariants as exports
+use Rattle.wasm_syntax.specs.declared.module.Module.{Module}
 use Rattle.wasm_store.specs.declared.fault.InstanceFault.TheVariants.{Memory as NoMemory}
 use Rattle.wasm_store.specs.Allocating.{NotAllocated}
 use Rattle.wasm_interp.specs.declared.invoking.Event.{Event}

@@ -1,7 +1,7 @@
 -- Why an instance doesn't do what it is told: by where it is; and where it may, by the module or by what its machine tells.
 use Rattle.std.specs.Prelude.{◌≡◌, ◌⊎◌, ◌<◌, ℕ, List, length, Contains, Option, Some, None}
-use Rattle.wasm_module.specs.declared.module.ExportKind.TheVariants as exports
-use Rattle.wasm_module.specs.declared.module.Module.{Module}
+use Rattle.wasm_syntax.specs.declared.module.ExportKind.TheVariants as exports
+use Rattle.wasm_syntax.specs.declared.module.Module.{Module}
 use Rattle.wasm_interp.specs.declared.invoking.NotAnswered.TheVariants as notAnswered
 use Rattle.wasm_interp.specs.declared.invoking.NotInvoked.TheVariants as notInvoked
 use Rattle.wasm_interp.specs.declared.invoking.NotWritten.TheVariants as notWritten

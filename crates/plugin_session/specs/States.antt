@@ -2,7 +2,7 @@
 -- configurations: `Instance` says it by the machine's own.
 use Rattle.std.specs.Prelude.{◌≡◌, ℕ, true, false, codes, Option}
 use Rattle.std.specs.Option.{option_map}
-use Rattle.wasm_module.specs.declared.module.Module.{Module}
+use Rattle.wasm_syntax.specs.declared.module.Module.{Module}
 use Rattle.wasm_store.specs.Allocation.{AllLinks, with_embedder}
 use Rattle.wasm_interp.specs.Snapshots.{Snapshot, StandsFor}
 use Rattle.wasm_interp.specs.Invocations as machine

@@ -1,7 +1,7 @@
 //! What is seen of an instance, and how one is finished.
 
 ghost use Rattle.std.specs.Prelude.{◌≡◌, ◌+◌, ◌/◌, IfNone, IfSome, length, reverse, slice_get};
-ghost use Rattle.wasm_module.specs.declared.module.FuncType.{FuncType as FuncTypeValue};
+ghost use Rattle.wasm_syntax.specs.declared.module.FuncType.{FuncType as FuncTypeValue};
 ghost use Rattle.wasm_interp.specs.Frames.{frames_of};
 ghost use Rattle.wasm_interp.specs.Invoking.{IsAskedFor, IsAsking, results_of};
 

@@ -2,7 +2,7 @@
 
 ghost use Rattle.std.specs.Prelude.{◌≡◌, ℕ, ◌+◌, ◌^◌, ◌<◌, IfOk, IfErr, IfSome, IfNone, MatchResult, Contains, length, None, Some};
 ghost use Rattle.std.specs.Option.{option_to_list};
-ghost use Rattle.wasm_module.specs.declared.module.ExportKind.TheVariants as exports;
+ghost use Rattle.wasm_syntax.specs.declared.module.ExportKind.TheVariants as exports;
 ghost use Rattle.wasm_store.specs.Bytes.{written};
 ghost use Rattle.sandbox_core.specs.Devices.{devices};
 ghost use Rattle.plugin_core.specs.Handling as acts;

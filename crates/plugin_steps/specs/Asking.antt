@@ -1,9 +1,9 @@
 -- Where the embedder is asked: the call of one of its functions comes next. It is stopped before that instruction, and what it writes
 -- there and answers is what `Does` says of it (`Embedding`): the call reads no memory.
 use Rattle.std.specs.Prelude.{◌≡◌, ℕ, List, ◌∷◌, slice_get, Some}
-use Rattle.wasm_module.specs.declared.instruction.ValueType.TheVariants.{I32}
-use Rattle.wasm_module.specs.declared.instruction.Instruction.TheVariants as op
-use Rattle.wasm_module.specs.Nested.{Instructions, plain, invoke}
+use Rattle.wasm_syntax.specs.declared.instruction.ValueType.TheVariants.{I32}
+use Rattle.wasm_syntax.specs.declared.instruction.Instruction.TheVariants as op
+use Rattle.wasm_syntax.specs.Nested.{Instructions, plain, invoke}
 use Rattle.wasm_steps.specs.Configuration.{Val, val, Callee, signature_of, Instance, Store, Code, code, label, frame}
 
 -- with this table, the next instruction calls function x, by its index or by the table, and then x is entered

@@ -2,9 +2,9 @@
 -- for them, so a run of `Reach` never passes one, and none is in an instance by `Instantiates`.
 use Rattle.std.specs.Prelude.{◌≡◌, ℕ, ◌≤◌, List, ◌++◌, length, reverse, slice_get, Some}
 use Rattle.std.specs.List.{AllByRecursion}
-use Rattle.wasm_module.specs.declared.instruction.ValueType.{ValueType}
-use Rattle.wasm_module.specs.declared.module.FuncType.{FuncType}
-use Rattle.wasm_module.specs.Nested.{Instructions, invoke}
+use Rattle.wasm_syntax.specs.declared.instruction.ValueType.{ValueType}
+use Rattle.wasm_syntax.specs.declared.module.FuncType.{FuncType}
+use Rattle.wasm_syntax.specs.Nested.{Instructions, invoke}
 use Rattle.wasm_store.specs.Values.{IsInType}
 use Rattle.wasm_store.specs.Instances.{outside}
 use Rattle.wasm_steps.specs.Configuration.{Val, types, Instance, Store, Code, code, label, frame, Configuration, at, used_by}

@@ -4,12 +4,12 @@ use Rattle.std.specs.Prelude.{nat_eq, nat_le}
 use Rattle.std.proofs.Math.Seq.{drop-append_seam}
 use Rattle.std.proofs.lemmas.Option.{none-some, same_Some, slice_get_past}
 use Rattle.std.proofs.lemmas.Bool.{eq-eqb, ne_eqb, le-leb, lt-leb}
-use Rattle.wasm_module.specs.declared.instruction.ValueType.TheVariants.{I32}
-use Rattle.wasm_module.specs.declared.instruction.FloatOperator.{FloatOperator}
-use Rattle.wasm_module.specs.declared.instruction.Instruction.{Instruction}
-use Rattle.wasm_module.specs.declared.instruction.Instruction.TheVariants as op
-use Rattle.wasm_module.specs.declared.module.FuncType.{FuncType}
-use Rattle.wasm_module.specs.Nested.{Instructions, done, plain, block, loop, if_then, if_else, invoke, append}
+use Rattle.wasm_syntax.specs.declared.instruction.ValueType.TheVariants.{I32}
+use Rattle.wasm_syntax.specs.declared.instruction.FloatOperator.{FloatOperator}
+use Rattle.wasm_syntax.specs.declared.instruction.Instruction.{Instruction}
+use Rattle.wasm_syntax.specs.declared.instruction.Instruction.TheVariants as op
+use Rattle.wasm_syntax.specs.declared.module.FuncType.{FuncType}
+use Rattle.wasm_syntax.specs.Nested.{Instructions, done, plain, block, loop, if_then, if_else, invoke, append}
 use Rattle.wasm_valid.specs.Arities.{arity, float_takes, float_gives}
 use Rattle.wasm_num.specs.declared.trap.Trap.{Trap}
 use Rattle.wasm_num.specs.declared.trap.Trap.TheVariants as traps
@@ -17,7 +17,7 @@ use Rattle.wasm_store.specs.declared.call.HostCall.{HostCall}
 use Rattle.wasm_store.specs.declared.call.Answer.{Answer}
 use Rattle.wasm_store.specs.declared.call.Answer.TheVariants.{Value as value, Exit as exit}
 use Rattle.wasm_store.specs.Instances.{outside}
-use Rattle.wasm_module.specs.ValueTypes.{integer}
+use Rattle.wasm_syntax.specs.ValueTypes.{integer}
 use Rattle.wasm_steps.specs.Configuration.{Val, val, numbers, types, zeros, Function, Callee, imported, own, signature_of, Instance, Store, trapped, exited, Code, code, label, frame, stopped, Configuration, at, code_of, used_by}
 use Rattle.wasm_steps.specs.FloatOperators.{float_number}
 use Rattle.wasm_steps.specs.Steps.{LoadOp, StoreOp, load_of, store_of, loaded, bytes_at, unreachable_traps, nop_step, block_step, loop_step, if_then_set, if_then_zero, if_else_set, if_else_zero, br_if_stays, branches, returns, call_step, call_indirect_step, call_undefined, call_uninitialized, call_mistyped, drop_step, select_first, select_second, local_get_step, local_set_step, local_tee_step, global_get_step, global_set_step, load_step, load_traps, store_step, store_traps, size_step, grows, grows_not, copy_step, copy_traps, fill_step, fill_traps, i32_const_step, i64_const_step, eqz_step, compare_step, unary_step, binary_step, binary_traps, wrap_step, extend_signed, extend_unsigned, f32_const_step, f64_const_step, float_step, float_traps, Reduces, AdminStep, invokes, exhausted, leaves_label, leaves_frame, stops_label, stops_frame, tick, CallsOf, given, Event, silent, answers, Step, plain_step, free_step, host_answers, host_exits, in_label, in_frame}

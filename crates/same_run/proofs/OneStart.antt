@@ -4,18 +4,18 @@ use Rattle.std.specs.Prelude.{get_or}
 use Rattle.std.specs.List.{AllByRecursion}
 use Rattle.std.specs.Option.{option_to_list}
 use Rattle.std.proofs.lemmas.Option.{same_Some}
-use Rattle.wasm_module.specs.declared.instruction.Instruction.{Instruction}
-use Rattle.wasm_module.specs.declared.instruction.Instruction.TheVariants as op
-use Rattle.wasm_module.specs.declared.instruction.BlockType.{BlockType}
-use Rattle.wasm_module.specs.declared.module.FuncType.{FuncType}
-use Rattle.wasm_module.specs.declared.module.Import.{Import}
-use Rattle.wasm_module.specs.declared.module.ImportKind.TheVariants as imports
-use Rattle.wasm_module.specs.declared.module.Export.{Export}
-use Rattle.wasm_module.specs.declared.module.ExportKind.TheVariants as exports
-use Rattle.wasm_module.specs.declared.module.Body.{Body}
-use Rattle.wasm_module.specs.declared.module.GlobalEntry.{GlobalEntry}
-use Rattle.wasm_module.specs.declared.module.Module.{Module}
-use Rattle.wasm_module.specs.Nested.{Instructions, done, plain, block, loop, if_then, if_else, invoke, IsPlain, flatten, IsWritten, Nests}
+use Rattle.wasm_syntax.specs.declared.instruction.Instruction.{Instruction}
+use Rattle.wasm_syntax.specs.declared.instruction.Instruction.TheVariants as op
+use Rattle.wasm_syntax.specs.declared.instruction.BlockType.{BlockType}
+use Rattle.wasm_syntax.specs.declared.module.FuncType.{FuncType}
+use Rattle.wasm_syntax.specs.declared.module.Import.{Import}
+use Rattle.wasm_syntax.specs.declared.module.ImportKind.TheVariants as imports
+use Rattle.wasm_syntax.specs.declared.module.Export.{Export}
+use Rattle.wasm_syntax.specs.declared.module.ExportKind.TheVariants as exports
+use Rattle.wasm_syntax.specs.declared.module.Body.{Body}
+use Rattle.wasm_syntax.specs.declared.module.GlobalEntry.{GlobalEntry}
+use Rattle.wasm_syntax.specs.declared.module.Module.{Module}
+use Rattle.wasm_syntax.specs.Nested.{Instructions, done, plain, block, loop, if_then, if_else, invoke, IsPlain, flatten, IsWritten, Nests}
 use Rattle.wasm_valid.specs.Spaces.{local_types}
 use Rattle.wasm_valid.specs.Validity.{AreApart, IsValid}
 use Rattle.wasm_store.specs.Values.{Val}

@@ -1,6 +1,6 @@
 -- Two runs from the same beginning.
 use Rattle.std.proofs.Common.{◌≡◌, ◌≢◌, ◌⊎◌, ℕ, suc, ◌≤◌, Bool, false, List, [], ◌++◌, append-nil, refl, sym, ◌∙◌, ap, subst, inl, inr, arith}
-use Rattle.wasm_module.specs.Nested.{done}
+use Rattle.wasm_syntax.specs.Nested.{done}
 use Rattle.wasm_store.specs.declared.call.HostCall.{HostCall}
 use Rattle.wasm_store.specs.declared.call.Errno.{Errno}
 use Rattle.wasm_steps.specs.declared.pause.Outcome.{Outcome}

@@ -1,6 +1,6 @@
 -- A valid module has one first configuration.
 use Rattle.std.specs.Prelude.{◌≡◌, ℕ, List}
-use Rattle.wasm_module.specs.declared.module.Module.{Module}
+use Rattle.wasm_syntax.specs.declared.module.Module.{Module}
 use Rattle.wasm_valid.specs.Validity.{IsValid}
 use Rattle.wasm_store.specs.Instances.{Instance, Store}
 use Rattle.wasm_store.specs.Instantiation.{LinksOf, Instantiates}

@@ -7,7 +7,7 @@ ghost use Rattle.vol_sector.specs.Record.{image_of};
 ghost use Rattle.vol_inode.specs.declared.version.Version.TheVariants.{Four};
 ghost use Rattle.vol_tree.specs.Fresh.{fresh, fresh_as};
 ghost use Rattle.vol_tree.specs.Stands.{StandsAs, empty_tree};
-ghost use Rattle.wasm_module.specs.declared.module.Module.{Module as ModuleValue};
+ghost use Rattle.wasm_syntax.specs.declared.module.Module.{Module as ModuleValue};
 ghost use Rattle.sandbox_host.specs.Sessions.{running, finished, loaded, prepared, bytes_of, has_session, has_module, module_of, output, most_of, was_filled, sectors};
 ghost use Rattle.sandbox_host.specs.Sessions.{IsLoaded, IsLoadedWith, IsShown, Begins, BeginsFrom, Paused, Finishes};
 ghost use Rattle.sandbox_host.specs.Recording.{recorded, operation_of, told_operation};

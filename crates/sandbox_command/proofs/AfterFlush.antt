@@ -6,8 +6,8 @@ use Rattle.std.specs.Io.KnownBytes.{Keeps}
 use Rattle.std.proofs.KnownBytes.{Appends-kept, Keeps-trans}
 use Rattle.vol_sector.specs.Disk.{Disk}
 use Rattle.vol_tree.specs.Tree.{Tree}
-use Rattle.wasm_module.specs.declared.fault.LoadFault.{LoadFault}
-use Rattle.wasm_module.specs.declared.profile.Profile.{Profile}
+use Rattle.wasm_syntax.specs.declared.fault.LoadFault.{LoadFault}
+use Rattle.wasm_syntax.specs.declared.profile.Profile.{Profile}
 use Rattle.wasm_store.specs.Instantiation.{LinksOf}
 use Rattle.sandbox_inspect.specs.Printing.{PrintsBeginning, Tells}
 use Rattle.wasi_calls.specs.host.Links.{link}

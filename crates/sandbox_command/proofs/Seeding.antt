@@ -1,7 +1,7 @@
 -- A session with the random bytes of a seed, or interactive, is what it was but for that.
 use Rattle.std.proofs.Common.{◌≡◌, ℕ, Option, None, Some, refl, ap, sym, subst}
 use Rattle.vol_sector.specs.declared.device.Device.{Ghosts}
-use Rattle.wasm_module.specs.declared.module.Module.{Module}
+use Rattle.wasm_syntax.specs.declared.module.Module.{Module}
 use Rattle.wasi_calls.specs.declared.host.wasi_host.HostParts.{HostParts}
 use Rattle.wasi_calls.specs.declared.streams.Terminals.{Terminals}
 use Rattle.sandbox_core.specs.Session.{Opens, OpensWith, SessionState, Shares, seeded_by, interactive_with}

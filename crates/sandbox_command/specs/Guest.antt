@@ -6,7 +6,7 @@ use Rattle.vol_sector.specs.Disk.{Image, Disk, Leaves}
 use Rattle.vol_sector.specs.declared.fault.Refused.{Refused}
 use Rattle.vol_tree.specs.Opened.{Opened}
 use Rattle.vol_tree.specs.Stands.{StandsAs}
-use Rattle.wasm_module.specs.declared.module.Module.{Module}
+use Rattle.wasm_syntax.specs.declared.module.Module.{Module}
 use Rattle.wasm_steps.specs.declared.pause.Outcome.{Outcome}
 use Rattle.wasm_steps.specs.Configuration.{first_configuration}
 use Rattle.wasm_interp.specs.Snapshots.{StandsFor}

@@ -9,8 +9,8 @@ use Rattle.std.specs.declared.io.ErrorKind.TheVariants.{OutOfMemory}
 use Rattle.std.specs.Io.KnownBytes.{Appends}
 use Rattle.std.specs.declared.io.Read.{Ghosts as Reader}
 use Rattle.std.specs.declared.io.Write.{Ghosts as Writer}
-use Rattle.wasm_module.specs.declared.module.Module.{Module}
-use Rattle.wasm_module.specs.Module.{SpellsWith}
+use Rattle.wasm_syntax.specs.declared.module.Module.{Module}
+use Rattle.wasm_syntax.specs.Module.{SpellsWith}
 use Rattle.wasm_valid.specs.Validity.{IsValid}
 use Rattle.wasm_steps.specs.declared.pause.Outcome.{Outcome}
 use Rattle.sandbox_report.specs.declared.end.End.TheVariants.{Ran, Refused}

@@ -1,7 +1,7 @@
 -- Which modules a command takes: those with floats where its words say so (`docs/USING.md`).
 use Rattle.std.specs.Prelude.{Bool, true, false}
-use Rattle.wasm_module.specs.declared.profile.Profile.{Profile}
-use Rattle.wasm_module.specs.declared.profile.Profile.TheVariants.{Integers, Floats}
+use Rattle.wasm_syntax.specs.declared.profile.Profile.{Profile}
+use Rattle.wasm_syntax.specs.declared.profile.Profile.TheVariants.{Integers, Floats}
 
 abbrev pub profile_for : (floats : Bool) → Profile
 profile_for true = Floats

@@ -2,7 +2,7 @@
 -- says `ChargesRun` (`crates/observed_run/specs`), what the lines of stacks are `IsFolded` (`crates/run_profile/specs`).
 use Rattle.std.specs.Prelude.{◌≡◌, ◌+◌, ◌-◌, ◌^◌, ◌==◌, ℕ, List, [], ◌∷◌, ◌++◌, Option, Some, None, false, if◌then◌else◌, length, min, take, unwrap_or}
 use Rattle.std.specs.List.{flat_map}
-use Rattle.wasm_module.specs.declared.module.Module.{Module}
+use Rattle.wasm_syntax.specs.declared.module.Module.{Module}
 use Rattle.sandbox_inspect.specs.Places.{called}
 use Rattle.sandbox_inspect.specs.Words.{called_text}
 use Rattle.run_profile.specs.Folded.{IsFolded, cut_text}

@@ -1,7 +1,7 @@
 //! Where a run stopped: the functions that were at work then, how its calls were answered, and the lines that tell of both.
 
 ghost use Rattle.std.specs.Prelude.{◌≡◌, ◌++◌, IfOk, OnOk, codes, take};
-ghost use Rattle.wasm_module.specs.declared.module.Module.{Module as ModuleValue};
+ghost use Rattle.wasm_syntax.specs.declared.module.Module.{Module as ModuleValue};
 ghost use Rattle.sandbox_inspect.specs.Sites.{IsSite};
 ghost use Rattle.sandbox_command.specs.Stopping.{AreFrameLines, AreLinesBy, AreLinesOf, AreLinesOfNone, HasLines, answer_line, answers_text, instruction_of};
 ghost use Rattle.sandbox_command.specs.Streams.{AppendsSome};

@@ -1,7 +1,7 @@
 -- A limit on values changes nothing that a session begins with.
 use Rattle.std.proofs.Common.{ℕ, Option}
 use Rattle.vol_sector.specs.declared.device.Device.{Ghosts}
-use Rattle.wasm_module.specs.declared.module.Module.{Module}
+use Rattle.wasm_syntax.specs.declared.module.Module.{Module}
 use Rattle.wasi_calls.specs.host.Links.{link}
 use Rattle.wasi_calls.specs.declared.host.wasi_host.HostParts.{HostParts}
 use Rattle.wasm_interp.proofs.Limiting.{limited_starts}

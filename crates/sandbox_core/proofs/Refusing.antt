@@ -3,7 +3,7 @@ use Rattle.std.proofs.Common.{◌≡◌, ◌∙◌, ap, refl, sym, subst, true, 
 use Rattle.std.specs.Prelude.{Err}
 use Rattle.vol_sector.specs.declared.device.Device.{Ghosts}
 use Rattle.vol_tree.specs.Opened.{Opened}
-use Rattle.wasm_module.specs.declared.module.Module.{Module}
+use Rattle.wasm_syntax.specs.declared.module.Module.{Module}
 use Rattle.wasm_store.specs.declared.fault.InstanceFault.{InstanceFault}
 use Rattle.wasm_store.specs.declared.fault.InstanceFault.TheVariants as instance
 use Rattle.wasm_store.specs.NotStarting.{RefusedFor}

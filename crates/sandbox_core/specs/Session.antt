@@ -3,7 +3,7 @@ use Rattle.std.specs.Prelude.{◌≡◌, ◌≢◌, ◌==◌, ℕ, true, false, 
 use Rattle.std.specs.Prelude.{Option, None}
 use Rattle.vol_sector.specs.declared.device.Device.{Ghosts}
 use Rattle.vol_tree.specs.Opened.{Opened}
-use Rattle.wasm_module.specs.declared.module.Module.{Module}
+use Rattle.wasm_syntax.specs.declared.module.Module.{Module}
 use Rattle.wasm_store.specs.declared.fault.InstanceFault.TheVariants.{Memory as NoMemory}
 use Rattle.wasm_store.specs.NotStarting.{RefusedFor}
 use Rattle.wasm_steps.specs.declared.pause.Pause.{Pause}

@@ -6,7 +6,7 @@ use Rattle.std.specs.Option.{option_map}
 use Rattle.vol_sector.specs.declared.device.Device.{Ghosts}
 use Rattle.vol_tree.specs.Tree.{IsTree}
 use Rattle.vol_tree.specs.Opened.{Opened, GoesOn}
-use Rattle.wasm_module.specs.declared.module.Module.{Module}
+use Rattle.wasm_syntax.specs.declared.module.Module.{Module}
 use Rattle.wasm_steps.specs.declared.pause.Pause.{Pause}
 use Rattle.wasm_steps.specs.declared.pause.Pause.TheVariants.{Called}
 use Rattle.wasm_interp.specs.Snapshots.{Snapshot, StandsFor}

@@ -1,8 +1,8 @@
 //! From bytes to a valid module.
 
 ghost use Rattle.std.specs.Prelude.{◌≢◌, IfOk, IfErr};
-ghost use Rattle.wasm_module.specs.Module.{Spells, SpellsWith};
-ghost use Rattle.wasm_module.specs.declared.module.Module.{Module as ModuleValue};
+ghost use Rattle.wasm_syntax.specs.Module.{Spells, SpellsWith};
+ghost use Rattle.wasm_syntax.specs.declared.module.Module.{Module as ModuleValue};
 ghost use Rattle.wasm_valid.specs.Validity.{IsValid};
 ghost use Rattle.wasm_valid.specs.Refusal.{IsRefusal};
 

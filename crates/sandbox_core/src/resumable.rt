@@ -1,7 +1,7 @@
 //! What a run asks of a session, whether it owns its module or shares it.
 
 ghost use Rattle.std.specs.Prelude.{◌≡◌, ◌+◌, ◌^◌, ◌<◌, ◌/◌, length, slice_get};
-ghost use Rattle.wasm_module.specs.declared.module.Module.{Module as ModuleValue};
+ghost use Rattle.wasm_syntax.specs.declared.module.Module.{Module as ModuleValue};
 ghost use Rattle.wasm_interp.specs.Frames.{frames_of};
 ghost use Rattle.wasi_calls.specs.host.Worlds.{stream_failed};
 ghost use Rattle.sandbox_core.specs.Devices.{devices};

@@ -15,7 +15,7 @@ use Rattle.vol_tree.specs.Opening.{StandsOn}
 use Rattle.vol_tree.specs.Opened.{GoesOn}
 use Rattle.vol_tree.proofs.GoingOn.{goes_same, goes_then}
 use Rattle.vol_tree.proofs.OneTree.{version_is}
-use Rattle.wasm_module.specs.declared.module.Module.{Module}
+use Rattle.wasm_syntax.specs.declared.module.Module.{Module}
 use Rattle.sandbox_device.specs.internal.RecordedLaws.{now_may_stay}
 use Rattle.sandbox_device.specs.declared.recorded_device.RecordedDevice.{RecordedDevice}
 use Rattle.sandbox_host.specs.declared.numbers.Told.{Told}

@@ -4,7 +4,7 @@ use Rattle.std.specs.Borrow.{Bor}
 use Rattle.vol_sector.specs.internal.PastLaws.{past_same}
 use Rattle.vol_sector.specs.internal.RecordLaws.{begins_itself}
 use Rattle.vol_tree.specs.Opened.{GoesOn}
-use Rattle.wasm_module.specs.declared.module.Module.{Module}
+use Rattle.wasm_syntax.specs.declared.module.Module.{Module}
 use Rattle.sandbox_device.specs.declared.recorded_device.RecordedDevice.{RecordedDevice}
 use Rattle.sandbox_device.specs.Followed.{followed_disk}
 use Rattle.sandbox_device.specs.Followed as device

@@ -1,6 +1,6 @@
 -- What a host calls on a session is a list of resumes.
 use Rattle.std.proofs.Common.{◌-◌, ◌^◌, min, List, [], ◌∷◌, refl}
-use Rattle.wasm_module.specs.declared.module.Module.{Module}
+use Rattle.wasm_syntax.specs.declared.module.Module.{Module}
 use Rattle.wasm_interp.specs.Snapshots.{StandsFor}
 use Rattle.sandbox_core.specs.Sessions.{used_by}
 use Rattle.sandbox_core.specs.Headline as headline

@@ -1,6 +1,6 @@
 -- How a session begins, and what calls of `resume` do, by whichever relation machines stand for configurations.
 use Rattle.std.specs.Prelude.{◌≡◌, ◌-◌, ◌^◌, ℕ, true, false, List, [], ◌∷◌, min, max, None}
-use Rattle.wasm_module.specs.declared.module.Module.{Module}
+use Rattle.wasm_syntax.specs.declared.module.Module.{Module}
 use Rattle.wasm_steps.specs.declared.pause.Pause.{Pause}
 use Rattle.wasm_interp.specs.Snapshots.{StandsFor}
 use Rattle.sandbox_core.specs.Sessions as core

@@ -1,7 +1,7 @@
 -- What `finish` leaves of a session, and the number that it answers.
 use Rattle.std.specs.Prelude.{◌≡◌, ℕ, Result, Ok, Err}
 use Rattle.vol_sector.specs.declared.fault.Refused.{Refused}
-use Rattle.wasm_module.specs.declared.module.Module.{Module}
+use Rattle.wasm_syntax.specs.declared.module.Module.{Module}
 use Rattle.sandbox_core.specs.Finishing as core
 use Rattle.sandbox_device.specs.declared.recorded_device.RecordedDevice.{RecordedDevice}
 use Rattle.sandbox_host.specs.declared.held.Ended.{Ended}

@@ -2,10 +2,10 @@
 -- instruction each goes on with, is said by `frames_of`, and the law `frames_are_the_configurations` says that they are the
 -- frames of the rules' configuration.
 use Rattle.std.specs.Prelude.{◌≡◌, ◌+◌, ◌-◌, ◌^◌, ◌==◌, ℕ, List, ◌++◌, length, min, Option, Some, None, IfSome, if◌then◌else◌, slice_get, codes, decimal}
-use Rattle.wasm_module.specs.declared.module.Body.{Body}
-use Rattle.wasm_module.specs.declared.module.Module.{Module}
-use Rattle.wasm_module.specs.declared.profile.Profile.{Profile}
-use Rattle.wasm_module.specs.Module.{SpellsWith}
+use Rattle.wasm_syntax.specs.declared.module.Body.{Body}
+use Rattle.wasm_syntax.specs.declared.module.Module.{Module}
+use Rattle.wasm_syntax.specs.declared.profile.Profile.{Profile}
+use Rattle.wasm_syntax.specs.Module.{SpellsWith}
 use Rattle.wasm_interp.specs.declared.frames.Frame.{Frame}
 use Rattle.wasm_interp.specs.Machine.{Snapshot}
 use Rattle.sandbox_inspect.specs.Places.{IsInstructionAt, called}

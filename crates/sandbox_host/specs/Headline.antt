@@ -2,7 +2,7 @@
 -- `host_headline` says that these calls are resumes of `sandbox_core`, told by their numbers, and that its headline
 -- holds of them.
 use Rattle.std.specs.Prelude.{◌≡◌, List, [], ◌∷◌}
-use Rattle.wasm_module.specs.declared.module.Module.{Module}
+use Rattle.wasm_syntax.specs.declared.module.Module.{Module}
 use Rattle.wasm_interp.specs.Snapshots.{StandsFor}
 use Rattle.sandbox_core.specs.Sessions.{History, used_by}
 use Rattle.sandbox_core.specs.Sessions as core

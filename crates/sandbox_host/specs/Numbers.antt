@@ -1,7 +1,7 @@
 -- Refusals, outcomes and pauses as the numbers that a host is told (`include/sandbox.h`). Contracts speak of a fault or
 -- a pause, and these functions say which number a host in C gets for it.
 use Rattle.std.specs.Prelude.{ℕ, ◌-◌, ◌^◌, min, unwrap_or}
-use Rattle.wasm_module.specs.declared.fault.LoadFault.{LoadFault}
+use Rattle.wasm_syntax.specs.declared.fault.LoadFault.{LoadFault}
 use Rattle.sandbox_core.specs.declared.fault.SessionFault.{SessionFault}
 use Rattle.sandbox_core.specs.declared.fault.SessionFault.TheVariants as opening
 use Rattle.vol_sector.specs.declared.fault.VolumeFault.{VolumeFault}

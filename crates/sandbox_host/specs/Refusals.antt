@@ -3,12 +3,12 @@
 -- loaded for limits.
 use Rattle.std.specs.Prelude.{◌≡◌, ◌≢◌, ◌⊎◌, ◌<◌, ℕ, List, false, Option, Some}
 use Rattle.vol_sector.specs.declared.fault.VolumeFault.{VolumeFault}
-use Rattle.wasm_module.specs.declared.module.Module.{Module}
-use Rattle.wasm_module.specs.declared.fault.LoadFault.{LoadFault}
-use Rattle.wasm_module.specs.declared.fault.LoadFault.TheVariants.{Memory}
-use Rattle.wasm_module.specs.declared.profile.Profile.{Profile}
-use Rattle.wasm_module.specs.declared.profile.Profile.TheVariants.{Integers}
-use Rattle.wasm_module.specs.Module.{SpellsWith}
+use Rattle.wasm_syntax.specs.declared.module.Module.{Module}
+use Rattle.wasm_syntax.specs.declared.fault.LoadFault.{LoadFault}
+use Rattle.wasm_syntax.specs.declared.fault.LoadFault.TheVariants.{Memory}
+use Rattle.wasm_syntax.specs.declared.profile.Profile.{Profile}
+use Rattle.wasm_syntax.specs.declared.profile.Profile.TheVariants.{Integers}
+use Rattle.wasm_syntax.specs.Module.{SpellsWith}
 use Rattle.wasm_valid.specs.Validity.{IsValid}
 use Rattle.wasm_valid.specs.Refusal.{IsRefusal}
 use Rattle.wasm_store.specs.declared.fault.InstanceFault.{InstanceFault}

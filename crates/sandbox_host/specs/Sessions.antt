@@ -3,10 +3,10 @@
 -- nothing) by its cases; in the second `Begins`, `Paused` and
 -- `Finishes` tie these calls to the session of `sandbox_core`.
 use Rattle.std.specs.Prelude.{◌≡◌, ◌==◌, ℕ, Bool, true, false, List, [], length, take, drop, ◌++◌, min, Option, Some, None, if◌then◌else◌}
-use Rattle.wasm_module.specs.declared.module.Module.{Module}
-use Rattle.wasm_module.specs.declared.profile.Profile.{Profile}
-use Rattle.wasm_module.specs.declared.profile.Profile.TheVariants.{Integers}
-use Rattle.wasm_module.specs.Module.{SpellsWith}
+use Rattle.wasm_syntax.specs.declared.module.Module.{Module}
+use Rattle.wasm_syntax.specs.declared.profile.Profile.{Profile}
+use Rattle.wasm_syntax.specs.declared.profile.Profile.TheVariants.{Integers}
+use Rattle.wasm_syntax.specs.Module.{SpellsWith}
 use Rattle.wasm_valid.specs.Validity.{IsValid}
 use Rattle.wasm_interp.specs.Machine.{Represents}
 use Rattle.sandbox_host.specs.declared.numbers.Told.{Told}

@@ -2,8 +2,8 @@
 -- the input is left out of `settings_of`: a session takes it beside its settings.
 use Rattle.std.specs.Prelude.{◌==◌, ℕ, Bool, if◌then◌else◌}
 use Rattle.std.specs.List.{list_all}
-use Rattle.wasm_module.specs.declared.profile.Profile.{Profile}
-use Rattle.wasm_module.specs.declared.profile.Profile.TheVariants.{Integers, Floats}
+use Rattle.wasm_syntax.specs.declared.profile.Profile.{Profile}
+use Rattle.wasm_syntax.specs.declared.profile.Profile.TheVariants.{Integers, Floats}
 use Rattle.wasi_calls.specs.declared.host.settings.Settings.{Settings}
 use Rattle.sandbox_host.specs.declared.supplies.SessionLimits.{SessionLimits}
 use Rattle.sandbox_host.specs.declared.supplies.Supplies.{Supplies}

@@ -2,8 +2,8 @@
 
 ghost use Rattle.std.specs.Prelude.{◌≡◌, ◌-◌, ◌^◌, min, None, IfSome, is_none, true, length, slice_get};
 ghost use Rattle.wasm_interp.specs.Frames.{frames_of};
-ghost use Rattle.wasm_module.specs.declared.profile.Profile.{Profile as ProfileValue};
-ghost use Rattle.wasm_module.specs.Module.{SpellsWith};
+ghost use Rattle.wasm_syntax.specs.declared.profile.Profile.{Profile as ProfileValue};
+ghost use Rattle.wasm_syntax.specs.Module.{SpellsWith};
 ghost use Rattle.sandbox_host.specs.Sessions.{bytes_in, bytes_of, IsShown};
 ghost use Rattle.sandbox_host.specs.Frames.{instruction_of, IsOffset, TellsFrame, machine_in, machine_of, name_of, number_name};
 

@@ -5,7 +5,7 @@ ghost use Rattle.vol_sector.specs.Record.{image_of};
 ghost use Rattle.vol_tree.specs.Superblock.{HasRanges};
 ghost use Rattle.vol_tree.specs.Fresh.{fresh, fresh_as};
 ghost use Rattle.vol_tree.specs.Stands.{StandsAs, empty_tree};
-ghost use Rattle.wasm_module.specs.declared.module.Module.{Module as ModuleValue};
+ghost use Rattle.wasm_syntax.specs.declared.module.Module.{Module as ModuleValue};
 ghost use Rattle.sandbox_host.specs.Sessions.{IsLoaded};
 ghost use Rattle.sandbox_host.specs.Refusals.{NotLoaded, NotOpened};
 ghost use Rattle.sandbox_host.specs.Whole.{Ran, IsUnformatted};

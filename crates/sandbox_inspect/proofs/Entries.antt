@@ -3,7 +3,7 @@ use Rattle.std.specs.Prelude.{nat_lt}
 use Rattle.std.specs.Option.{option_map}
 use Rattle.std.proofs.Common.{◌≡◌, ℕ, zero, suc, ◌+◌, cond, Bool, true, false, List, [], ◌∷◌, ◌++◌, length, take, drop, Option, Some, None, refl, sym, ap, ◌∙◌, append_assoc, length-append}
 use Rattle.std.proofs.lemmas.List.{take-append-drop}
-use Rattle.wasm_module.specs.Reading.{◌>>=◌, u32_at, sized_at, raw_of}
+use Rattle.wasm_syntax.specs.Reading.{◌>>=◌, u32_at, sized_at, raw_of}
 use Rattle.wasm_module.proofs.Laws.{bind_some, some_is}
 use Rattle.wasm_module.proofs.Combine.{reads_raw, reads_sized, reads_u32}
 use Rattle.sandbox_inspect.specs.declared.sections.Wanted.{Wanted}

@@ -1,7 +1,7 @@
 -- Looking for the first of some, as a loop does.
 use Rattle.std.proofs.Common.{◌≡◌, ℕ, suc, ◌+◌, ◌-◌, ◌<◌, ◌≤◌, ◌==◌, ◌&&◌, nat_lt, nat_le, cond, Bool, true, false, List, length, Option, Some, None, refl, ◌∙◌, ap, arith}
 use Rattle.std.proofs.lemmas.Bool.{lt-ltb, le-ltb, lt-leb}
-use Rattle.wasm_module.specs.Reading.{◌>>=◌, u32_at, sized_at, raw_of}
+use Rattle.wasm_syntax.specs.Reading.{◌>>=◌, u32_at, sized_at, raw_of}
 use Rattle.sandbox_inspect.specs.declared.sections.Wanted.{Wanted}
 use Rattle.sandbox_inspect.specs.Places.{Section, section_of, is_wanted, find_section, holding_entry, nth_entry, name_among, Exported, exported_of, exports_function, exported_among}
 

@@ -4,39 +4,39 @@ use Rattle.std.specs.Prelude.{drop}
 use Rattle.std.specs.Option.{option_map_or}
 use Rattle.std.proofs.lemmas.Bool.{lt-ltb, le-ltb}
 use Rattle.std.proofs.lemmas.List.{drop_at}
-use Rattle.wasm_module.specs.declared.number.Sign.{Sign}
-use Rattle.wasm_module.specs.declared.number.Sign.TheVariants.{Signed, Unsigned}
-use Rattle.wasm_module.specs.declared.profile.Profile.{Profile}
-use Rattle.wasm_module.specs.declared.profile.Profile.TheVariants.{Integers, Floats}
-use Rattle.wasm_module.specs.declared.instruction.ValueType.{ValueType}
-use Rattle.wasm_module.specs.declared.instruction.ValueType.TheVariants.{I32, I64, F32, F64}
-use Rattle.wasm_module.specs.declared.instruction.IntegerType.{IntegerType}
-use Rattle.wasm_module.specs.declared.instruction.IntegerType.TheVariants as int
-use Rattle.wasm_module.specs.declared.instruction.FloatType.{FloatType}
-use Rattle.wasm_module.specs.declared.instruction.FloatType.TheVariants as float_type
-use Rattle.wasm_module.specs.declared.instruction.FloatComparison.TheVariants as float_comparison
-use Rattle.wasm_module.specs.declared.instruction.FloatUnaryOperator.TheVariants.{Abs}
-use Rattle.wasm_module.specs.declared.instruction.FloatBinaryOperator.TheVariants as float_binary
-use Rattle.wasm_module.specs.declared.instruction.FloatOperator.{FloatOperator}
-use Rattle.wasm_module.specs.declared.instruction.FloatOperator.TheVariants as float_op
-use Rattle.wasm_module.specs.declared.instruction.UnaryOperator.TheVariants.{Clz, Extend32S}
-use Rattle.wasm_module.specs.declared.instruction.BinaryOperator.TheVariants.{Add}
-use Rattle.wasm_module.specs.declared.instruction.Comparison.TheVariants.{Eq}
-use Rattle.wasm_module.specs.declared.instruction.BlockType.{BlockType}
-use Rattle.wasm_module.specs.declared.instruction.BlockType.TheVariants.{Empty, Value}
-use Rattle.wasm_module.specs.declared.instruction.Instruction.{Instruction}
-use Rattle.wasm_module.specs.declared.instruction.Instruction.TheVariants as op
-use Rattle.wasm_module.specs.declared.accesses.LoadOperator.{LoadOperator}
-use Rattle.wasm_module.specs.declared.accesses.LoadOperator.TheVariants as load
-use Rattle.wasm_module.specs.declared.accesses.StoreOperator.{StoreOperator}
-use Rattle.wasm_module.specs.declared.accesses.StoreOperator.TheVariants as store
-use Rattle.wasm_module.specs.declared.module.Locals.{Locals}
-use Rattle.wasm_module.specs.Number.{SpellsNumber}
-use Rattle.wasm_module.specs.Grammar.{Byte, Then, Each, U32, Vector}
-use Rattle.wasm_module.specs.Types.{SpellsValueType, SpellsBlockType}
-use Rattle.wasm_module.specs.Instructions.{load_opcode, store_opcode, float_opcode, saturation_number, opcode, SpellsOnlyTable, SpellsFloatNumber, SpellsImmediates, SpellsInstruction}
-use Rattle.wasm_module.specs.Sections.{SpellsLocals}
-use Rattle.wasm_module.specs.Reading.{u32_at}
+use Rattle.wasm_syntax.specs.declared.number.Sign.{Sign}
+use Rattle.wasm_syntax.specs.declared.number.Sign.TheVariants.{Signed, Unsigned}
+use Rattle.wasm_syntax.specs.declared.profile.Profile.{Profile}
+use Rattle.wasm_syntax.specs.declared.profile.Profile.TheVariants.{Integers, Floats}
+use Rattle.wasm_syntax.specs.declared.instruction.ValueType.{ValueType}
+use Rattle.wasm_syntax.specs.declared.instruction.ValueType.TheVariants.{I32, I64, F32, F64}
+use Rattle.wasm_syntax.specs.declared.instruction.IntegerType.{IntegerType}
+use Rattle.wasm_syntax.specs.declared.instruction.IntegerType.TheVariants as int
+use Rattle.wasm_syntax.specs.declared.instruction.FloatType.{FloatType}
+use Rattle.wasm_syntax.specs.declared.instruction.FloatType.TheVariants as float_type
+use Rattle.wasm_syntax.specs.declared.instruction.FloatComparison.TheVariants as float_comparison
+use Rattle.wasm_syntax.specs.declared.instruction.FloatUnaryOperator.TheVariants.{Abs}
+use Rattle.wasm_syntax.specs.declared.instruction.FloatBinaryOperator.TheVariants as float_binary
+use Rattle.wasm_syntax.specs.declared.instruction.FloatOperator.{FloatOperator}
+use Rattle.wasm_syntax.specs.declared.instruction.FloatOperator.TheVariants as float_op
+use Rattle.wasm_syntax.specs.declared.instruction.UnaryOperator.TheVariants.{Clz, Extend32S}
+use Rattle.wasm_syntax.specs.declared.instruction.BinaryOperator.TheVariants.{Add}
+use Rattle.wasm_syntax.specs.declared.instruction.Comparison.TheVariants.{Eq}
+use Rattle.wasm_syntax.specs.declared.instruction.BlockType.{BlockType}
+use Rattle.wasm_syntax.specs.declared.instruction.BlockType.TheVariants.{Empty, Value}
+use Rattle.wasm_syntax.specs.declared.instruction.Instruction.{Instruction}
+use Rattle.wasm_syntax.specs.declared.instruction.Instruction.TheVariants as op
+use Rattle.wasm_syntax.specs.declared.accesses.LoadOperator.{LoadOperator}
+use Rattle.wasm_syntax.specs.declared.accesses.LoadOperator.TheVariants as load
+use Rattle.wasm_syntax.specs.declared.accesses.StoreOperator.{StoreOperator}
+use Rattle.wasm_syntax.specs.declared.accesses.StoreOperator.TheVariants as store
+use Rattle.wasm_syntax.specs.declared.module.Locals.{Locals}
+use Rattle.wasm_syntax.specs.Number.{SpellsNumber}
+use Rattle.wasm_syntax.specs.Grammar.{Byte, Then, Each, U32, Vector}
+use Rattle.wasm_syntax.specs.Types.{SpellsValueType, SpellsBlockType}
+use Rattle.wasm_syntax.specs.Instructions.{load_opcode, store_opcode, float_opcode, saturation_number, opcode, SpellsOnlyTable, SpellsFloatNumber, SpellsImmediates, SpellsInstruction}
+use Rattle.wasm_syntax.specs.Sections.{SpellsLocals}
+use Rattle.wasm_syntax.specs.Reading.{u32_at}
 use Rattle.wasm_module.proofs.Combine.{reads_u32}
 use Rattle.wasm_valid.specs.internal.Skipping.{after_number, after_numbers}
 use Rattle.sandbox_inspect.specs.internal.Skipping.{after_labels, after_bulk_number, after_opcode, after_instruction, after_instructions, after_locals}

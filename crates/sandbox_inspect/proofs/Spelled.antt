@@ -3,17 +3,17 @@ use Rattle.std.proofs.Common.{◌≡◌, ◌≢◌, ℕ, zero, suc, ◌≤◌, c
 use Rattle.std.specs.Prelude.{slice_get, nat_lt, unwrap_or}
 use Rattle.std.proofs.lemmas.Bool.{lt-ltb, ne_eqb}
 use Rattle.std.proofs.lemmas.Option.{slice_get_within}
-use Rattle.wasm_module.specs.declared.profile.Profile.{Profile}
-use Rattle.wasm_module.specs.declared.instruction.Instruction.{Instruction}
-use Rattle.wasm_module.specs.declared.instruction.Instruction.TheVariants as op
-use Rattle.wasm_module.specs.declared.module.Body.{Body}
-use Rattle.wasm_module.specs.declared.module.Module.{Module}
-use Rattle.wasm_module.specs.Grammar.{Each, U32, Vector, Sized}
-use Rattle.wasm_module.specs.Nested.{Instructions, done, plain, block, loop, if_then, if_else, invoke, flatten}
-use Rattle.wasm_module.specs.Instructions.{SpellsInstruction, SpellsUpTo}
-use Rattle.wasm_module.specs.Sections.{Custom, Section as SpellsSection, BodyContent}
-use Rattle.wasm_module.specs.Module.{Sections, SpellsSections, SpellsWith, module_of}
-use Rattle.wasm_module.specs.Reading.{◌>>=◌, u32_at, sized_at, raw_of}
+use Rattle.wasm_syntax.specs.declared.profile.Profile.{Profile}
+use Rattle.wasm_syntax.specs.declared.instruction.Instruction.{Instruction}
+use Rattle.wasm_syntax.specs.declared.instruction.Instruction.TheVariants as op
+use Rattle.wasm_syntax.specs.declared.module.Body.{Body}
+use Rattle.wasm_syntax.specs.declared.module.Module.{Module}
+use Rattle.wasm_syntax.specs.Grammar.{Each, U32, Vector, Sized}
+use Rattle.wasm_syntax.specs.Nested.{Instructions, done, plain, block, loop, if_then, if_else, invoke, flatten}
+use Rattle.wasm_syntax.specs.Instructions.{SpellsInstruction, SpellsUpTo}
+use Rattle.wasm_syntax.specs.Sections.{Custom, Section as SpellsSection, BodyContent}
+use Rattle.wasm_syntax.specs.Module.{Sections, SpellsSections, SpellsWith, module_of}
+use Rattle.wasm_syntax.specs.Reading.{◌>>=◌, u32_at, sized_at, raw_of}
 use Rattle.wasm_module.proofs.Combine.{reads_raw, reads_sized, reads_u32}
 use Rattle.wasm_valid.specs.Offsets.{StandsBehind}
 use Rattle.sandbox_inspect.specs.declared.sections.Wanted.TheVariants.{Code}

@@ -2,7 +2,7 @@
 use Rattle.std.proofs.Common.{◌≡◌, ℕ, zero, suc, ◌+◌, ◌-◌, ◌<◌, nat_lt, cond, Bool, true, false, List, [], ◌∷◌, ◌++◌, length, Option, Some, None, refl, sym, ap, ◌∙◌, arith, length-append}
 use Rattle.std.specs.Prelude.{slice_get}
 use Rattle.std.specs.Option.{option_map_or}
-use Rattle.wasm_module.specs.Reading.{◌>>=◌, u32_at, sized_at, raw_of}
+use Rattle.wasm_syntax.specs.Reading.{◌>>=◌, u32_at, sized_at, raw_of}
 use Rattle.wasm_module.proofs.Laws.{bind_some, some_is}
 use Rattle.sandbox_inspect.specs.declared.sections.Wanted.TheVariants.{Code}
 use Rattle.sandbox_inspect.specs.Places.{Section, module_section, nth_entry, own_entry}

@@ -2,10 +2,10 @@
 use Rattle.std.specs.Prelude.{ℕ, Bool, true, false, not, find, List, [], ◌∷◌, ◌++◌, Option, Some, None, slice_get, codes, decimal}
 use Rattle.std.specs.List.{concat}
 use Rattle.std.specs.Option.{option_map_or}
-use Rattle.wasm_module.specs.declared.module.FuncType.{FuncType}
-use Rattle.wasm_module.specs.declared.module.ImportKind.{ImportKind}
-use Rattle.wasm_module.specs.declared.module.ImportKind.TheVariants as imported
-use Rattle.wasm_module.specs.declared.module.Import.{Import}
+use Rattle.wasm_syntax.specs.declared.module.FuncType.{FuncType}
+use Rattle.wasm_syntax.specs.declared.module.ImportKind.{ImportKind}
+use Rattle.wasm_syntax.specs.declared.module.ImportKind.TheVariants as imported
+use Rattle.wasm_syntax.specs.declared.module.Import.{Import}
 use Rattle.wasm_store.specs.Instantiation.{LinksOf}
 use Rattle.sandbox_inspect.specs.Words.{SurveyText, name_text}
 use Rattle.sandbox_inspect.specs.Places.{function_name}

@@ -4,12 +4,12 @@
 use Rattle.std.specs.Prelude.{◌≡◌, ℕ, zero, suc, ◌+◌, ◌-◌, ◌==◌, ◌&&◌, nat_le, nat_lt, Bool, false, List, [], ◌∷◌, ◌++◌, length, take, drop, Option, Some, None, if◌then◌else◌, codes, bytes_eq}
 use Rattle.std.specs.List.{filter_map}
 use Rattle.std.specs.Option.{option_map_or}
-use Rattle.wasm_module.specs.declared.module.Body.{Body}
-use Rattle.wasm_module.specs.declared.module.Module.{Module}
-use Rattle.wasm_module.specs.Module.{SpellsWith}
-use Rattle.wasm_module.specs.Reading.{◌>>=◌, next_at, u32_at, sized_at, raw_of}
+use Rattle.wasm_syntax.specs.declared.module.Body.{Body}
+use Rattle.wasm_syntax.specs.declared.module.Module.{Module}
+use Rattle.wasm_syntax.specs.Module.{SpellsWith}
+use Rattle.wasm_syntax.specs.Reading.{◌>>=◌, next_at, u32_at, sized_at, raw_of}
 use Rattle.wasm_valid.specs.Spaces.{kinds_of, imported_function}
-use Rattle.wasm_module.specs.declared.profile.Profile.{Profile}
+use Rattle.wasm_syntax.specs.declared.profile.Profile.{Profile}
 use Rattle.wasm_valid.specs.Offsets.{StandsBehind}
 use Rattle.sandbox_inspect.specs.declared.sections.Wanted.{Wanted}
 use Rattle.sandbox_inspect.specs.declared.sections.Wanted.TheVariants.{Code, AfterImports, Names, FunctionNames, Exports}

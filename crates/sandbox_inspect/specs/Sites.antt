@@ -2,10 +2,10 @@
 -- the imported ones counted first, and what it is called.
 use Rattle.std.specs.Prelude.{◌≡◌, ◌<◌, ◌+◌, ◌-◌, ◌^◌, ℕ, List, ◌++◌, Option, Some, None, IfSome, IsSome, length, min, slice_get, false, codes, decimal}
 use Rattle.std.specs.Fmt.{digits}
-use Rattle.wasm_module.specs.declared.profile.Profile.{Profile}
-use Rattle.wasm_module.specs.declared.module.Body.{Body}
-use Rattle.wasm_module.specs.declared.module.Module.{Module}
-use Rattle.wasm_module.specs.Module.{SpellsWith}
+use Rattle.wasm_syntax.specs.declared.profile.Profile.{Profile}
+use Rattle.wasm_syntax.specs.declared.module.Body.{Body}
+use Rattle.wasm_syntax.specs.declared.module.Module.{Module}
+use Rattle.wasm_syntax.specs.Module.{SpellsWith}
 use Rattle.sandbox_inspect.specs.Words.{SurveyText, called_text}
 use Rattle.sandbox_inspect.specs.Places.{IsInstructionAt, called}
 

@@ -4,15 +4,15 @@
 use Rattle.std.specs.Prelude.{ℕ, ◌&&◌, Bool, true, false, List, [], ◌∷◌, ◌++◌, length, Option, Some, None, slice_get, codes, decimal, bytes_eq}
 use Rattle.std.specs.List.{concat, flat_map, list_any}
 use Rattle.std.specs.Option.{option_map_or}
-use Rattle.wasm_module.specs.declared.module.FuncType.{FuncType}
-use Rattle.wasm_module.specs.declared.module.Limits.{Limits}
-use Rattle.wasm_module.specs.declared.module.ImportKind.{ImportKind}
-use Rattle.wasm_module.specs.declared.module.ImportKind.TheVariants as imported
-use Rattle.wasm_module.specs.declared.module.Import.{Import}
-use Rattle.wasm_module.specs.declared.module.ExportKind.{ExportKind}
-use Rattle.wasm_module.specs.declared.module.ExportKind.TheVariants as exported
-use Rattle.wasm_module.specs.declared.module.Export.{Export}
-use Rattle.wasm_module.specs.declared.module.Module.{Module}
+use Rattle.wasm_syntax.specs.declared.module.FuncType.{FuncType}
+use Rattle.wasm_syntax.specs.declared.module.Limits.{Limits}
+use Rattle.wasm_syntax.specs.declared.module.ImportKind.{ImportKind}
+use Rattle.wasm_syntax.specs.declared.module.ImportKind.TheVariants as imported
+use Rattle.wasm_syntax.specs.declared.module.Import.{Import}
+use Rattle.wasm_syntax.specs.declared.module.ExportKind.{ExportKind}
+use Rattle.wasm_syntax.specs.declared.module.ExportKind.TheVariants as exported
+use Rattle.wasm_syntax.specs.declared.module.Export.{Export}
+use Rattle.wasm_syntax.specs.declared.module.Module.{Module}
 use Rattle.wasm_valid.specs.Spaces.{functions_of}
 use Rattle.wasm_store.specs.declared.call.HostCall.{HostCall}
 use Rattle.wasm_store.specs.declared.call.HostCall.TheVariants as call

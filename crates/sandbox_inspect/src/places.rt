@@ -2,10 +2,10 @@
 
 ghost use Rattle.std.specs.Prelude.{◌≡◌, List, ℕ, IfOk, IfSome, IfNone, Some, length, slice_get};
 ghost use Rattle.std.specs.Option.{option_map};
-ghost use Rattle.wasm_module.specs.declared.module.Body.{Body as BodyValue};
-ghost use Rattle.wasm_module.specs.declared.module.Module.{Module as ModuleValue};
-ghost use Rattle.wasm_module.specs.Module.{SpellsWith};
-ghost use Rattle.wasm_module.specs.declared.profile.Profile.{Profile as ProfileValue};
+ghost use Rattle.wasm_syntax.specs.declared.module.Body.{Body as BodyValue};
+ghost use Rattle.wasm_syntax.specs.declared.module.Module.{Module as ModuleValue};
+ghost use Rattle.wasm_syntax.specs.Module.{SpellsWith};
+ghost use Rattle.wasm_syntax.specs.declared.profile.Profile.{Profile as ProfileValue};
 ghost use Rattle.wasm_valid.specs.Offsets.{StandsBehind};
 ghost use Rattle.sandbox_inspect.specs.Places.{function_name, holding_entry, IsFunctionAt, IsInstructionAt, name_among, nth_entry, own_entry, own_function_at, up_to_imports};
 ghost use Rattle.sandbox_inspect.specs.internal.Counting.{IsCountedAfter};

@@ -2,8 +2,8 @@
 
 ghost use Rattle.std.specs.Prelude.{◌≡◌, ◌^◌, ◌<◌, ◌≤◌, IfSome};
 ghost use Rattle.std.specs.Option.{option_map};
-ghost use Rattle.wasm_module.specs.declared.number.Sign.TheVariants.{Unsigned};
-ghost use Rattle.wasm_module.specs.Reading.{last_at, number_at, raw_of, sized_at, u32_at};
+ghost use Rattle.wasm_syntax.specs.declared.number.Sign.TheVariants.{Unsigned};
+ghost use Rattle.wasm_syntax.specs.Reading.{last_at, number_at, raw_of, sized_at, u32_at};
 ghost use Rattle.sandbox_inspect.specs.Places.{find_section, is_named, is_wanted, module_section, section_of};
 ghost use Rattle.sandbox_inspect.specs.internal.Views.{found};
 

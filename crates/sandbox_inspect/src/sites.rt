@@ -1,9 +1,9 @@
 //! Where functions are at work, in words.
 
 ghost use Rattle.std.specs.Prelude.{◌≡◌, ◌<◌, ◌++◌, List, ℕ, OnOk, IfSome, IsSome, Some, length, slice_get};
-ghost use Rattle.wasm_module.specs.declared.module.Body.{Body as BodyValue};
-ghost use Rattle.wasm_module.specs.Module.{SpellsWith};
-ghost use Rattle.wasm_module.specs.declared.profile.Profile.{Profile as ProfileValue};
+ghost use Rattle.wasm_syntax.specs.declared.module.Body.{Body as BodyValue};
+ghost use Rattle.wasm_syntax.specs.Module.{SpellsWith};
+ghost use Rattle.wasm_syntax.specs.declared.profile.Profile.{Profile as ProfileValue};
 ghost use Rattle.sandbox_inspect.specs.Places.{IsInstructionAt, called};
 ghost use Rattle.sandbox_inspect.specs.Sites.{IsSite, function_of, offset_text, site_text};
 

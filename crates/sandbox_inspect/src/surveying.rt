@@ -2,7 +2,7 @@
 
 ghost use Rattle.std.specs.Prelude.{◌≡◌, ◌≢◌, IfOk, IfErr};
 ghost use Rattle.std.specs.IoError.{error_kind};
-ghost use Rattle.wasm_module.specs.Module.{SpellsWith};
+ghost use Rattle.wasm_syntax.specs.Module.{SpellsWith};
 ghost use Rattle.wasm_valid.specs.Validity.{IsValid};
 ghost use Rattle.sandbox_inspect.specs.Refusal.{IsRefusedFor, IsSurvey};
 ghost use Rattle.stream_answers.specs.Hearing.{Moves, Refuses};

@@ -9,8 +9,8 @@ use Rattle.vol_sector.specs.declared.fault.VolumeFault.{VolumeFault}
 use Rattle.vol_sector.specs.declared.fault.VolumeFault.TheVariants as volume
 use Rattle.vol_sector.specs.declared.fault.Rule.{Rule}
 use Rattle.vol_sector.specs.declared.fault.Rule.TheVariants as rules
-use Rattle.wasm_module.specs.declared.fault.LoadFault.{LoadFault}
-use Rattle.wasm_module.specs.declared.fault.LoadFault.TheVariants as load
+use Rattle.wasm_syntax.specs.declared.fault.LoadFault.{LoadFault}
+use Rattle.wasm_syntax.specs.declared.fault.LoadFault.TheVariants as load
 use Rattle.wasm_store.specs.declared.fault.InstanceFault.{InstanceFault}
 use Rattle.wasm_store.specs.declared.fault.InstanceFault.TheVariants as instance
 use Rattle.sandbox_report.specs.declared.fault.Fault.{Fault}

@@ -3,11 +3,11 @@ use Rattle.std.proofs.Common.{◌≡◌, ℕ, zero, suc, ◌+◌, ◌-◌, ◌�
 use Rattle.std.specs.Prelude.{slice_get, drop, map}
 use Rattle.std.proofs.lemmas.List.Folds.{drop_split}
 use Rattle.std.specs.List.{slice_range}
-use Rattle.wasm_module.specs.declared.instruction.ValueType.{ValueType}
-use Rattle.wasm_module.specs.declared.instruction.Instruction.{Instruction}
-use Rattle.wasm_module.specs.declared.instruction.Instruction.TheVariants as op
-use Rattle.wasm_module.specs.declared.module.Module.{Module}
-use Rattle.wasm_module.specs.Nested.{Instructions, done, plain, block, loop, if_then, if_else, invoke, flatten}
+use Rattle.wasm_syntax.specs.declared.instruction.ValueType.{ValueType}
+use Rattle.wasm_syntax.specs.declared.instruction.Instruction.{Instruction}
+use Rattle.wasm_syntax.specs.declared.instruction.Instruction.TheVariants as op
+use Rattle.wasm_syntax.specs.declared.module.Module.{Module}
+use Rattle.wasm_syntax.specs.Nested.{Instructions, done, plain, block, loop, if_then, if_else, invoke, flatten}
 use Rattle.wasm_valid.specs.Validity.{IsValid}
 use Rattle.wasm_store.specs.declared.linked.Linked.{Linked}
 use Rattle.wasm_valid.specs.Arities.{arity}

@@ -1,6 +1,6 @@
 -- A limit on values changes no configuration that a machine stands for.
 use Rattle.std.proofs.Common.{ℕ, arith}
-use Rattle.wasm_module.specs.declared.module.Module.{Module}
+use Rattle.wasm_syntax.specs.declared.module.Module.{Module}
 use Rattle.wasm_store.specs.Allocation.{AllLinks}
 use Rattle.wasm_store.specs.Instantiation.{LinksOf}
 use Rattle.wasm_steps.specs.Configuration.{Configuration, Instance}

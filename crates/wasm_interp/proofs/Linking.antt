@@ -1,8 +1,8 @@
 -- Imports and the host's calls.
 use Rattle.std.proofs.Common.{◌≡◌, ◌∙◌, ℕ, List, [], ◌∷◌, Some, length, suc, refl, sym, ap, subst}
 use Rattle.std.specs.Prelude.{slice_get}
-use Rattle.wasm_module.specs.declared.module.FuncType.{FuncType}
-use Rattle.wasm_module.specs.declared.module.Import.{Import}
+use Rattle.wasm_syntax.specs.declared.module.FuncType.{FuncType}
+use Rattle.wasm_syntax.specs.declared.module.Import.{Import}
 use Rattle.wasm_store.specs.declared.linked.Linked.{Linked}
 use Rattle.wasm_store.specs.declared.linked.Linked.TheVariants.{Host, Embedder}
 use Rattle.wasm_store.specs.declared.instantiation.Allocated.{Allocated}
@@ -17,7 +17,7 @@ use Rattle.wasm_interp.specs.declared.begin.Begun.{Begun}
 use Rattle.wasm_interp.specs.declared.tables.Prepared.{Prepared}
 use Rattle.wasm_interp.specs.internal.Begun.{HasBegun, HasOpened, IsReady, IsReadyToOpen}
 use Rattle.wasm_interp.specs.Shared.{AreCallsOf, AreLinksOf}
-use Rattle.wasm_module.specs.declared.module.Module.{Module}
+use Rattle.wasm_syntax.specs.declared.module.Module.{Module}
 use Rattle.wasm_interp.specs.Stands.{AreCallees}
 
 -- the type of an import's function instance

@@ -1,7 +1,7 @@
 -- What a machine promises whose exported functions are called one after another, by the relation that it has, and why it refuses.
 use Rattle.std.specs.Prelude.{◌≡◌, ℕ, ◌+◌, ◌<◌, ◌≤◌, List, [], length}
-use Rattle.wasm_module.specs.declared.module.FuncType.{FuncType}
-use Rattle.wasm_module.specs.declared.module.Module.{Module}
+use Rattle.wasm_syntax.specs.declared.module.FuncType.{FuncType}
+use Rattle.wasm_syntax.specs.declared.module.Module.{Module}
 use Rattle.wasm_steps.specs.Steps.{CallsOf}
 use Rattle.wasm_store.specs.Allocation.{AllLinks}
 use Rattle.wasm_interp.specs.declared.invoking.NotAnswered.{NotAnswered}

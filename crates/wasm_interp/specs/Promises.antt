@@ -2,7 +2,7 @@
 -- snapshots stand for configurations: `Promise` says it by the machine's own. Whatever that is, a caller rests on two things:
 -- `StartsBy` gives it for the first configuration, and each `ResumedBy` takes it and gives it for one that steps lead to.
 use Rattle.std.specs.Prelude.{◌≡◌, ℕ, ◌+◌, ◌<◌, List, Some, None}
-use Rattle.wasm_module.specs.declared.module.Module.{Module}
+use Rattle.wasm_syntax.specs.declared.module.Module.{Module}
 use Rattle.wasm_steps.specs.declared.pause.Outcome.{Outcome}
 use Rattle.wasm_steps.specs.declared.pause.Pause.{Pause}
 use Rattle.wasm_steps.specs.declared.pause.Pause.TheVariants.{Called, Spent, Ended}

@@ -1,6 +1,6 @@
 -- A module that is prepared once, for any number of machines.
 use Rattle.std.specs.Prelude.{ℕ, List}
-use Rattle.wasm_module.specs.declared.module.Module.{Module}
+use Rattle.wasm_syntax.specs.declared.module.Module.{Module}
 use Rattle.wasm_store.specs.declared.linked.Linked.{Linked}
 use Rattle.wasm_steps.specs.Configuration.{Callee}
 use Rattle.wasm_store.specs.Instantiation.{LinksOf, AreLinked}

@@ -1,7 +1,7 @@
 -- Module instances (section 4.2.5): which instance a module has when these answer its imports. A machine
 -- keeps the calls but no instance, so `Represents` asks by `IsInstanceOf` which instances fit it.
 use Rattle.std.specs.Prelude.{◌≡◌, List, ◌++◌}
-use Rattle.wasm_module.specs.declared.module.Module.{Module}
+use Rattle.wasm_syntax.specs.declared.module.Module.{Module}
 use Rattle.wasm_store.specs.declared.linked.Linked.{Linked}
 use Rattle.wasm_steps.specs.Configuration.{Callee, Instance}
 use Rattle.wasm_store.specs.Instantiation.{AreOwn}

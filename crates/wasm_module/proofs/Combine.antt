@@ -2,11 +2,11 @@
 use Rattle.std.proofs.Common.{eq-eqb, ◌≡◌, ℕ, zero, suc, ◌≤◌, Bool, true, false, cond, eqb, leb, List, [], ◌∷◌, ◌++◌, length, take, drop, Option, Some, None, refl, sym, ap, subst, ◌∙◌, append_assoc, arith}
 use Rattle.std.proofs.lemmas.Bool.{eqb-true, leb-true, le-leb}
 use Rattle.std.proofs.lemmas.List.{append-nil, take_at, drop_at, take-append-drop, length-append, length-take, nil_from_length}
-use Rattle.wasm_module.specs.declared.number.Sign.TheVariants.{Unsigned}
+use Rattle.wasm_syntax.specs.declared.number.Sign.TheVariants.{Unsigned}
 use Rattle.std.specs.Str.{IsUtf8, is_utf8}
 use Rattle.std.proofs.lemmas.Str.{IsUtf8-from_is_utf8, is_utf8-from_IsUtf8}
-use Rattle.wasm_module.specs.Grammar.{Byte, Then, Each, U32, Vector, Sized, Raw, Utf8Text, SpellsName}
-use Rattle.wasm_module.specs.Reading.{◌>>=◌, Reader, WholeReader, raw_of, utf8_text_of, name_at, byte_at, then_at, map_at, many_at, u32_at, vector_at, piece_at, whole, sized_at}
+use Rattle.wasm_syntax.specs.Grammar.{Byte, Then, Each, U32, Vector, Sized, Raw, Utf8Text, SpellsName}
+use Rattle.wasm_syntax.specs.Reading.{◌>>=◌, Reader, WholeReader, raw_of, utf8_text_of, name_at, byte_at, then_at, map_at, many_at, u32_at, vector_at, piece_at, whole, sized_at}
 use Rattle.wasm_module.proofs.Laws.{bind_some, guard_some, some_is, Front, Reads, ReadsWhole, reads_number}
 
 -- one byte

@@ -1,23 +1,23 @@
 -- The laws of the operators on floats.
 use Rattle.std.proofs.Common.{◌≡◌, ℕ, ◌+◌, ◌-◌, ◌≤◌, List, ◌∷◌, Some, refl, subst, arith}
-use Rattle.wasm_module.specs.declared.profile.Profile.TheVariants.{Floats}
-use Rattle.wasm_module.specs.declared.number.Sign.{Sign}
-use Rattle.wasm_module.specs.declared.number.Sign.TheVariants.{Unsigned, Signed}
-use Rattle.wasm_module.specs.declared.instruction.IntegerType.{IntegerType}
-use Rattle.wasm_module.specs.declared.instruction.IntegerType.TheVariants.{I32, I64}
-use Rattle.wasm_module.specs.declared.instruction.FloatType.{FloatType}
-use Rattle.wasm_module.specs.declared.instruction.FloatType.TheVariants as float_type
-use Rattle.wasm_module.specs.declared.instruction.FloatComparison.{FloatComparison}
-use Rattle.wasm_module.specs.declared.instruction.FloatComparison.TheVariants as float_comparison
-use Rattle.wasm_module.specs.declared.instruction.FloatUnaryOperator.{FloatUnaryOperator}
-use Rattle.wasm_module.specs.declared.instruction.FloatUnaryOperator.TheVariants as float_unary
-use Rattle.wasm_module.specs.declared.instruction.FloatBinaryOperator.{FloatBinaryOperator}
-use Rattle.wasm_module.specs.declared.instruction.FloatBinaryOperator.TheVariants as float_binary
-use Rattle.wasm_module.specs.declared.instruction.FloatOperator.{FloatOperator}
-use Rattle.wasm_module.specs.declared.instruction.FloatOperator.TheVariants as float_op
-use Rattle.wasm_module.specs.declared.instruction.Instruction.TheVariants as op
-use Rattle.wasm_module.specs.Instructions.{float_comparison_number, float_unary_number, float_binary_number, float_opcode, saturation_number}
-use Rattle.wasm_module.specs.internal.CodeReading.{float_comparison_of, float_unary_of, float_binary_of, float_compared, float_of_one, float_of_two, conversion_of, saturation_of, float_operator_of, float_after, operator_after, bulk_after, instruction_after, instruction_at}
+use Rattle.wasm_syntax.specs.declared.profile.Profile.TheVariants.{Floats}
+use Rattle.wasm_syntax.specs.declared.number.Sign.{Sign}
+use Rattle.wasm_syntax.specs.declared.number.Sign.TheVariants.{Unsigned, Signed}
+use Rattle.wasm_syntax.specs.declared.instruction.IntegerType.{IntegerType}
+use Rattle.wasm_syntax.specs.declared.instruction.IntegerType.TheVariants.{I32, I64}
+use Rattle.wasm_syntax.specs.declared.instruction.FloatType.{FloatType}
+use Rattle.wasm_syntax.specs.declared.instruction.FloatType.TheVariants as float_type
+use Rattle.wasm_syntax.specs.declared.instruction.FloatComparison.{FloatComparison}
+use Rattle.wasm_syntax.specs.declared.instruction.FloatComparison.TheVariants as float_comparison
+use Rattle.wasm_syntax.specs.declared.instruction.FloatUnaryOperator.{FloatUnaryOperator}
+use Rattle.wasm_syntax.specs.declared.instruction.FloatUnaryOperator.TheVariants as float_unary
+use Rattle.wasm_syntax.specs.declared.instruction.FloatBinaryOperator.{FloatBinaryOperator}
+use Rattle.wasm_syntax.specs.declared.instruction.FloatBinaryOperator.TheVariants as float_binary
+use Rattle.wasm_syntax.specs.declared.instruction.FloatOperator.{FloatOperator}
+use Rattle.wasm_syntax.specs.declared.instruction.FloatOperator.TheVariants as float_op
+use Rattle.wasm_syntax.specs.declared.instruction.Instruction.TheVariants as op
+use Rattle.wasm_syntax.specs.Instructions.{float_comparison_number, float_unary_number, float_binary_number, float_opcode, saturation_number}
+use Rattle.wasm_syntax.specs.internal.CodeReading.{float_comparison_of, float_unary_of, float_binary_of, float_compared, float_of_one, float_of_two, conversion_of, saturation_of, float_operator_of, float_after, operator_after, bulk_after, instruction_after, instruction_at}
 use Rattle.wasm_module.proofs.Laws.{bind_some, some_is, picked, ended, ranged}
 
 -- ---- operators by their numbers

@@ -1,23 +1,23 @@
 -- The laws of single instructions.
 use Rattle.std.proofs.Common.{◌≡◌, ℕ, ◌+◌, ◌*◌, ◌^◌, Bool, true, false, cond, eqb, ltb, List, [], ◌∷◌, ◌++◌, Option, Some, None, refl, sym, ap, subst, ◌∙◌, append_assoc, arith}
 use Rattle.std.proofs.lemmas.Bool.{eqb-true}
-use Rattle.wasm_module.specs.declared.profile.Profile.{Profile}
-use Rattle.wasm_module.specs.declared.profile.Profile.TheVariants.{Integers, Floats}
-use Rattle.wasm_module.specs.declared.number.Sign.TheVariants.{Signed}
-use Rattle.wasm_module.specs.declared.instruction.IntegerType.TheVariants.{I32, I64}
-use Rattle.wasm_module.specs.declared.instruction.MemArg.{MemArg}
-use Rattle.wasm_module.specs.declared.accesses.LoadOperator.{LoadOperator}
-use Rattle.wasm_module.specs.declared.accesses.StoreOperator.{StoreOperator}
-use Rattle.wasm_module.specs.declared.instruction.FloatOperator.{FloatOperator}
-use Rattle.wasm_module.specs.declared.instruction.FloatOperator.TheVariants as float_op
-use Rattle.wasm_module.specs.declared.instruction.Instruction.{Instruction}
-use Rattle.wasm_module.specs.declared.instruction.Instruction.TheVariants as op
-use Rattle.wasm_module.specs.Number.{SpellsNumber}
-use Rattle.wasm_module.specs.Grammar.{Byte, Then, U32, Vector, FloatBits, little_endian}
-use Rattle.wasm_module.specs.Instructions.{comparison_number, binary_operator_number, unary_opcode, load_opcode, store_opcode, float_opcode, saturation_number, SpellsMemArg, SpellsOnlyTable, SpellsFloatNumber, SpellsInstruction}
-use Rattle.wasm_module.specs.internal.TypesReading.{takes_floats, with_floats}
-use Rattle.wasm_module.specs.internal.CodeReading.{four_bytes_at, eight_bytes_at, only_table_at, is_float, float_operator_of, float_after, saturation_of, saturated, operator_after, s32_at, s64_at, mem_arg_at, numeric_of, numeric_after, control_after, variable_after, load_of, load_after, store_of, store_after, size_after, bulk_after, bulk_at, instruction_after, instruction_at}
-use Rattle.wasm_module.specs.Reading.{◌>>=◌, Reader, next_at, byte_at, u32_at, then_at, map_at, vector_at}
+use Rattle.wasm_syntax.specs.declared.profile.Profile.{Profile}
+use Rattle.wasm_syntax.specs.declared.profile.Profile.TheVariants.{Integers, Floats}
+use Rattle.wasm_syntax.specs.declared.number.Sign.TheVariants.{Signed}
+use Rattle.wasm_syntax.specs.declared.instruction.IntegerType.TheVariants.{I32, I64}
+use Rattle.wasm_syntax.specs.declared.instruction.MemArg.{MemArg}
+use Rattle.wasm_syntax.specs.declared.accesses.LoadOperator.{LoadOperator}
+use Rattle.wasm_syntax.specs.declared.accesses.StoreOperator.{StoreOperator}
+use Rattle.wasm_syntax.specs.declared.instruction.FloatOperator.{FloatOperator}
+use Rattle.wasm_syntax.specs.declared.instruction.FloatOperator.TheVariants as float_op
+use Rattle.wasm_syntax.specs.declared.instruction.Instruction.{Instruction}
+use Rattle.wasm_syntax.specs.declared.instruction.Instruction.TheVariants as op
+use Rattle.wasm_syntax.specs.Number.{SpellsNumber}
+use Rattle.wasm_syntax.specs.Grammar.{Byte, Then, U32, Vector, FloatBits, little_endian}
+use Rattle.wasm_syntax.specs.Instructions.{comparison_number, binary_operator_number, unary_opcode, load_opcode, store_opcode, float_opcode, saturation_number, SpellsMemArg, SpellsOnlyTable, SpellsFloatNumber, SpellsInstruction}
+use Rattle.wasm_syntax.specs.internal.TypesReading.{takes_floats, with_floats}
+use Rattle.wasm_syntax.specs.internal.CodeReading.{four_bytes_at, eight_bytes_at, only_table_at, is_float, float_operator_of, float_after, saturation_of, saturated, operator_after, s32_at, s64_at, mem_arg_at, numeric_of, numeric_after, control_after, variable_after, load_of, load_after, store_of, store_after, size_after, bulk_after, bulk_at, instruction_after, instruction_at}
+use Rattle.wasm_syntax.specs.Reading.{◌>>=◌, Reader, next_at, byte_at, u32_at, then_at, map_at, vector_at}
 use Rattle.wasm_module.proofs.Laws.{bind_some, guard_some, some_is, are_taken, Front, Reads, reads_number}
 use Rattle.wasm_module.proofs.Combine.{reads_byte, reads_then, reads_as, reads_u32, reads_vector, choice, operand, alone_then, operand_then, reread}
 use Rattle.wasm_module.proofs.TypeLaws.{reads_block_type}

@@ -1,9 +1,6 @@
-pub mod Powers
 pub mod Laws
-pub mod Exits
 pub mod Words
 pub mod ModuleOf
-pub mod Numbers
 pub mod Combine
 pub mod Loop
 pub mod Operands
@@ -18,5 +15,3 @@ pub mod Nesting
 pub mod PartLaws
 pub mod Sections
 pub mod Modules
-pub mod Widening
-pub mod Floatlessness

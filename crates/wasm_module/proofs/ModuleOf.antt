@@ -1,18 +1,18 @@
 -- The module of sections, by its parts.
 use Rattle.std.proofs.Common.{◌≡◌, ◌∙◌, ℕ, List, [], Option, Some, None, unwrap_or, refl, sym, ap}
-use Rattle.wasm_module.specs.declared.profile.Profile.{Profile}
-use Rattle.wasm_module.specs.declared.module.FuncType.{FuncType}
-use Rattle.wasm_module.specs.declared.module.Limits.{Limits}
-use Rattle.wasm_module.specs.declared.module.Import.{Import}
-use Rattle.wasm_module.specs.declared.module.Export.{Export}
-use Rattle.wasm_module.specs.declared.module.GlobalEntry.{GlobalEntry}
-use Rattle.wasm_module.specs.declared.module.ElementSegment.{ElementSegment}
-use Rattle.wasm_module.specs.declared.module.Body.{Body}
-use Rattle.wasm_module.specs.declared.module.DataSegment.{DataSegment}
-use Rattle.wasm_module.specs.Module.{module_of}
-use Rattle.wasm_module.specs.internal.TypesReading.{func_type_at, limits_at, table_at}
+use Rattle.wasm_syntax.specs.declared.profile.Profile.{Profile}
+use Rattle.wasm_syntax.specs.declared.module.FuncType.{FuncType}
+use Rattle.wasm_syntax.specs.declared.module.Limits.{Limits}
+use Rattle.wasm_syntax.specs.declared.module.Import.{Import}
+use Rattle.wasm_syntax.specs.declared.module.Export.{Export}
+use Rattle.wasm_syntax.specs.declared.module.GlobalEntry.{GlobalEntry}
+use Rattle.wasm_syntax.specs.declared.module.ElementSegment.{ElementSegment}
+use Rattle.wasm_syntax.specs.declared.module.Body.{Body}
+use Rattle.wasm_syntax.specs.declared.module.DataSegment.{DataSegment}
+use Rattle.wasm_syntax.specs.Module.{module_of}
+use Rattle.wasm_syntax.specs.internal.TypesReading.{func_type_at, limits_at, table_at}
 use Rattle.wasm_module.specs.internal.ModuleReading.{import_at, global_at, export_at, elements_at, body_at, data_at, Held, sections_of, sections_at, module_and_count, list_at, code_parts_at, start_parts_at, link_parts_at, storage_parts_at, Parts, parts_at, decoded_of}
-use Rattle.wasm_module.specs.Reading.{◌>>=◌, Reader, then_at, map_at, u32_at, vector_at, whole, customs_at, section_at}
+use Rattle.wasm_syntax.specs.Reading.{◌>>=◌, Reader, then_at, map_at, u32_at, vector_at, whole, customs_at, section_at}
 use Rattle.wasm_module.proofs.Laws.{some_is}
 
 -- one reader reads what another does, and sees it so

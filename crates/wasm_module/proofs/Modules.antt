@@ -3,18 +3,18 @@ use Rattle.std.proofs.Common.{eq-eqb, ◌≡◌, ℕ, Bool, true, false, cond, e
 use Rattle.std.specs.Prelude.{unwrap_or, IfOk, IfErr, IfSome}
 use Rattle.std.proofs.lemmas.Bool.{eqb-true, leb-true, le-leb}
 use Rattle.std.proofs.lemmas.List.{append-nil, nil_from_length}
-use Rattle.wasm_module.specs.declared.profile.Profile.{Profile}
-use Rattle.wasm_module.specs.declared.fault.LoadFault.{LoadFault}
-use Rattle.wasm_module.specs.declared.fault.LoadFault.TheVariants as faults
-use Rattle.wasm_module.specs.declared.module.FuncType.{FuncType}
-use Rattle.wasm_module.specs.declared.module.Body.{Body}
-use Rattle.wasm_module.specs.declared.module.Module.{Module}
-use Rattle.wasm_module.specs.Grammar.{Then, U32, Vector, Sized}
-use Rattle.wasm_module.specs.Types.{SpellsFuncType, SpellsLimits, SpellsTable}
-use Rattle.wasm_module.specs.Sections.{Customs, Section, SpellsImport, SpellsGlobal, SpellsExport, SpellsElements, BodyContent, SpellsData}
-use Rattle.wasm_module.specs.Module.{Sections, SpellsSections, SpellsParts, SpellsWith, CountsAgree, FitsProfile, module_of}
+use Rattle.wasm_syntax.specs.declared.profile.Profile.{Profile}
+use Rattle.wasm_syntax.specs.declared.fault.LoadFault.{LoadFault}
+use Rattle.wasm_syntax.specs.declared.fault.LoadFault.TheVariants as faults
+use Rattle.wasm_syntax.specs.declared.module.FuncType.{FuncType}
+use Rattle.wasm_syntax.specs.declared.module.Body.{Body}
+use Rattle.wasm_syntax.specs.declared.module.Module.{Module}
+use Rattle.wasm_syntax.specs.Grammar.{Then, U32, Vector, Sized}
+use Rattle.wasm_syntax.specs.Types.{SpellsFuncType, SpellsLimits, SpellsTable}
+use Rattle.wasm_syntax.specs.Sections.{Customs, Section, SpellsImport, SpellsGlobal, SpellsExport, SpellsElements, BodyContent, SpellsData}
+use Rattle.wasm_syntax.specs.Module.{Sections, SpellsSections, SpellsParts, SpellsWith, CountsAgree, FitsProfile, module_of}
 use Rattle.wasm_module.specs.internal.ModuleReading.{preamble_at, Held, sections_of, sections_at, is_few, fits_profile, is_counted, counts_agree, module_and_count, module_from}
-use Rattle.wasm_module.specs.Reading.{◌>>=◌, Gives, Reader, byte_at, map_at, vector_at, whole, customs_at, section_at}
+use Rattle.wasm_syntax.specs.Reading.{◌>>=◌, Gives, Reader, byte_at, map_at, vector_at, whole, customs_at, section_at}
 use Rattle.wasm_module.proofs.Laws.{both_true, bind_some, guard_some, some_is, Front, Reads}
 use Rattle.wasm_module.proofs.Combine.{then_takes, reads_byte, reads_u32, reads_vector, reads_whole}
 use Rattle.wasm_module.proofs.TypeLaws.{reads_func_type, reads_limits, reads_table}

@@ -2,16 +2,16 @@
 use Rattle.std.proofs.Common.{◌≡◌, ℕ, zero, suc, ◌+◌, ◌-◌, ◌<◌, ◌≤◌, Bool, true, false, cond, eqb, List, [], ◌∷◌, ◌++◌, length, Option, Some, None, refl, sym, ap, subst, ◌∙◌, append_assoc, arith, inl, inr, ◌⊎◌}
 use Rattle.std.proofs.lemmas.Bool.{eqb-true}
 use Rattle.std.proofs.lemmas.List.{append-nil, length-append, nil_from_length}
-use Rattle.wasm_module.specs.declared.profile.Profile.{Profile}
-use Rattle.wasm_module.specs.declared.instruction.BlockType.{BlockType}
-use Rattle.wasm_module.specs.declared.instruction.Instruction.{Instruction}
-use Rattle.wasm_module.specs.declared.instruction.Instruction.TheVariants as op
-use Rattle.wasm_module.specs.declared.open_blocks.OpenBlock.{OpenBlock}
-use Rattle.wasm_module.specs.declared.open_blocks.OpenBlock.TheVariants.{Plain, Conditional}
-use Rattle.wasm_module.specs.Nested.{Instructions, done, plain, block, loop, if_then, if_else, invoke, IsPlain, flatten}
-use Rattle.wasm_module.specs.Instructions.{SpellsInstruction, SpellsUpTo, SpellsExpression}
-use Rattle.wasm_module.specs.internal.CodeReading.{instruction_at, after_instruction, code_from, code_at}
-use Rattle.wasm_module.specs.Reading.{◌>>=◌, Reader}
+use Rattle.wasm_syntax.specs.declared.profile.Profile.{Profile}
+use Rattle.wasm_syntax.specs.declared.instruction.BlockType.{BlockType}
+use Rattle.wasm_syntax.specs.declared.instruction.Instruction.{Instruction}
+use Rattle.wasm_syntax.specs.declared.instruction.Instruction.TheVariants as op
+use Rattle.wasm_syntax.specs.declared.open_blocks.OpenBlock.{OpenBlock}
+use Rattle.wasm_syntax.specs.declared.open_blocks.OpenBlock.TheVariants.{Plain, Conditional}
+use Rattle.wasm_syntax.specs.Nested.{Instructions, done, plain, block, loop, if_then, if_else, invoke, IsPlain, flatten}
+use Rattle.wasm_syntax.specs.Instructions.{SpellsInstruction, SpellsUpTo, SpellsExpression}
+use Rattle.wasm_syntax.specs.internal.CodeReading.{instruction_at, after_instruction, code_from, code_at}
+use Rattle.wasm_syntax.specs.Reading.{◌>>=◌, Reader}
 use Rattle.wasm_module.proofs.Laws.{bind_some, some_is, chosen, Front, Reads}
 use Rattle.wasm_module.proofs.Loop.{with_front}
 use Rattle.wasm_module.proofs.InstructionLaws.{reads_instruction}

@@ -1,8 +1,8 @@
 -- Which instructions an opcode is of.
 use Rattle.std.proofs.Common.{◌≡◌, ℕ, ◌<◌, ◌≤◌, List, refl, arith}
 use Rattle.std.proofs.lemmas.Bool.{ne_eqb, lt-ltb, le-ltb}
-use Rattle.wasm_module.specs.declared.profile.Profile.{Profile}
-use Rattle.wasm_module.specs.internal.CodeReading.{control_after, variable_after, load_after, store_after, size_after, operator_after, instruction_after}
+use Rattle.wasm_syntax.specs.declared.profile.Profile.{Profile}
+use Rattle.wasm_syntax.specs.internal.CodeReading.{control_after, variable_after, load_after, store_after, size_after, operator_after, instruction_after}
 
 module _ (profile : Profile) where
   -- opcodes of control instructions

@@ -1,14 +1,14 @@
 -- Opcodes whose operand is read before they are told apart.
 use Rattle.std.proofs.Common.{Bool, true, false, ◌≡◌, ℕ, ◌<◌, ◌≤◌, cond, eqb, List, Option, Some, None, Result, Ok, Err, refl, sym, subst, ◌∙◌, arith}
 use Rattle.std.proofs.lemmas.Bool.{eqb-true, eqb-false, ne_eqb}
-use Rattle.wasm_module.specs.declared.profile.Profile.{Profile}
-use Rattle.wasm_module.specs.declared.fault.LoadFault.{LoadFault}
-use Rattle.wasm_module.specs.declared.instruction.BlockType.{BlockType}
-use Rattle.wasm_module.specs.declared.instruction.Instruction.{Instruction}
-use Rattle.wasm_module.specs.declared.instruction.Instruction.TheVariants as op
-use Rattle.wasm_module.specs.internal.CodeReading.{saturated, bulk_after, control_after, block_with, branch_with, variable_after, variable_with}
-use Rattle.wasm_module.specs.internal.TypesReading.{block_type_at}
-use Rattle.wasm_module.specs.Reading.{◌>>=◌, Gives, Reader, map_at, u32_at}
+use Rattle.wasm_syntax.specs.declared.profile.Profile.{Profile}
+use Rattle.wasm_syntax.specs.declared.fault.LoadFault.{LoadFault}
+use Rattle.wasm_syntax.specs.declared.instruction.BlockType.{BlockType}
+use Rattle.wasm_syntax.specs.declared.instruction.Instruction.{Instruction}
+use Rattle.wasm_syntax.specs.declared.instruction.Instruction.TheVariants as op
+use Rattle.wasm_syntax.specs.internal.CodeReading.{saturated, bulk_after, control_after, block_with, branch_with, variable_after, variable_with}
+use Rattle.wasm_syntax.specs.internal.TypesReading.{block_type_at}
+use Rattle.wasm_syntax.specs.Reading.{◌>>=◌, Gives, Reader, map_at, u32_at}
 
 -- an operand, and the instruction that is made of it
 abbrev pub made_with : {X : Type 0} → Reader X → (X → Option Instruction) → Reader Instruction

@@ -1,25 +1,25 @@
 -- The laws of operators, which have nothing after their opcode.
 use Rattle.std.proofs.Common.{◌≡◌, ℕ, ◌+◌, ◌-◌, ◌≤◌, List, [], ◌∷◌, Some, refl, ap, subst, arith}
-use Rattle.wasm_module.specs.declared.profile.Profile.{Profile}
-use Rattle.wasm_module.specs.declared.instruction.IntegerType.{IntegerType}
-use Rattle.wasm_module.specs.declared.instruction.IntegerType.TheVariants.{I32, I64}
-use Rattle.wasm_module.specs.declared.accesses.LoadOperator.{LoadOperator}
-use Rattle.wasm_module.specs.declared.accesses.LoadOperator.TheVariants as load
-use Rattle.wasm_module.specs.declared.accesses.StoreOperator.{StoreOperator}
-use Rattle.wasm_module.specs.declared.accesses.StoreOperator.TheVariants as store
-use Rattle.wasm_module.specs.declared.instruction.Comparison.{Comparison}
-use Rattle.wasm_module.specs.declared.instruction.Comparison.TheVariants as comparison
-use Rattle.wasm_module.specs.declared.instruction.UnaryOperator.{UnaryOperator}
-use Rattle.wasm_module.specs.declared.instruction.UnaryOperator.TheVariants as unary
-use Rattle.wasm_module.specs.declared.instruction.BinaryOperator.{BinaryOperator}
-use Rattle.wasm_module.specs.declared.instruction.BinaryOperator.TheVariants as binary
-use Rattle.wasm_module.specs.declared.instruction.Instruction.{Instruction}
-use Rattle.wasm_module.specs.declared.instruction.Instruction.TheVariants as op
-use Rattle.wasm_module.specs.Profile.{TakesType}
-use Rattle.wasm_module.specs.Accesses.{load_access, store_access}
-use Rattle.wasm_module.specs.Instructions.{comparison_number, binary_operator_number, unary_opcode, load_opcode, store_opcode, SpellsImmediates, SpellsInstruction}
-use Rattle.wasm_module.specs.internal.CodeReading.{comparison_of, binary_operator_of, unary_of, compared, operated, numeric_of, numeric_after, mem_arg_at, load_of, load_after, store_of, store_after, operator_after, instruction_after, instruction_at}
-use Rattle.wasm_module.specs.Reading.{◌>>=◌, map_at}
+use Rattle.wasm_syntax.specs.declared.profile.Profile.{Profile}
+use Rattle.wasm_syntax.specs.declared.instruction.IntegerType.{IntegerType}
+use Rattle.wasm_syntax.specs.declared.instruction.IntegerType.TheVariants.{I32, I64}
+use Rattle.wasm_syntax.specs.declared.accesses.LoadOperator.{LoadOperator}
+use Rattle.wasm_syntax.specs.declared.accesses.LoadOperator.TheVariants as load
+use Rattle.wasm_syntax.specs.declared.accesses.StoreOperator.{StoreOperator}
+use Rattle.wasm_syntax.specs.declared.accesses.StoreOperator.TheVariants as store
+use Rattle.wasm_syntax.specs.declared.instruction.Comparison.{Comparison}
+use Rattle.wasm_syntax.specs.declared.instruction.Comparison.TheVariants as comparison
+use Rattle.wasm_syntax.specs.declared.instruction.UnaryOperator.{UnaryOperator}
+use Rattle.wasm_syntax.specs.declared.instruction.UnaryOperator.TheVariants as unary
+use Rattle.wasm_syntax.specs.declared.instruction.BinaryOperator.{BinaryOperator}
+use Rattle.wasm_syntax.specs.declared.instruction.BinaryOperator.TheVariants as binary
+use Rattle.wasm_syntax.specs.declared.instruction.Instruction.{Instruction}
+use Rattle.wasm_syntax.specs.declared.instruction.Instruction.TheVariants as op
+use Rattle.wasm_syntax.specs.Profile.{TakesType}
+use Rattle.wasm_syntax.specs.Accesses.{load_access, store_access}
+use Rattle.wasm_syntax.specs.Instructions.{comparison_number, binary_operator_number, unary_opcode, load_opcode, store_opcode, SpellsImmediates, SpellsInstruction}
+use Rattle.wasm_syntax.specs.internal.CodeReading.{comparison_of, binary_operator_of, unary_of, compared, operated, numeric_of, numeric_after, mem_arg_at, load_of, load_after, store_of, store_after, operator_after, instruction_after, instruction_at}
+use Rattle.wasm_syntax.specs.Reading.{◌>>=◌, map_at}
 use Rattle.wasm_module.proofs.Laws.{bind_some, some_is, picked, picked_with, ended, ranged}
 
 -- ---- operators by their numbers

@@ -1,25 +1,25 @@
 -- The laws of the parts of sections.
 use Rattle.std.proofs.Common.{◌≡◌, ℕ, List, [], ◌∷◌, ◌++◌, Some, refl, ap, subst}
-use Rattle.wasm_module.specs.declared.profile.Profile.{Profile}
-use Rattle.wasm_module.specs.declared.instruction.Instruction.{Instruction}
-use Rattle.wasm_module.specs.declared.module.ImportKind.{ImportKind}
-use Rattle.wasm_module.specs.declared.module.ImportKind.TheVariants as imported
-use Rattle.wasm_module.specs.declared.module.Import.{Import}
-use Rattle.wasm_module.specs.declared.module.ExportKind.{ExportKind}
-use Rattle.wasm_module.specs.declared.module.ExportKind.TheVariants as exported
-use Rattle.wasm_module.specs.declared.module.Export.{Export}
-use Rattle.wasm_module.specs.declared.module.GlobalEntry.{GlobalEntry}
-use Rattle.wasm_module.specs.declared.module.ElementSegment.{ElementSegment}
-use Rattle.wasm_module.specs.declared.module.Locals.{Locals}
-use Rattle.wasm_module.specs.declared.module.Body.{Body}
-use Rattle.wasm_module.specs.declared.module.DataSegment.{DataSegment}
-use Rattle.wasm_module.specs.Grammar.{Then, U32, Vector, Sized}
-use Rattle.wasm_module.specs.Types.{SpellsLimits, SpellsTable, SpellsGlobalType}
-use Rattle.wasm_module.specs.Instructions.{SpellsExpression}
-use Rattle.wasm_module.specs.Sections.{SpellsImportKind, SpellsImport, SpellsGlobal, SpellsExportKind, SpellsExport, SpellsElements, SpellsLocals, BodyContent, SpellsData}
-use Rattle.wasm_module.specs.internal.CodeReading.{code_at}
+use Rattle.wasm_syntax.specs.declared.profile.Profile.{Profile}
+use Rattle.wasm_syntax.specs.declared.instruction.Instruction.{Instruction}
+use Rattle.wasm_syntax.specs.declared.module.ImportKind.{ImportKind}
+use Rattle.wasm_syntax.specs.declared.module.ImportKind.TheVariants as imported
+use Rattle.wasm_syntax.specs.declared.module.Import.{Import}
+use Rattle.wasm_syntax.specs.declared.module.ExportKind.{ExportKind}
+use Rattle.wasm_syntax.specs.declared.module.ExportKind.TheVariants as exported
+use Rattle.wasm_syntax.specs.declared.module.Export.{Export}
+use Rattle.wasm_syntax.specs.declared.module.GlobalEntry.{GlobalEntry}
+use Rattle.wasm_syntax.specs.declared.module.ElementSegment.{ElementSegment}
+use Rattle.wasm_syntax.specs.declared.module.Locals.{Locals}
+use Rattle.wasm_syntax.specs.declared.module.Body.{Body}
+use Rattle.wasm_syntax.specs.declared.module.DataSegment.{DataSegment}
+use Rattle.wasm_syntax.specs.Grammar.{Then, U32, Vector, Sized}
+use Rattle.wasm_syntax.specs.Types.{SpellsLimits, SpellsTable, SpellsGlobalType}
+use Rattle.wasm_syntax.specs.Instructions.{SpellsExpression}
+use Rattle.wasm_syntax.specs.Sections.{SpellsImportKind, SpellsImport, SpellsGlobal, SpellsExportKind, SpellsExport, SpellsElements, SpellsLocals, BodyContent, SpellsData}
+use Rattle.wasm_syntax.specs.internal.CodeReading.{code_at}
 use Rattle.wasm_module.specs.internal.ModuleReading.{import_after, import_kind_at, import_at, global_at, export_after, export_kind_at, export_at, elements_at, locals_at, body_of, body_at, data_at}
-use Rattle.wasm_module.specs.Reading.{then_at, vector_at, whole}
+use Rattle.wasm_syntax.specs.Reading.{then_at, vector_at, whole}
 use Rattle.wasm_module.proofs.Laws.{bind_some, some_is, Front, Reads, ReadsWhole}
 use Rattle.wasm_module.proofs.Combine.{reads_then, reads_as, reads_u32, reads_vector, reads_whole, reads_sized, reads_raw, reads_name, operand_then, reread, tagged, untagged}
 use Rattle.wasm_module.proofs.TypeLaws.{reads_value_type, reads_limits, reads_table, reads_global_type}

@@ -3,9 +3,9 @@ use Rattle.std.proofs.Common.{eq-eqb, ◌≡◌, ℕ, zero, suc, ◌≤◌, Bool
 use Rattle.std.specs.List.{AllByRecursion}
 use Rattle.std.proofs.lemmas.Bool.{eqb-true}
 use Rattle.std.proofs.lemmas.List.{length-append}
-use Rattle.wasm_module.specs.Grammar.{Then, Each, Sized}
-use Rattle.wasm_module.specs.Sections.{CustomContent, Custom, Customs, Section}
-use Rattle.wasm_module.specs.Reading.{◌>>=◌, Reader, WholeReader, next_at, begins, name_at, custom_of, sized_at, customs_from, customs_at, section_at, then_at}
+use Rattle.wasm_syntax.specs.Grammar.{Then, Each, Sized}
+use Rattle.wasm_syntax.specs.Sections.{CustomContent, Custom, Customs, Section}
+use Rattle.wasm_syntax.specs.Reading.{◌>>=◌, Reader, WholeReader, next_at, begins, name_at, custom_of, sized_at, customs_from, customs_at, section_at, then_at}
 use Rattle.wasm_module.proofs.Laws.{bind_some, some_is, chosen, Front, Reads, ReadsWhole}
 use Rattle.wasm_module.proofs.Combine.{then_takes, reads_name, reads_sized}
 

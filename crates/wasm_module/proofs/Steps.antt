@@ -1,11 +1,11 @@
 -- One turn of a loop that reads.
 use Rattle.std.proofs.Common.{Bool, true, false, ◌≡◌, ℕ, suc, ◌-◌, ◌+◌, ◌≤◌, ◌<◌, cond, eqb, List, [], ◌∷◌, ◌++◌, length, Option, Some, None, refl, sym, ap, ◌∙◌, append_assoc, arith}
 use Rattle.std.proofs.lemmas.List.{append-nil}
-use Rattle.wasm_module.specs.declared.profile.Profile.{Profile}
-use Rattle.wasm_module.specs.declared.instruction.Instruction.{Instruction}
-use Rattle.wasm_module.specs.declared.open_blocks.OpenBlock.{OpenBlock}
-use Rattle.wasm_module.specs.Reading.{◌>>=◌, Reader, begins, next_at, sized_at, custom_of, customs_from, many_at}
-use Rattle.wasm_module.specs.internal.CodeReading.{instruction_at, after_instruction, one_more_at, code_from}
+use Rattle.wasm_syntax.specs.declared.profile.Profile.{Profile}
+use Rattle.wasm_syntax.specs.declared.instruction.Instruction.{Instruction}
+use Rattle.wasm_syntax.specs.declared.open_blocks.OpenBlock.{OpenBlock}
+use Rattle.wasm_syntax.specs.Reading.{◌>>=◌, Reader, begins, next_at, sized_at, custom_of, customs_from, many_at}
+use Rattle.wasm_syntax.specs.internal.CodeReading.{instruction_at, after_instruction, one_more_at, code_from}
 use Rattle.wasm_module.proofs.Loop.{with_front}
 
 -- one turn of the loop over custom sections

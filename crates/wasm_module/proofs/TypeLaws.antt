@@ -1,18 +1,18 @@
 -- The laws of types.
 use Rattle.std.proofs.Common.{◌≡◌, ℕ, Bool, true, false, cond, eqb, leb, List, [], ◌∷◌, ◌++◌, Option, Some, None, refl, sym, ap, subst, ◌∙◌, append_assoc, inl, inr}
 use Rattle.std.proofs.lemmas.Bool.{eqb-true, leb-true, le-leb}
-use Rattle.wasm_module.specs.declared.profile.Profile.{Profile}
-use Rattle.wasm_module.specs.declared.instruction.ValueType.{ValueType}
-use Rattle.wasm_module.specs.declared.instruction.ValueType.TheVariants.{I32, I64, F32, F64}
-use Rattle.wasm_module.specs.declared.instruction.BlockType.{BlockType}
-use Rattle.wasm_module.specs.declared.instruction.BlockType.TheVariants.{Empty, Value}
-use Rattle.wasm_module.specs.declared.module.FuncType.{FuncType}
-use Rattle.wasm_module.specs.declared.module.Limits.{Limits}
-use Rattle.wasm_module.specs.declared.module.GlobalType.{GlobalType}
-use Rattle.wasm_module.specs.Grammar.{Then, U32}
-use Rattle.wasm_module.specs.Types.{SpellsValueType, SpellsBlockType, SpellsFuncType, SpellsBounds, SpellsLimits, SpellsTable, SpellsMutability, SpellsGlobalType}
-use Rattle.wasm_module.specs.internal.TypesReading.{value_type_of, value_type_at, block_type_at, func_type_at, bounds_after, limits_at, table_at, mutability_of, mutability_at, global_type_at}
-use Rattle.wasm_module.specs.Reading.{◌>>=◌, byte_at, u32_at, then_at}
+use Rattle.wasm_syntax.specs.declared.profile.Profile.{Profile}
+use Rattle.wasm_syntax.specs.declared.instruction.ValueType.{ValueType}
+use Rattle.wasm_syntax.specs.declared.instruction.ValueType.TheVariants.{I32, I64, F32, F64}
+use Rattle.wasm_syntax.specs.declared.instruction.BlockType.{BlockType}
+use Rattle.wasm_syntax.specs.declared.instruction.BlockType.TheVariants.{Empty, Value}
+use Rattle.wasm_syntax.specs.declared.module.FuncType.{FuncType}
+use Rattle.wasm_syntax.specs.declared.module.Limits.{Limits}
+use Rattle.wasm_syntax.specs.declared.module.GlobalType.{GlobalType}
+use Rattle.wasm_syntax.specs.Grammar.{Then, U32}
+use Rattle.wasm_syntax.specs.Types.{SpellsValueType, SpellsBlockType, SpellsFuncType, SpellsBounds, SpellsLimits, SpellsTable, SpellsMutability, SpellsGlobalType}
+use Rattle.wasm_syntax.specs.internal.TypesReading.{value_type_of, value_type_at, block_type_at, func_type_at, bounds_after, limits_at, table_at, mutability_of, mutability_at, global_type_at}
+use Rattle.wasm_syntax.specs.Reading.{◌>>=◌, byte_at, u32_at, then_at}
 use Rattle.wasm_module.proofs.Laws.{bind_some, guard_some, chosen, some_is, picked, picked_with, ended, Front, Reads}
 use Rattle.wasm_module.proofs.Combine.{reads_byte, reads_then, reads_as, reads_u32, reads_vector, operand_then, reread, tagged, untagged}
 

@@ -1,8 +1,8 @@
 -- The eight bytes at the front, four at a time.
 use Rattle.std.proofs.Common.{◌≡◌, ◌∙◌, ℕ, List, Option, Some, None, Result, refl, sym, subst}
-use Rattle.wasm_module.specs.declared.fault.LoadFault.{LoadFault}
+use Rattle.wasm_syntax.specs.declared.fault.LoadFault.{LoadFault}
 use Rattle.wasm_module.specs.internal.ModuleReading.{word_at, preamble_at}
-use Rattle.wasm_module.specs.Reading.{◌>>=◌, Gives, byte_at}
+use Rattle.wasm_syntax.specs.Reading.{◌>>=◌, Gives, byte_at}
 
 -- the version after what was read
 abbrev and_version : Option (Unit {0} × List ℕ) → Option (Unit {0} × List ℕ)

@@ -2,16 +2,4 @@
 -- `Module`, which `decode` promises at success, and the table of loads and stores (`Accesses`). `Reading` has a part of
 -- the grammar as readers from the front, by which `sandbox_inspect` finds sections; `internal` serves private contracts
 -- and proofs.
-pub mod Number
-pub mod Grammar
-pub mod Profile
-pub mod ValueTypes
-pub mod Types
-pub mod Accesses
-pub mod Nested
-pub mod Instructions
-pub mod Sections
-pub mod Module
-pub mod Floatless
-pub mod Reading
 pub mod internal

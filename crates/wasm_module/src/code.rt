@@ -1,19 +1,19 @@
 //! What instructions are read from (section 5.4).
 
 ghost use Rattle.std.specs.Prelude.{◌≡◌};
-ghost use Rattle.wasm_module.specs.internal.CodeReading.{binary_operator_of, block_with, branch_table_at, branch_with, bulk_after, bulk_at, call_indirect_at, compared, comparison_of, control_after, float_after, floats_at, load_after, load_of, numeric_of, only_table_at, operated, operator_after, saturated, size_after, store_after, store_of, unary_instruction, variable_after, variable_with};
-ghost use Rattle.wasm_module.specs.Reading.{Gives};
+ghost use Rattle.wasm_syntax.specs.internal.CodeReading.{binary_operator_of, block_with, branch_table_at, branch_with, bulk_after, bulk_at, call_indirect_at, compared, comparison_of, control_after, float_after, floats_at, load_after, load_of, numeric_of, only_table_at, operated, operator_after, saturated, size_after, store_after, store_of, unary_instruction, variable_after, variable_with};
+ghost use Rattle.wasm_syntax.specs.Reading.{Gives};
 
-use crate::accesses::{LoadOperator, StoreOperator};
+use wasm_syntax::accesses::{LoadOperator, StoreOperator};
 use crate::cursor::{Cursor, Decode};
-use crate::fault::LoadFault;
+use wasm_syntax::fault::LoadFault;
 use crate::floats::{float, is_float, saturation};
-use crate::instruction::{
+use wasm_syntax::instruction::{
     BinaryOperator, BlockType, BranchTable, Comparison, Instruction, IntegerType, MemArg,
     UnaryOperator,
 };
-use crate::items::Items;
-use crate::profile::Profile;
+use wasm_syntax::items::Items;
+use wasm_syntax::profile::Profile;
 use std::alloc::Global;
 
 /// Why this byte is no opcode: the loads and stores of floats are known, and may be refused.
@@ -417,7 +417,7 @@ fn operator(
 }
 
 impl<'a> Decode<'a> for MemArg {
-    ghost use Rattle.wasm_module.specs.internal.CodeReading.{mem_arg_at};
+    ghost use Rattle.wasm_syntax.specs.internal.CodeReading.{mem_arg_at};
 
     ghost at = { λ p. mem_arg_at };
 
@@ -435,7 +435,7 @@ impl<'a> Decode<'a> for MemArg {
 }
 
 impl<'a> Decode<'a> for Instruction {
-    ghost use Rattle.wasm_module.specs.internal.CodeReading.{instruction_at, instruction_after};
+    ghost use Rattle.wasm_syntax.specs.internal.CodeReading.{instruction_at, instruction_after};
 
     ghost at = { instruction_at };
 

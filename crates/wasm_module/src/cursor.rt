@@ -1,16 +1,16 @@
 //! A place in the bytes of a module.
 
 ghost use Rattle.std.specs.Prelude.{◌≡◌, ◌==◌, ◌^◌, ◌<◌, ◌≤◌, [], length, IfOk, MatchResult};
-ghost use Rattle.wasm_module.specs.internal.CodeReading.{s32_at, s64_at, one_more_at, code_at};
-ghost use Rattle.wasm_module.specs.declared.profile.Profile.{Profile as ProfileValue};
-ghost use Rattle.wasm_module.specs.Reading.{Gives, Reader, byte_at, number_at, u32_at, next_at, begins, many_at, vector_at, piece_at, whole, sized_at, raw_of, utf8_text_of, name_at, custom_of, customs_at, section_at};
+ghost use Rattle.wasm_syntax.specs.internal.CodeReading.{s32_at, s64_at, one_more_at, code_at};
+ghost use Rattle.wasm_syntax.specs.declared.profile.Profile.{Profile as ProfileValue};
+ghost use Rattle.wasm_syntax.specs.Reading.{Gives, Reader, byte_at, number_at, u32_at, next_at, begins, many_at, vector_at, piece_at, whole, sized_at, raw_of, utf8_text_of, name_at, custom_of, customs_at, section_at};
 
-use crate::fault::LoadFault;
-use crate::instruction::Instruction;
-use crate::items::{Bytes, Items, Name};
-use crate::number::{NumberSpan, Sign, last, number};
-use crate::open_blocks::OpenBlocks;
-use crate::profile::Profile;
+use wasm_syntax::fault::LoadFault;
+use wasm_syntax::instruction::Instruction;
+use wasm_syntax::items::{Bytes, Items, Name};
+use wasm_syntax::number::{NumberSpan, Sign, last, number};
+use wasm_syntax::open_blocks::OpenBlocks;
+use wasm_syntax::profile::Profile;
 use std::alloc::Global;
 use std::marker::Model;
 
@@ -46,7 +46,7 @@ pub trait Decode<'a>: Drop {
 // One after the other. A value that is read piece by piece is dropped at each later exit; read in
 // one call it has one.
 impl<'a, A: Decode<'a>, B: Decode<'a>> Decode<'a> for (A, B) {
-    ghost use Rattle.wasm_module.specs.Reading.{then_at};
+    ghost use Rattle.wasm_syntax.specs.Reading.{then_at};
 
     ghost at = { λ p. then_at (A.at p) (B.at p) };
 

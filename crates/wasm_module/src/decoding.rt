@@ -1,22 +1,22 @@
 //! A module from its bytes (section 5.5.15).
 
 ghost use Rattle.std.specs.Prelude.{◌≡◌, ◌≢◌, ℕ, List, IfOk, IfErr};
-ghost use Rattle.wasm_module.specs.Module.{Spells, SpellsWith};
+ghost use Rattle.wasm_syntax.specs.Module.{Spells, SpellsWith};
 ghost use Rattle.wasm_module.specs.internal.ModuleReading.{word_at, preamble_at, list_at, code_parts_at, start_parts_at, link_parts_at, storage_parts_at, sections_at, decoded_of, is_counted, counts_agree, module_and_count, module_from};
-ghost use Rattle.wasm_module.specs.Reading.{Gives, Allows, map_at, then_at};
-ghost use Rattle.wasm_module.specs.internal.TypesReading.{table_at};
-ghost use Rattle.wasm_module.specs.declared.module.Module.{Module as ModuleValue};
-ghost use Rattle.wasm_module.specs.declared.profile.Profile.{Profile as ProfileValue};
+ghost use Rattle.wasm_syntax.specs.Reading.{Gives, Allows, map_at, then_at};
+ghost use Rattle.wasm_syntax.specs.internal.TypesReading.{table_at};
+ghost use Rattle.wasm_syntax.specs.declared.module.Module.{Module as ModuleValue};
+ghost use Rattle.wasm_syntax.specs.declared.profile.Profile.{Profile as ProfileValue};
 
 use crate::cursor::{Cursor, Decode};
-use crate::fault::LoadFault;
-use crate::items::Items;
+use wasm_syntax::fault::LoadFault;
+use wasm_syntax::items::Items;
 use crate::limits;
-use crate::module::{
+use wasm_syntax::module::{
     Body, DataSegment, ElementSegment, Export, FuncType, GlobalEntry, Import, Limits, Module,
 };
 use crate::parts::Tables;
-use crate::profile::Profile;
+use wasm_syntax::profile::Profile;
 use std::alloc::Global;
 
 /// How many bytes a module has at most.

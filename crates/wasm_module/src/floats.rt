@@ -1,16 +1,16 @@
 //! What the instructions of floats are read from (section 5.4).
 
 ghost use Rattle.std.specs.Prelude.{◌≡◌};
-ghost use Rattle.wasm_module.specs.internal.CodeReading.{conversion_of, eight_bytes_at, float_after, float_binary_of, float_compared, float_comparison_of, float_of_one, float_of_two, float_operator_of, float_unary_of, four_bytes_at, is_between, is_float, saturation_of};
-ghost use Rattle.wasm_module.specs.Reading.{Gives};
+ghost use Rattle.wasm_syntax.specs.internal.CodeReading.{conversion_of, eight_bytes_at, float_after, float_binary_of, float_compared, float_comparison_of, float_of_one, float_of_two, float_operator_of, float_unary_of, four_bytes_at, is_between, is_float, saturation_of};
+ghost use Rattle.wasm_syntax.specs.Reading.{Gives};
 
 use crate::cursor::Cursor;
-use crate::fault::LoadFault;
-use crate::instruction::{
+use wasm_syntax::fault::LoadFault;
+use wasm_syntax::instruction::{
     FloatBinaryOperator, FloatComparison, FloatOperator, FloatType, FloatUnaryOperator,
     Instruction, IntegerType,
 };
-use crate::number::Sign;
+use wasm_syntax::number::Sign;
 
 /// The comparisons in the order of their opcodes.
 #[tactic(auto, unfolding(crate::specs::internal::CodeReading::float_comparison_of))]

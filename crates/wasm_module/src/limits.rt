@@ -2,13 +2,13 @@
 
 ghost use Rattle.std.specs.List.{list_all, zip};
 ghost use Rattle.std.specs.Prelude.{◌≡◌, ◌+◌, length, nat_le, slice_get};
-ghost use Rattle.wasm_module.specs.Module.{param_count, local_count};
+ghost use Rattle.wasm_syntax.specs.Module.{param_count, local_count};
 ghost use Rattle.wasm_module.specs.internal.ModuleReading.{is_few, fits_profile};
 
 use crate::cursor::Cursor;
-use crate::fault::LoadFault;
-use crate::items::Items;
-use crate::module::{Body, FuncType, Locals, Module};
+use wasm_syntax::fault::LoadFault;
+use wasm_syntax::items::Items;
+use wasm_syntax::module::{Body, FuncType, Locals, Module};
 
 /// How many parameters and locals a function may have together.
 const MOST_LOCALS: u64 = 50_000;

@@ -1,19 +1,19 @@
 //! What the parts of a module are read from (sections 5.3 to 5.5).
 
-ghost use Rattle.wasm_module.specs.internal.CodeReading.{code_at};
+ghost use Rattle.wasm_syntax.specs.internal.CodeReading.{code_at};
 ghost use Rattle.wasm_module.specs.internal.ModuleReading.{body_of};
-ghost use Rattle.wasm_module.specs.Reading.{Gives, many_at};
-ghost use Rattle.wasm_module.specs.internal.TypesReading.{value_type_of, with_floats, table_at, mutability_at};
+ghost use Rattle.wasm_syntax.specs.Reading.{Gives, many_at};
+ghost use Rattle.wasm_syntax.specs.internal.TypesReading.{value_type_of, with_floats, table_at, mutability_at};
 
 use crate::cursor::{Cursor, Decode};
-use crate::fault::LoadFault;
-use crate::instruction::{BlockType, Instruction, ValueType};
-use crate::items::{Bytes, Items};
-use crate::module::{
+use wasm_syntax::fault::LoadFault;
+use wasm_syntax::instruction::{BlockType, Instruction, ValueType};
+use wasm_syntax::items::{Bytes, Items};
+use wasm_syntax::module::{
     Body, DataSegment, ElementSegment, Export, ExportKind, FuncType, GlobalEntry, GlobalType,
     Import, ImportKind, Limits, Locals,
 };
-use crate::profile::Profile;
+use wasm_syntax::profile::Profile;
 use std::alloc::Global;
 use std::marker::Model;
 
@@ -43,7 +43,7 @@ fn float_type(profile: Profile, float: ValueType, offset: u32) -> Result<ValueTy
 }
 
 impl<'a> Decode<'a> for ValueType {
-    ghost use Rattle.wasm_module.specs.internal.TypesReading.{value_type_at};
+    ghost use Rattle.wasm_syntax.specs.internal.TypesReading.{value_type_at};
 
     ghost at = { value_type_at };
 
@@ -59,7 +59,7 @@ impl<'a> Decode<'a> for ValueType {
 }
 
 impl<'a> Decode<'a> for BlockType {
-    ghost use Rattle.wasm_module.specs.internal.TypesReading.{block_type_at};
+    ghost use Rattle.wasm_syntax.specs.internal.TypesReading.{block_type_at};
 
     ghost at = { block_type_at };
 
@@ -78,7 +78,7 @@ impl<'a> Decode<'a> for BlockType {
 }
 
 impl<'a> Decode<'a> for FuncType {
-    ghost use Rattle.wasm_module.specs.internal.TypesReading.{func_type_at};
+    ghost use Rattle.wasm_syntax.specs.internal.TypesReading.{func_type_at};
 
     ghost at = { func_type_at };
 
@@ -96,7 +96,7 @@ impl<'a> Decode<'a> for FuncType {
 }
 
 impl<'a> Decode<'a> for Limits {
-    ghost use Rattle.wasm_module.specs.internal.TypesReading.{limits_at, bounds_after};
+    ghost use Rattle.wasm_syntax.specs.internal.TypesReading.{limits_at, bounds_after};
 
     ghost at = { λ p. limits_at };
 
@@ -148,7 +148,7 @@ pub struct Tables {
 
 impl Model for Tables {
     ghost use Rattle.std.specs.Prelude.{List};
-    ghost use Rattle.wasm_module.specs.declared.module.Limits.{Limits};
+    ghost use Rattle.wasm_syntax.specs.declared.module.Limits.{Limits};
 
     ghost Value = { List Limits };
 
@@ -172,7 +172,7 @@ fn table_types(
 }
 
 impl<'a> Decode<'a> for Tables {
-    ghost use Rattle.wasm_module.specs.Reading.{vector_at};
+    ghost use Rattle.wasm_syntax.specs.Reading.{vector_at};
 
     ghost at = { λ p. vector_at table_at };
 
@@ -209,7 +209,7 @@ impl<'a> Decode<'a> for bool {
 }
 
 impl<'a> Decode<'a> for GlobalType {
-    ghost use Rattle.wasm_module.specs.internal.TypesReading.{global_type_at};
+    ghost use Rattle.wasm_syntax.specs.internal.TypesReading.{global_type_at};
 
     ghost at = { global_type_at };
 
@@ -228,7 +228,7 @@ impl<'a> Decode<'a> for GlobalType {
 }
 
 impl<'a> Decode<'a> for u32 {
-    ghost use Rattle.wasm_module.specs.Reading.{u32_at};
+    ghost use Rattle.wasm_syntax.specs.Reading.{u32_at};
 
     ghost at = { λ p. u32_at };
 
@@ -242,7 +242,7 @@ impl<'a> Decode<'a> for u32 {
 }
 
 impl<'a, T: Decode<'a>> Decode<'a> for Items<T> {
-    ghost use Rattle.wasm_module.specs.Reading.{vector_at};
+    ghost use Rattle.wasm_syntax.specs.Reading.{vector_at};
 
     ghost at = { λ p. vector_at (T.at p) };
 
@@ -263,7 +263,7 @@ struct Expression {
 
 impl Model for Expression {
     ghost use Rattle.std.specs.Prelude.{List};
-    ghost use Rattle.wasm_module.specs.declared.instruction.Instruction.{Instruction};
+    ghost use Rattle.wasm_syntax.specs.declared.instruction.Instruction.{Instruction};
 
     ghost Value = { List Instruction };
 
@@ -291,7 +291,7 @@ struct FunctionCode {
 
 impl Model for FunctionCode {
     ghost use Rattle.std.specs.Prelude.{List};
-    ghost use Rattle.wasm_module.specs.declared.instruction.Instruction.{Instruction};
+    ghost use Rattle.wasm_syntax.specs.declared.instruction.Instruction.{Instruction};
 
     ghost Value = { List Instruction };
 

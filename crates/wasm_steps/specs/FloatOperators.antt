@@ -4,19 +4,19 @@ use Rattle.std.specs.Prelude.{ℕ, ◌-◌, List, slice_index, Bool, Result, Ok,
 use Rattle.std.specs.Float as floats
 use Rattle.std.specs.Float.Ieee as ieee
 use Rattle.std.specs.Float.Ieee.{Float, Format, binary32, binary64}
-use Rattle.wasm_module.specs.declared.number.Sign.{Sign}
-use Rattle.wasm_module.specs.declared.number.Sign.TheVariants.{Unsigned, Signed}
-use Rattle.wasm_module.specs.declared.instruction.FloatType.{FloatType}
-use Rattle.wasm_module.specs.declared.instruction.FloatType.TheVariants as float_type
-use Rattle.wasm_module.specs.declared.instruction.FloatComparison.{FloatComparison}
-use Rattle.wasm_module.specs.declared.instruction.FloatComparison.TheVariants.{Eq, Ne, Lt, Gt, Le, Ge}
-use Rattle.wasm_module.specs.declared.instruction.FloatUnaryOperator.{FloatUnaryOperator}
-use Rattle.wasm_module.specs.declared.instruction.FloatUnaryOperator.TheVariants.{Abs, Neg, Ceil, Floor, Trunc, Nearest, Sqrt}
-use Rattle.wasm_module.specs.declared.instruction.FloatBinaryOperator.{FloatBinaryOperator}
-use Rattle.wasm_module.specs.declared.instruction.FloatBinaryOperator.TheVariants.{Add, Sub, Mul, Div, Min, Max, Copysign}
-use Rattle.wasm_module.specs.declared.instruction.FloatOperator.{FloatOperator}
-use Rattle.wasm_module.specs.declared.instruction.FloatOperator.TheVariants as float_op
-use Rattle.wasm_module.specs.ValueTypes.{integer}
+use Rattle.wasm_syntax.specs.declared.number.Sign.{Sign}
+use Rattle.wasm_syntax.specs.declared.number.Sign.TheVariants.{Unsigned, Signed}
+use Rattle.wasm_syntax.specs.declared.instruction.FloatType.{FloatType}
+use Rattle.wasm_syntax.specs.declared.instruction.FloatType.TheVariants as float_type
+use Rattle.wasm_syntax.specs.declared.instruction.FloatComparison.{FloatComparison}
+use Rattle.wasm_syntax.specs.declared.instruction.FloatComparison.TheVariants.{Eq, Ne, Lt, Gt, Le, Ge}
+use Rattle.wasm_syntax.specs.declared.instruction.FloatUnaryOperator.{FloatUnaryOperator}
+use Rattle.wasm_syntax.specs.declared.instruction.FloatUnaryOperator.TheVariants.{Abs, Neg, Ceil, Floor, Trunc, Nearest, Sqrt}
+use Rattle.wasm_syntax.specs.declared.instruction.FloatBinaryOperator.{FloatBinaryOperator}
+use Rattle.wasm_syntax.specs.declared.instruction.FloatBinaryOperator.TheVariants.{Add, Sub, Mul, Div, Min, Max, Copysign}
+use Rattle.wasm_syntax.specs.declared.instruction.FloatOperator.{FloatOperator}
+use Rattle.wasm_syntax.specs.declared.instruction.FloatOperator.TheVariants as float_op
+use Rattle.wasm_syntax.specs.ValueTypes.{integer}
 use Rattle.wasm_num.specs.declared.trap.Trap.{Trap}
 use Rattle.wasm_num.specs.declared.trap.Trap.TheVariants.{InvalidConversion, IntegerOverflow}
 use Rattle.wasm_num.specs.Numbers.{signed, wrapped, bool_number}

@@ -3,8 +3,8 @@ use Rattle.std.proofs.Common.{◌≡◌, ℕ, zero, suc, ◌+◌, ◌<◌, ◌�
 use Rattle.std.specs.Prelude.{slice_get}
 use Rattle.std.specs.Bool.{OnTrue, OnFalse}
 use Rattle.std.proofs.lemmas.List.{length-map}
-use Rattle.wasm_module.specs.declared.module.ElementSegment.{ElementSegment}
-use Rattle.wasm_module.specs.declared.module.DataSegment.{DataSegment}
+use Rattle.wasm_syntax.specs.declared.module.ElementSegment.{ElementSegment}
+use Rattle.wasm_syntax.specs.declared.module.DataSegment.{DataSegment}
 use Rattle.wasm_store.specs.Values.{Val}
 use Rattle.wasm_store.specs.Bytes.{written}
 use Rattle.wasm_store.specs.Elements.{with_functions}

@@ -3,20 +3,20 @@
 use Rattle.std.specs.Prelude.{◌≡◌, ℕ, ◌+◌, ◌*◌, ◌≤◌, min, List, [], ◌∷◌, ◌++◌, length, replicate, Option, Some, None, unwrap_or, slice_get, codes, Contains}
 use Rattle.std.specs.List.{AllByRecursion}
 use Rattle.std.specs.Option.{option_to_list}
-use Rattle.wasm_module.specs.declared.instruction.ValueType.TheVariants.{I32, I64, F32, F64}
-use Rattle.wasm_module.specs.declared.instruction.Instruction.{Instruction}
-use Rattle.wasm_module.specs.declared.instruction.Instruction.TheVariants as op
-use Rattle.wasm_module.specs.declared.module.FuncType.{FuncType}
-use Rattle.wasm_module.specs.declared.module.Limits.{Limits}
-use Rattle.wasm_module.specs.declared.module.ImportKind.TheVariants as imports
-use Rattle.wasm_module.specs.declared.module.Import.{Import}
-use Rattle.wasm_module.specs.declared.module.ExportKind.TheVariants as exports
-use Rattle.wasm_module.specs.declared.module.GlobalEntry.{GlobalEntry}
-use Rattle.wasm_module.specs.declared.module.ElementSegment.{ElementSegment}
-use Rattle.wasm_module.specs.declared.module.Body.{Body}
-use Rattle.wasm_module.specs.declared.module.DataSegment.{DataSegment}
-use Rattle.wasm_module.specs.declared.module.Module.{Module}
-use Rattle.wasm_module.specs.Nested.{Instructions, Nests}
+use Rattle.wasm_syntax.specs.declared.instruction.ValueType.TheVariants.{I32, I64, F32, F64}
+use Rattle.wasm_syntax.specs.declared.instruction.Instruction.{Instruction}
+use Rattle.wasm_syntax.specs.declared.instruction.Instruction.TheVariants as op
+use Rattle.wasm_syntax.specs.declared.module.FuncType.{FuncType}
+use Rattle.wasm_syntax.specs.declared.module.Limits.{Limits}
+use Rattle.wasm_syntax.specs.declared.module.ImportKind.TheVariants as imports
+use Rattle.wasm_syntax.specs.declared.module.Import.{Import}
+use Rattle.wasm_syntax.specs.declared.module.ExportKind.TheVariants as exports
+use Rattle.wasm_syntax.specs.declared.module.GlobalEntry.{GlobalEntry}
+use Rattle.wasm_syntax.specs.declared.module.ElementSegment.{ElementSegment}
+use Rattle.wasm_syntax.specs.declared.module.Body.{Body}
+use Rattle.wasm_syntax.specs.declared.module.DataSegment.{DataSegment}
+use Rattle.wasm_syntax.specs.declared.module.Module.{Module}
+use Rattle.wasm_syntax.specs.Nested.{Instructions, Nests}
 use Rattle.wasm_valid.specs.Spaces.{functions_of, local_types}
 use Rattle.wasm_store.specs.declared.call.HostCall.{HostCall}
 use Rattle.wasm_store.specs.Values.{Val, val, number_of}

@@ -1,10 +1,10 @@
 -- Why a module isn't instantiated (section 4.5.4): `RefusedFor` says what each fault but `Memory` means, over the links of any host.
 use Rattle.std.specs.Prelude.{ℕ, ◌+◌, ◌*◌, ◌<◌, ◌≤◌, ◌⊎◌, List, [], ◌∷◌, length}
-use Rattle.wasm_module.specs.declared.module.FuncType.{FuncType}
-use Rattle.wasm_module.specs.declared.module.Import.{Import}
-use Rattle.wasm_module.specs.declared.module.ElementSegment.{ElementSegment}
-use Rattle.wasm_module.specs.declared.module.DataSegment.{DataSegment}
-use Rattle.wasm_module.specs.declared.module.Module.{Module}
+use Rattle.wasm_syntax.specs.declared.module.FuncType.{FuncType}
+use Rattle.wasm_syntax.specs.declared.module.Import.{Import}
+use Rattle.wasm_syntax.specs.declared.module.ElementSegment.{ElementSegment}
+use Rattle.wasm_syntax.specs.declared.module.DataSegment.{DataSegment}
+use Rattle.wasm_syntax.specs.declared.module.Module.{Module}
 use Rattle.wasm_store.specs.declared.fault.InstanceFault.{InstanceFault}
 use Rattle.wasm_store.specs.declared.fault.InstanceFault.TheVariants as faults
 use Rattle.wasm_store.specs.Values.{Val}

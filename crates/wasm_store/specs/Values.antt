@@ -1,8 +1,8 @@
 -- Values (section 4.2.1), each a type and a whole number, never a negative one; of a float the number is its bits. The code keeps only the numbers, so
 -- contracts compare by `numbers`; that each is one of its type is `IsInType`.
 use Rattle.std.specs.Prelude.{ℕ, ◌^◌, ◌<◌, List, [], ◌∷◌}
-use Rattle.wasm_module.specs.declared.instruction.ValueType.{ValueType}
-use Rattle.wasm_module.specs.declared.instruction.ValueType.TheVariants.{I32, I64, F32, F64}
+use Rattle.wasm_syntax.specs.declared.instruction.ValueType.{ValueType}
+use Rattle.wasm_syntax.specs.declared.instruction.ValueType.TheVariants.{I32, I64, F32, F64}
 
 -- a value: its type and its number, which `IsInType` bounds
 pub data Val : Type 0 where

@@ -1,7 +1,7 @@
 //! A host, by what its calls mean.
 
 ghost use Rattle.std.specs.Prelude.{◌≡◌, ℕ, List, Option};
-ghost use Rattle.wasm_module.specs.declared.module.FuncType.{FuncType as FuncTypeValue};
+ghost use Rattle.wasm_syntax.specs.declared.module.FuncType.{FuncType as FuncTypeValue};
 ghost use Rattle.wasm_store.specs.declared.call.HostCall.{HostCall as HostCallValue};
 ghost use Rattle.wasm_store.specs.declared.call.Answer.{Answer as AnswerValue};
 

@@ -4,7 +4,7 @@ use Rattle.std.specs.List.{slice_get}
 use Rattle.std.specs.Option.{option_and_then, option_copied}
 use Rattle.std.specs.Slice.{IsItemAt}
 use Rattle.std.proofs.lemmas.Option.{slice_get_past, slice_get_read}
-use Rattle.wasm_module.specs.declared.module.FuncType.{FuncType}
+use Rattle.wasm_syntax.specs.declared.module.FuncType.{FuncType}
 use Rattle.wasm_valid.specs.Validity.{AreTypesAt}
 
 -- what `get` returns of a slice

@@ -1,9 +1,9 @@
 -- The bodies of a module, one after the other.
 use Rattle.std.proofs.Common.{◌≡◌, ℕ, suc, ◌+◌, ◌<◌, ◌≤◌, List, [], ◌∷◌, length, drop, get_or, sym, ◌∙◌, ap, refl, subst, ◌↔◌}
 use Rattle.std.proofs.lemmas.List.{drop_more, drop_all}
-use Rattle.wasm_module.specs.declared.module.FuncType.{FuncType}
-use Rattle.wasm_module.specs.declared.module.Body.{Body}
-use Rattle.wasm_module.specs.declared.module.Module.{Module}
+use Rattle.wasm_syntax.specs.declared.module.FuncType.{FuncType}
+use Rattle.wasm_syntax.specs.declared.module.Body.{Body}
+use Rattle.wasm_syntax.specs.declared.module.Module.{Module}
 use Rattle.wasm_valid.specs.declared.module_context.ModuleContext.{ModuleContext}
 use Rattle.wasm_valid.specs.Typing.{Context}
 use Rattle.wasm_valid.specs.Validity.{FunctionsTyped}

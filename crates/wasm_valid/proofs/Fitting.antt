@@ -2,8 +2,8 @@
 -- exactly what the typings of the instruction leave.
 use Rattle.std.proofs.Common.{◌≡◌, List, [], ◌∷◌, ◌++◌, Option, Some, None, Bool, true, false, refl, sym, ap, ◌∙◌, subst}
 use Rattle.std.specs.Option.{option_map, option_and_then}
-use Rattle.wasm_module.specs.declared.instruction.ValueType.{ValueType}
-use Rattle.wasm_module.specs.declared.instruction.ValueType.TheVariants.{I32, I64, F32, F64}
+use Rattle.wasm_syntax.specs.declared.instruction.ValueType.{ValueType}
+use Rattle.wasm_syntax.specs.declared.instruction.ValueType.TheVariants.{I32, I64, F32, F64}
 use Rattle.wasm_valid.specs.Typing.{Moves, Leaves}
 use Rattle.wasm_valid.specs.internal.Fits.{Agrees, FitsList, FitsTypes}
 use Rattle.wasm_valid.specs.internal.Stack.{Stack, anything, if_true, when, is_same, agrees, pop_any_of, pop_any, pop, pops, push_any, push, moved, left, dropped, meet, select_from, selected, is_emptied, can_be}

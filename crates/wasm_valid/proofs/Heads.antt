@@ -1,7 +1,7 @@
 -- What an equation of two lists, of two options, or of two instructions that begin blocks says of their parts.
 use Rattle.std.proofs.Common.{◌≡◌, List, [], ◌∷◌, Option, Some, None}
-use Rattle.wasm_module.specs.declared.instruction.BlockType.{BlockType}
-use Rattle.wasm_module.specs.declared.instruction.Instruction.TheVariants as op
+use Rattle.wasm_syntax.specs.declared.instruction.BlockType.{BlockType}
+use Rattle.wasm_syntax.specs.declared.instruction.Instruction.TheVariants as op
 
 pub same_head : {A : Type 0} {x y : A} {xs ys : List A} → x ∷ xs ≡ y ∷ ys → x ≡ y
 same_head e = cc

@@ -5,27 +5,27 @@ use Rattle.std.proofs.lemmas.Nat.{pow_below}
 use Rattle.std.proofs.Math.Nat.{pow-le-pow_right}
 use Rattle.std.specs.List.{AllByRecursion, slice_get}
 use Rattle.std.specs.Option.{option_map, option_and_then}
-use Rattle.wasm_module.specs.declared.instruction.ValueType.{ValueType}
-use Rattle.wasm_module.specs.declared.instruction.ValueType.TheVariants.{I32, I64, F32, F64}
-use Rattle.wasm_module.specs.declared.instruction.IntegerType.{IntegerType}
-use Rattle.wasm_module.specs.declared.instruction.IntegerType.TheVariants as int
-use Rattle.wasm_module.specs.declared.instruction.FloatOperator.{FloatOperator}
-use Rattle.wasm_module.specs.declared.instruction.FloatOperator.TheVariants as float_op
-use Rattle.wasm_module.specs.declared.instruction.BlockType.{BlockType}
-use Rattle.wasm_module.specs.declared.instruction.BlockType.TheVariants.{Empty, Value}
-use Rattle.wasm_module.specs.declared.instruction.MemArg.{MemArg}
-use Rattle.wasm_module.specs.declared.instruction.UnaryOperator.{UnaryOperator}
-use Rattle.wasm_module.specs.declared.instruction.UnaryOperator.TheVariants.{Extend32S}
-use Rattle.wasm_module.specs.declared.accesses.Access.{Access}
-use Rattle.wasm_module.specs.Accesses.{load_access, store_access}
-use Rattle.wasm_module.specs.declared.instruction.Instruction.{Instruction}
-use Rattle.wasm_module.specs.declared.instruction.Instruction.TheVariants as op
-use Rattle.wasm_module.specs.declared.module.FuncType.{FuncType}
-use Rattle.wasm_module.specs.declared.module.GlobalType.{GlobalType}
+use Rattle.wasm_syntax.specs.declared.instruction.ValueType.{ValueType}
+use Rattle.wasm_syntax.specs.declared.instruction.ValueType.TheVariants.{I32, I64, F32, F64}
+use Rattle.wasm_syntax.specs.declared.instruction.IntegerType.{IntegerType}
+use Rattle.wasm_syntax.specs.declared.instruction.IntegerType.TheVariants as int
+use Rattle.wasm_syntax.specs.declared.instruction.FloatOperator.{FloatOperator}
+use Rattle.wasm_syntax.specs.declared.instruction.FloatOperator.TheVariants as float_op
+use Rattle.wasm_syntax.specs.declared.instruction.BlockType.{BlockType}
+use Rattle.wasm_syntax.specs.declared.instruction.BlockType.TheVariants.{Empty, Value}
+use Rattle.wasm_syntax.specs.declared.instruction.MemArg.{MemArg}
+use Rattle.wasm_syntax.specs.declared.instruction.UnaryOperator.{UnaryOperator}
+use Rattle.wasm_syntax.specs.declared.instruction.UnaryOperator.TheVariants.{Extend32S}
+use Rattle.wasm_syntax.specs.declared.accesses.Access.{Access}
+use Rattle.wasm_syntax.specs.Accesses.{load_access, store_access}
+use Rattle.wasm_syntax.specs.declared.instruction.Instruction.{Instruction}
+use Rattle.wasm_syntax.specs.declared.instruction.Instruction.TheVariants as op
+use Rattle.wasm_syntax.specs.declared.module.FuncType.{FuncType}
+use Rattle.wasm_syntax.specs.declared.module.GlobalType.{GlobalType}
 use Rattle.wasm_valid.specs.declared.effects.Takes.{Takes}
 use Rattle.wasm_valid.specs.declared.effects.Takes.TheVariants.{Nothing, One, Two, Three}
 use Rattle.wasm_valid.specs.declared.effects.MemoryEffect.{MemoryEffect}
-use Rattle.wasm_module.specs.ValueTypes.{integer, float}
+use Rattle.wasm_syntax.specs.ValueTypes.{integer, float}
 use Rattle.wasm_valid.specs.Arities.{as_wide, float_takes, float_gives, results_of}
 use Rattle.wasm_valid.specs.Typing.{Context, Labels, Moves, Leaves, Loads, Stores, IsOperator, OpTyped}
 use Rattle.wasm_valid.specs.internal.Stack.{Stack, if_true, when, is_same, pop, pops, push, moved, left}

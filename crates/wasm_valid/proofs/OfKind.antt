@@ -1,8 +1,8 @@
 -- What is imported of one kind.
 use Rattle.std.proofs.Common.{◌≡◌, List, [], ◌∷◌, Option, refl, ap}
 use Rattle.std.specs.List.{filter_map, cons_option}
-use Rattle.wasm_module.specs.declared.module.Import.{Import}
-use Rattle.wasm_module.specs.declared.module.ImportKind.{ImportKind}
+use Rattle.wasm_syntax.specs.declared.module.Import.{Import}
+use Rattle.wasm_syntax.specs.declared.module.ImportKind.{ImportKind}
 use Rattle.wasm_valid.specs.Spaces.{kinds_of}
 
 -- told by the kinds, or by the imports

@@ -2,8 +2,8 @@
 use Rattle.std.proofs.Common.{◌≡◌, Result, Ok, Err}
 use Rattle.std.specs.Result.{IsErrAnd}
 use Rattle.std.proofs.lemmas.Result.{err_from_is_err_and}
-use Rattle.wasm_module.specs.declared.fault.LoadFault.{LoadFault}
-use Rattle.wasm_module.specs.declared.fault.LoadFault.TheVariants.{Memory, Invalid, Truncated, BadMagic, BadVersion, BadInteger, SectionOrder, SectionSize, BadByte, NotUtf8, CountMismatch, Float, Limit}
+use Rattle.wasm_syntax.specs.declared.fault.LoadFault.{LoadFault}
+use Rattle.wasm_syntax.specs.declared.fault.LoadFault.TheVariants.{Memory, Invalid, Truncated, BadMagic, BadVersion, BadInteger, SectionOrder, SectionSize, BadByte, NotUtf8, CountMismatch, Float, Limit}
 use Rattle.wasm_valid.specs.internal.Answers.{Refutes, Decides}
 
 -- what implies one of several refuted things is refuted

@@ -3,27 +3,27 @@ use Rattle.std.proofs.Common.{◌≡◌, ℕ, zero, suc, ◌-◌, ◌≤◌, Lis
 use Rattle.std.specs.Prelude.{take, drop, nat_lt, false}
 use Rattle.std.proofs.lemmas.Bool.{lt-ltb, le-ltb}
 use Rattle.std.proofs.lemmas.List.{drop_at}
-use Rattle.wasm_module.specs.declared.number.Sign.{Sign}
-use Rattle.wasm_module.specs.declared.number.Sign.TheVariants.{Signed, Unsigned}
-use Rattle.wasm_module.specs.declared.profile.Profile.{Profile}
-use Rattle.wasm_module.specs.declared.profile.Profile.TheVariants.{Integers, Floats}
-use Rattle.wasm_module.specs.declared.instruction.ValueType.{ValueType}
-use Rattle.wasm_module.specs.declared.instruction.ValueType.TheVariants.{I32, I64, F32, F64}
-use Rattle.wasm_module.specs.declared.instruction.IntegerType.TheVariants as int
-use Rattle.wasm_module.specs.declared.instruction.UnaryOperator.TheVariants.{Extend32S}
-use Rattle.wasm_module.specs.declared.instruction.BlockType.{BlockType}
-use Rattle.wasm_module.specs.declared.instruction.BlockType.TheVariants.{Empty, Value}
-use Rattle.wasm_module.specs.declared.instruction.FloatOperator.{FloatOperator}
-use Rattle.wasm_module.specs.declared.instruction.FloatOperator.TheVariants as float_op
-use Rattle.wasm_module.specs.declared.instruction.Instruction.{Instruction}
-use Rattle.wasm_module.specs.declared.instruction.Instruction.TheVariants as op
-use Rattle.wasm_module.specs.declared.module.Locals.{Locals}
-use Rattle.wasm_module.specs.declared.module.Body.{Body}
-use Rattle.wasm_module.specs.Number.{SpellsNumber}
-use Rattle.wasm_module.specs.Grammar.{Byte, Then, Each, U32, Vector}
-use Rattle.wasm_module.specs.Types.{SpellsValueType, SpellsBlockType}
-use Rattle.wasm_module.specs.Instructions.{saturation_number, SpellsOnlyTable, SpellsFloatNumber, SpellsImmediates, SpellsInstruction}
-use Rattle.wasm_module.specs.Sections.{SpellsLocals}
+use Rattle.wasm_syntax.specs.declared.number.Sign.{Sign}
+use Rattle.wasm_syntax.specs.declared.number.Sign.TheVariants.{Signed, Unsigned}
+use Rattle.wasm_syntax.specs.declared.profile.Profile.{Profile}
+use Rattle.wasm_syntax.specs.declared.profile.Profile.TheVariants.{Integers, Floats}
+use Rattle.wasm_syntax.specs.declared.instruction.ValueType.{ValueType}
+use Rattle.wasm_syntax.specs.declared.instruction.ValueType.TheVariants.{I32, I64, F32, F64}
+use Rattle.wasm_syntax.specs.declared.instruction.IntegerType.TheVariants as int
+use Rattle.wasm_syntax.specs.declared.instruction.UnaryOperator.TheVariants.{Extend32S}
+use Rattle.wasm_syntax.specs.declared.instruction.BlockType.{BlockType}
+use Rattle.wasm_syntax.specs.declared.instruction.BlockType.TheVariants.{Empty, Value}
+use Rattle.wasm_syntax.specs.declared.instruction.FloatOperator.{FloatOperator}
+use Rattle.wasm_syntax.specs.declared.instruction.FloatOperator.TheVariants as float_op
+use Rattle.wasm_syntax.specs.declared.instruction.Instruction.{Instruction}
+use Rattle.wasm_syntax.specs.declared.instruction.Instruction.TheVariants as op
+use Rattle.wasm_syntax.specs.declared.module.Locals.{Locals}
+use Rattle.wasm_syntax.specs.declared.module.Body.{Body}
+use Rattle.wasm_syntax.specs.Number.{SpellsNumber}
+use Rattle.wasm_syntax.specs.Grammar.{Byte, Then, Each, U32, Vector}
+use Rattle.wasm_syntax.specs.Types.{SpellsValueType, SpellsBlockType}
+use Rattle.wasm_syntax.specs.Instructions.{saturation_number, SpellsOnlyTable, SpellsFloatNumber, SpellsImmediates, SpellsInstruction}
+use Rattle.wasm_syntax.specs.Sections.{SpellsLocals}
 use Rattle.wasm_valid.specs.Offsets.{StandsBehind}
 use Rattle.wasm_valid.specs.internal.Skipping.{after_number, after_numbers, after_float, after_immediates, after_instruction, after_instructions}
 

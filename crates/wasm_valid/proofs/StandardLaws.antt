@@ -1,13 +1,13 @@
 -- The typing by recursion over the nested code is the typing by rules.
 use Rattle.std.proofs.Common.{◌≡◌, List, [], ◌∷◌, ◌++◌, refl, sym, ap, ◌∙◌, subst, append_assoc, reverse}
-use Rattle.wasm_module.specs.declared.instruction.ValueType.{ValueType}
-use Rattle.wasm_module.specs.declared.instruction.ValueType.TheVariants.{I32, I64, F32, F64}
-use Rattle.wasm_module.specs.declared.instruction.BlockType.{BlockType}
-use Rattle.wasm_module.specs.ValueTypes.{integer}
-use Rattle.wasm_module.specs.Accesses.{load_access, store_access}
-use Rattle.wasm_module.specs.declared.instruction.Instruction.{Instruction}
-use Rattle.wasm_module.specs.declared.instruction.Instruction.TheVariants as op
-use Rattle.wasm_module.specs.Nested.{Instructions, done, plain, block, loop, if_then, if_else, invoke, append}
+use Rattle.wasm_syntax.specs.declared.instruction.ValueType.{ValueType}
+use Rattle.wasm_syntax.specs.declared.instruction.ValueType.TheVariants.{I32, I64, F32, F64}
+use Rattle.wasm_syntax.specs.declared.instruction.BlockType.{BlockType}
+use Rattle.wasm_syntax.specs.ValueTypes.{integer}
+use Rattle.wasm_syntax.specs.Accesses.{load_access, store_access}
+use Rattle.wasm_syntax.specs.declared.instruction.Instruction.{Instruction}
+use Rattle.wasm_syntax.specs.declared.instruction.Instruction.TheVariants as op
+use Rattle.wasm_syntax.specs.Nested.{Instructions, done, plain, block, loop, if_then, if_else, invoke, append}
 use Rattle.wasm_valid.specs.Arities.{float_takes, float_gives, results_of}
 use Rattle.wasm_valid.specs.Typing.{Context, Labels, Moves, Leaves, OpTyped, Typed}
 use Rattle.wasm_valid.specs.Standard.{HasType, none, one, a_block, a_loop, an_if, an_if_else, a_call, sequence, widened}

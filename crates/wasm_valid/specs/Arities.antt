@@ -1,17 +1,17 @@
 -- What blocks leave, and what operators on floats take and give, as types of values (sections 3.3.1 and 3.3.5).
 use Rattle.std.specs.Prelude.{ℕ, List, [], ◌∷◌, length}
-use Rattle.wasm_module.specs.declared.instruction.ValueType.{ValueType}
-use Rattle.wasm_module.specs.declared.instruction.ValueType.TheVariants.{I32, F32, F64}
-use Rattle.wasm_module.specs.declared.instruction.IntegerType.{IntegerType}
-use Rattle.wasm_module.specs.declared.instruction.IntegerType.TheVariants as int
-use Rattle.wasm_module.specs.declared.instruction.FloatType.{FloatType}
-use Rattle.wasm_module.specs.declared.instruction.FloatType.TheVariants as float_type
-use Rattle.wasm_module.specs.declared.instruction.FloatOperator.{FloatOperator}
-use Rattle.wasm_module.specs.declared.instruction.FloatOperator.TheVariants as float_op
-use Rattle.wasm_module.specs.declared.instruction.BlockType.{BlockType}
-use Rattle.wasm_module.specs.declared.instruction.BlockType.TheVariants.{Empty, Value}
-use Rattle.wasm_module.specs.ValueTypes.{integer, float}
-use Rattle.wasm_module.specs.Nested.{block}
+use Rattle.wasm_syntax.specs.declared.instruction.ValueType.{ValueType}
+use Rattle.wasm_syntax.specs.declared.instruction.ValueType.TheVariants.{I32, F32, F64}
+use Rattle.wasm_syntax.specs.declared.instruction.IntegerType.{IntegerType}
+use Rattle.wasm_syntax.specs.declared.instruction.IntegerType.TheVariants as int
+use Rattle.wasm_syntax.specs.declared.instruction.FloatType.{FloatType}
+use Rattle.wasm_syntax.specs.declared.instruction.FloatType.TheVariants as float_type
+use Rattle.wasm_syntax.specs.declared.instruction.FloatOperator.{FloatOperator}
+use Rattle.wasm_syntax.specs.declared.instruction.FloatOperator.TheVariants as float_op
+use Rattle.wasm_syntax.specs.declared.instruction.BlockType.{BlockType}
+use Rattle.wasm_syntax.specs.declared.instruction.BlockType.TheVariants.{Empty, Value}
+use Rattle.wasm_syntax.specs.ValueTypes.{integer, float}
+use Rattle.wasm_syntax.specs.Nested.{block}
 
 -- what a block leaves
 abbrev pub results_of : BlockType → List ValueType

@@ -1,11 +1,11 @@
 -- Where an instruction stands in the bytes of a function's body (section 5.5.13): behind the locals and the instructions
 -- before it.
 use Rattle.std.specs.Prelude.{◌≡◌, ℕ, List, ◌++◌, take}
-use Rattle.wasm_module.specs.declared.profile.Profile.{Profile}
-use Rattle.wasm_module.specs.declared.module.Body.{Body}
-use Rattle.wasm_module.specs.Grammar.{Each, Vector}
-use Rattle.wasm_module.specs.Instructions.{SpellsInstruction}
-use Rattle.wasm_module.specs.Sections.{SpellsLocals}
+use Rattle.wasm_syntax.specs.declared.profile.Profile.{Profile}
+use Rattle.wasm_syntax.specs.declared.module.Body.{Body}
+use Rattle.wasm_syntax.specs.Grammar.{Each, Vector}
+use Rattle.wasm_syntax.specs.Instructions.{SpellsInstruction}
+use Rattle.wasm_syntax.specs.Sections.{SpellsLocals}
 
 -- The body's bytes begin with these, which spell its locals and the instructions before the one of this index, by a
 -- profile.

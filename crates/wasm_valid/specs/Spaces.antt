@@ -1,14 +1,14 @@
 -- The index spaces of a module (section 2.5.1), the imported ones first, and the locals of a body.
 use Rattle.std.specs.Prelude.{ℕ, List, ◌++◌, Option, Some, None, map, replicate}
 use Rattle.std.specs.List.{flat_map, filter_map}
-use Rattle.wasm_module.specs.declared.instruction.ValueType.{ValueType}
-use Rattle.wasm_module.specs.declared.module.Limits.{Limits}
-use Rattle.wasm_module.specs.declared.module.GlobalType.{GlobalType}
-use Rattle.wasm_module.specs.declared.module.ImportKind.{ImportKind}
-use Rattle.wasm_module.specs.declared.module.ImportKind.TheVariants as imported
-use Rattle.wasm_module.specs.declared.module.Import.{Import}
-use Rattle.wasm_module.specs.declared.module.Locals.{Locals}
-use Rattle.wasm_module.specs.declared.module.Module.{Module}
+use Rattle.wasm_syntax.specs.declared.instruction.ValueType.{ValueType}
+use Rattle.wasm_syntax.specs.declared.module.Limits.{Limits}
+use Rattle.wasm_syntax.specs.declared.module.GlobalType.{GlobalType}
+use Rattle.wasm_syntax.specs.declared.module.ImportKind.{ImportKind}
+use Rattle.wasm_syntax.specs.declared.module.ImportKind.TheVariants as imported
+use Rattle.wasm_syntax.specs.declared.module.Import.{Import}
+use Rattle.wasm_syntax.specs.declared.module.Locals.{Locals}
+use Rattle.wasm_syntax.specs.declared.module.Module.{Module}
 
 -- of the imports, those of one kind
 abbrev pub imported_function : ImportKind → Option ℕ

@@ -1,22 +1,22 @@
 -- Which instructions take which types from the stack, and leave which (section 3.3). The type on top comes first.
 use Rattle.std.specs.Prelude.{◌≡◌, ◌^◌, ◌≤◌, List, [], ◌∷◌, ◌++◌, Some, Bool, true, slice_get, reverse}
 use Rattle.std.specs.List.{AllByRecursion}
-use Rattle.wasm_module.specs.declared.instruction.ValueType.{ValueType}
-use Rattle.wasm_module.specs.declared.instruction.ValueType.TheVariants.{I32, I64, F32, F64}
-use Rattle.wasm_module.specs.declared.instruction.IntegerType.{IntegerType}
-use Rattle.wasm_module.specs.declared.instruction.IntegerType.TheVariants as int
-use Rattle.wasm_module.specs.declared.instruction.BlockType.TheVariants.{Empty}
-use Rattle.wasm_module.specs.declared.instruction.MemArg.{MemArg}
-use Rattle.wasm_module.specs.declared.accesses.Access.{Access}
-use Rattle.wasm_module.specs.ValueTypes.{integer}
-use Rattle.wasm_module.specs.Accesses.{load_access, store_access}
-use Rattle.wasm_module.specs.declared.instruction.UnaryOperator.{UnaryOperator}
-use Rattle.wasm_module.specs.declared.instruction.UnaryOperator.TheVariants.{Extend32S}
-use Rattle.wasm_module.specs.declared.instruction.Instruction.{Instruction}
-use Rattle.wasm_module.specs.declared.instruction.Instruction.TheVariants as op
-use Rattle.wasm_module.specs.declared.module.FuncType.{FuncType}
-use Rattle.wasm_module.specs.declared.module.GlobalType.{GlobalType}
-use Rattle.wasm_module.specs.Nested.{Instructions, done, plain, block, loop, if_then, if_else, invoke}
+use Rattle.wasm_syntax.specs.declared.instruction.ValueType.{ValueType}
+use Rattle.wasm_syntax.specs.declared.instruction.ValueType.TheVariants.{I32, I64, F32, F64}
+use Rattle.wasm_syntax.specs.declared.instruction.IntegerType.{IntegerType}
+use Rattle.wasm_syntax.specs.declared.instruction.IntegerType.TheVariants as int
+use Rattle.wasm_syntax.specs.declared.instruction.BlockType.TheVariants.{Empty}
+use Rattle.wasm_syntax.specs.declared.instruction.MemArg.{MemArg}
+use Rattle.wasm_syntax.specs.declared.accesses.Access.{Access}
+use Rattle.wasm_syntax.specs.ValueTypes.{integer}
+use Rattle.wasm_syntax.specs.Accesses.{load_access, store_access}
+use Rattle.wasm_syntax.specs.declared.instruction.UnaryOperator.{UnaryOperator}
+use Rattle.wasm_syntax.specs.declared.instruction.UnaryOperator.TheVariants.{Extend32S}
+use Rattle.wasm_syntax.specs.declared.instruction.Instruction.{Instruction}
+use Rattle.wasm_syntax.specs.declared.instruction.Instruction.TheVariants as op
+use Rattle.wasm_syntax.specs.declared.module.FuncType.{FuncType}
+use Rattle.wasm_syntax.specs.declared.module.GlobalType.{GlobalType}
+use Rattle.wasm_syntax.specs.Nested.{Instructions, done, plain, block, loop, if_then, if_else, invoke}
 pub use Rattle.wasm_valid.specs.Arities.{results_of, arity, as_wide, float_takes, float_gives}
 
 -- what instructions are typed in (section 3.1.1): functions and globals with the imported ones first

@@ -2,20 +2,20 @@
 -- it, so no later crate asks again.
 use Rattle.std.specs.Prelude.{◌≡◌, ◌≢◌, ℕ, ◌<◌, ◌≤◌, ◌^◌, ◌⊎◌, List, [], ◌∷◌, ◌++◌, Some, Bool, true, false, slice_get, length, map, IfSome}
 use Rattle.std.specs.List.{AllByRecursion, filter_map}
-use Rattle.wasm_module.specs.declared.instruction.ValueType.{ValueType}
-use Rattle.wasm_module.specs.declared.instruction.ValueType.TheVariants.{I32, I64, F32, F64}
-use Rattle.wasm_module.specs.declared.instruction.Instruction.{Instruction}
-use Rattle.wasm_module.specs.declared.instruction.Instruction.TheVariants as op
-use Rattle.wasm_module.specs.declared.module.FuncType.{FuncType}
-use Rattle.wasm_module.specs.declared.module.Limits.{Limits}
-use Rattle.wasm_module.specs.declared.module.GlobalType.{GlobalType}
-use Rattle.wasm_module.specs.declared.module.ExportKind.{ExportKind}
-use Rattle.wasm_module.specs.declared.module.ExportKind.TheVariants as exported
-use Rattle.wasm_module.specs.declared.module.ElementSegment.{ElementSegment}
-use Rattle.wasm_module.specs.declared.module.Body.{Body}
-use Rattle.wasm_module.specs.declared.module.DataSegment.{DataSegment}
-use Rattle.wasm_module.specs.declared.module.Module.{Module}
-use Rattle.wasm_module.specs.Nested.{Instructions, Nests}
+use Rattle.wasm_syntax.specs.declared.instruction.ValueType.{ValueType}
+use Rattle.wasm_syntax.specs.declared.instruction.ValueType.TheVariants.{I32, I64, F32, F64}
+use Rattle.wasm_syntax.specs.declared.instruction.Instruction.{Instruction}
+use Rattle.wasm_syntax.specs.declared.instruction.Instruction.TheVariants as op
+use Rattle.wasm_syntax.specs.declared.module.FuncType.{FuncType}
+use Rattle.wasm_syntax.specs.declared.module.Limits.{Limits}
+use Rattle.wasm_syntax.specs.declared.module.GlobalType.{GlobalType}
+use Rattle.wasm_syntax.specs.declared.module.ExportKind.{ExportKind}
+use Rattle.wasm_syntax.specs.declared.module.ExportKind.TheVariants as exported
+use Rattle.wasm_syntax.specs.declared.module.ElementSegment.{ElementSegment}
+use Rattle.wasm_syntax.specs.declared.module.Body.{Body}
+use Rattle.wasm_syntax.specs.declared.module.DataSegment.{DataSegment}
+use Rattle.wasm_syntax.specs.declared.module.Module.{Module}
+use Rattle.wasm_syntax.specs.Nested.{Instructions, Nests}
 use Rattle.wasm_valid.specs.Typing.{Context, Typed}
 pub use Rattle.wasm_valid.specs.Spaces.{imported_function, imported_table, imported_memory, imported_global, kinds_of, functions_of, tables_of, memories_of, globals_of, local_types}
 

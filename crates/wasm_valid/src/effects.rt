@@ -1,7 +1,7 @@
 //! What an instruction of fixed type takes from the stack and leaves there (section 3.3).
 
 ghost use Rattle.std.specs.Prelude.{◌≡◌};
-ghost use Rattle.wasm_module.specs.ValueTypes.{integer};
+ghost use Rattle.wasm_syntax.specs.ValueTypes.{integer};
 ghost use Rattle.wasm_valid.specs.Arities.{as_wide, float_gives};
 ghost use Rattle.wasm_valid.specs.internal.Effects.{effect, access, load, store, access_of, is_operator, float_operands, numeric_effect};
 

@@ -2,7 +2,7 @@
 
 ghost use Rattle.std.specs.Prelude.{◌≡◌, slice_get, IfOk, ◌∷◌, []};
 ghost use Rattle.std.specs.Option.{option_map, option_and_then};
-ghost use Rattle.wasm_module.specs.declared.instruction.ValueType.TheVariants.{I32};
+ghost use Rattle.wasm_syntax.specs.declared.instruction.ValueType.TheVariants.{I32};
 ghost use Rattle.wasm_valid.specs.Arities.{results_of};
 ghost use Rattle.wasm_valid.specs.Typing.{Context};
 ghost use Rattle.wasm_valid.specs.internal.Stack.{when, left, moved};

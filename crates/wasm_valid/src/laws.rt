@@ -1,8 +1,8 @@
 //! Laws about the typing that `Valid` stands for.
 
 ghost use Rattle.std.specs.Prelude.{◌↔◌, List};
-ghost use Rattle.wasm_module.specs.declared.instruction.ValueType.{ValueType};
-ghost use Rattle.wasm_module.specs.Nested.{Instructions};
+ghost use Rattle.wasm_syntax.specs.declared.instruction.ValueType.{ValueType};
+ghost use Rattle.wasm_syntax.specs.Nested.{Instructions};
 ghost use Rattle.wasm_valid.specs.Typing.{Context, Labels, Typed};
 ghost use Rattle.wasm_valid.specs.Standard.{HasType};
 

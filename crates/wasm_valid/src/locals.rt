@@ -18,7 +18,7 @@ pub struct LocalTypes<'m> {
 
 impl<'m> Model for LocalTypes<'m> {
     ghost use Rattle.std.specs.Prelude.{◌≡◌, List, ◌++◌, length};
-    ghost use Rattle.wasm_module.specs.declared.instruction.ValueType.{ValueType as ValueTypeValue};
+    ghost use Rattle.wasm_syntax.specs.declared.instruction.ValueType.{ValueType as ValueTypeValue};
     ghost use Rattle.wasm_valid.specs.Spaces.{local_types};
     ghost use Rattle.wasm_valid.specs.internal.Ends.{ends_from};
 

@@ -10,7 +10,7 @@ pub struct Valid<'a> {
 }
 
 impl<'a> Model for Valid<'a> {
-    ghost use Rattle.wasm_module.specs.declared.module.Module.{Module as ModuleValue};
+    ghost use Rattle.wasm_syntax.specs.declared.module.Module.{Module as ModuleValue};
     ghost use Rattle.wasm_valid.specs.Validity.{IsValid};
 
     ghost Value = { ModuleValue };

@@ -1,6 +1,6 @@
 -- The module of a run, prepared or not. A list prepares its module once (`list_of_tests`), a run alone doesn't (`program`).
 use Rattle.std.specs.Prelude.{◌≡◌, ℕ}
-use Rattle.wasm_module.specs.declared.module.Module.{Module}
+use Rattle.wasm_syntax.specs.declared.module.Module.{Module}
 use Rattle.sandbox_command.specs.declared.runnable.Runnable.{Runnable}
 use Rattle.sandbox_command.specs.declared.runnable.Runnable.TheVariants.{Prepared, Bare}
 

@@ -1,7 +1,7 @@
 -- Where the instructions of a function's body begin: a table of them, as it is made, and what it has to say.
 use Rattle.std.specs.Prelude.{◌≡◌, ◌+◌, ◌-◌, ◌≤◌, ℕ, zero, suc, List, [], ◌∷◌, length, Some, slice_get}
-use Rattle.wasm_module.specs.declared.profile.Profile.{Profile}
-use Rattle.wasm_module.specs.declared.module.Body.{Body}
+use Rattle.wasm_syntax.specs.declared.profile.Profile.{Profile}
+use Rattle.wasm_syntax.specs.declared.module.Body.{Body}
 use Rattle.wasm_valid.specs.Offsets.{StandsBehind}
 use Rattle.sandbox_inspect.specs.Places.{own_entry}
 use Rattle.sandbox_inspect.specs.internal.Skipping.{after_instruction}

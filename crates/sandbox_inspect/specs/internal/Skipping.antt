@@ -2,7 +2,7 @@
 -- what follows it (`proofs/Skipped.antt`).
 use Rattle.std.specs.Prelude.{ℕ, zero, suc, ◌==◌, ◌||◌, ◌&&◌, nat_le, List, [], ◌∷◌, drop, if◌then◌else◌, Bool}
 use Rattle.std.specs.Option.{option_map_or}
-use Rattle.wasm_module.specs.Reading.{u32_at}
+use Rattle.wasm_syntax.specs.Reading.{u32_at}
 use Rattle.wasm_valid.specs.internal.Skipping.{after_number, after_numbers}
 
 abbrev pub is_between : ℕ → ℕ → ℕ → Bool

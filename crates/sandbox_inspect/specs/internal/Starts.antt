@@ -1,7 +1,7 @@
 -- Where the entries of the code section begin: a table of them, as it is made.
 use Rattle.std.specs.Prelude.{◌≡◌, ◌-◌, ℕ, zero, suc, List, [], ◌∷◌, length, Some, slice_get}
 use Rattle.std.specs.Option.{option_map_or}
-use Rattle.wasm_module.specs.Reading.{sized_at, raw_of}
+use Rattle.wasm_syntax.specs.Reading.{sized_at, raw_of}
 use Rattle.sandbox_inspect.specs.Places.{own_entry}
 
 -- where so many entries begin that stand before this end, as far as they can be read

@@ -1,7 +1,7 @@
 -- Numbers that fit types, as values.
 use Rattle.std.proofs.Common.{◌≡◌, ℕ, suc, List, [], ◌∷◌, length, refl, ap, arith}
 use Rattle.std.specs.List.{AllByRecursion}
-use Rattle.wasm_module.specs.declared.instruction.ValueType.{ValueType}
+use Rattle.wasm_syntax.specs.declared.instruction.ValueType.{ValueType}
 use Rattle.wasm_steps.specs.Configuration.{numbers, types}
 use Rattle.wasm_interp.specs.Invoking.{Fit, values_of}
 use Rattle.wasm_interp.specs.internal.Standing.{IsInRange}

@@ -2,11 +2,11 @@
 use Rattle.std.proofs.Common.{◌≡◌, ℕ, ◌+◌, ◌-◌, ◌≤◌, ◌<◌, List, length, Option, Some, sym, ap, ◌∙◌, arith}
 use Rattle.std.specs.Prelude.{slice_get}
 use Rattle.std.proofs.lemmas.Option.{slice_get_within}
-use Rattle.wasm_module.specs.declared.module.FuncType.{FuncType}
-use Rattle.wasm_module.specs.declared.module.Import.{Import}
-use Rattle.wasm_module.specs.declared.module.ImportKind.{ImportKind}
-use Rattle.wasm_module.specs.declared.module.ImportKind.TheVariants as imports
-use Rattle.wasm_module.specs.declared.module.Module.{Module}
+use Rattle.wasm_syntax.specs.declared.module.FuncType.{FuncType}
+use Rattle.wasm_syntax.specs.declared.module.Import.{Import}
+use Rattle.wasm_syntax.specs.declared.module.ImportKind.{ImportKind}
+use Rattle.wasm_syntax.specs.declared.module.ImportKind.TheVariants as imports
+use Rattle.wasm_syntax.specs.declared.module.Module.{Module}
 use Rattle.wasm_interp.specs.declared.phase.Ask.{Ask}
 use Rattle.wasm_interp.specs.declared.phase.Phase.TheVariants.{Asking}
 use Rattle.wasm_interp.specs.Invoking.{IsImportType, IsOwnType}

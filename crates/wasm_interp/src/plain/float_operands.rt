@@ -6,7 +6,7 @@ ghost use Rattle.wasm_steps.specs.Operators.{width};
 ghost use Rattle.wasm_steps.specs.FloatOperators.{float_binary, float_number, float_test, format};
 ghost use Rattle.wasm_num.specs.Numbers.{bool_number};
 ghost use Rattle.wasm_float.specs.Floats.{test};
-ghost use Rattle.wasm_module.specs.ValueTypes.{float};
+ghost use Rattle.wasm_syntax.specs.ValueTypes.{float};
 ghost use Rattle.wasm_interp.specs.internal.Plain.Performing.{AreOnTop, Gives, HasTwo};
 
 use crate::plain::floats::{binary, compare, convert, saturate, unary, whole_part};

@@ -3,7 +3,7 @@
 ghost use Rattle.std.specs.Prelude.{◌≡◌, ◌<◌, ◌^◌, IfOk, from_bits};
 ghost use Rattle.std.specs.Float.Ieee.{binary32, binary64};
 ghost use Rattle.wasm_float.specs.Floats.{test};
-ghost use Rattle.wasm_module.specs.ValueTypes.{float, integer};
+ghost use Rattle.wasm_syntax.specs.ValueTypes.{float, integer};
 ghost use Rattle.wasm_steps.specs.Operators.{width};
 ghost use Rattle.wasm_steps.specs.FloatOperators.{converted, float_binary, float_test, float_unary, format, saturated, whole_part, untruncated};
 

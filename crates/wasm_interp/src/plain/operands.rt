@@ -2,7 +2,7 @@
 
 ghost use Rattle.std.specs.Prelude.{◌≡◌, ℕ, ◌∷◌, ◌++◌, ◌-◌, take, replicate, max, ◌+◌, ◌<◌, ◌≤◌, ◌^◌, ◌%◌, drop, length, reverse, slice_index, vec_capacity, vec_len, nat_eq, OnOk, IfErr, Ok, Err};
 ghost use Rattle.wasm_num.specs.Numbers.{signed, wrapped, bool_number};
-ghost use Rattle.wasm_module.specs.ValueTypes.{integer};
+ghost use Rattle.wasm_syntax.specs.ValueTypes.{integer};
 ghost use Rattle.wasm_valid.specs.Typing.{IsOperator};
 ghost use Rattle.wasm_steps.specs.Operators.{width, compare_test, unary_number, binary_number};
 ghost use Rattle.wasm_interp.specs.internal.Standing.{unwound};

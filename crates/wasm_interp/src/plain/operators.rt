@@ -1,7 +1,7 @@
 //! The operators that an instruction names, each over the numbers of its type.
 
 ghost use Rattle.std.specs.Prelude.{◌≡◌, ◌<◌, ◌^◌, IfOk};
-ghost use Rattle.wasm_module.specs.ValueTypes.{integer};
+ghost use Rattle.wasm_syntax.specs.ValueTypes.{integer};
 ghost use Rattle.wasm_valid.specs.Typing.{IsOperator};
 ghost use Rattle.wasm_steps.specs.Operators.{width, compare_test, unary_number, binary_number};
 

@@ -3,25 +3,25 @@
 -- pairs a module and the number of data segments that it declares.
 use Rattle.std.specs.Prelude.{ℕ, ◌+◌, List, [], length, Bool, true, ◌&&◌, Option, Some, None, unwrap_or, slice_get, nat_le, ◌==◌, if◌then◌else◌}
 use Rattle.std.specs.List.{list_all, zip}
-use Rattle.wasm_module.specs.declared.profile.Profile.{Profile}
-use Rattle.wasm_module.specs.declared.module.FuncType.{FuncType}
-use Rattle.wasm_module.specs.declared.module.Limits.{Limits}
-use Rattle.wasm_module.specs.declared.module.ImportKind.{ImportKind}
-use Rattle.wasm_module.specs.declared.module.ImportKind.TheVariants as imported
-use Rattle.wasm_module.specs.declared.module.Import.{Import}
-use Rattle.wasm_module.specs.declared.module.ExportKind.{ExportKind}
-use Rattle.wasm_module.specs.declared.module.ExportKind.TheVariants as exported
-use Rattle.wasm_module.specs.declared.module.Export.{Export}
-use Rattle.wasm_module.specs.declared.module.GlobalEntry.{GlobalEntry}
-use Rattle.wasm_module.specs.declared.module.ElementSegment.{ElementSegment}
-use Rattle.wasm_module.specs.declared.module.Locals.{Locals}
-use Rattle.wasm_module.specs.declared.module.Body.{Body}
-use Rattle.wasm_module.specs.declared.module.DataSegment.{DataSegment}
-use Rattle.wasm_module.specs.declared.module.Module.{Module}
-use Rattle.wasm_module.specs.Module.{Sections, module_of, param_count, local_count}
-use Rattle.wasm_module.specs.internal.TypesReading.{value_type_at, func_type_at, limits_at, table_at, global_type_at}
-use Rattle.wasm_module.specs.internal.CodeReading.{code_at}
-use Rattle.wasm_module.specs.Reading.{◌>>=◌, Reader, WholeReader, byte_at, next_at, then_at, map_at, u32_at, vector_at, whole, sized_at, raw_of, name_at, customs_at, section_at}
+use Rattle.wasm_syntax.specs.declared.profile.Profile.{Profile}
+use Rattle.wasm_syntax.specs.declared.module.FuncType.{FuncType}
+use Rattle.wasm_syntax.specs.declared.module.Limits.{Limits}
+use Rattle.wasm_syntax.specs.declared.module.ImportKind.{ImportKind}
+use Rattle.wasm_syntax.specs.declared.module.ImportKind.TheVariants as imported
+use Rattle.wasm_syntax.specs.declared.module.Import.{Import}
+use Rattle.wasm_syntax.specs.declared.module.ExportKind.{ExportKind}
+use Rattle.wasm_syntax.specs.declared.module.ExportKind.TheVariants as exported
+use Rattle.wasm_syntax.specs.declared.module.Export.{Export}
+use Rattle.wasm_syntax.specs.declared.module.GlobalEntry.{GlobalEntry}
+use Rattle.wasm_syntax.specs.declared.module.ElementSegment.{ElementSegment}
+use Rattle.wasm_syntax.specs.declared.module.Locals.{Locals}
+use Rattle.wasm_syntax.specs.declared.module.Body.{Body}
+use Rattle.wasm_syntax.specs.declared.module.DataSegment.{DataSegment}
+use Rattle.wasm_syntax.specs.declared.module.Module.{Module}
+use Rattle.wasm_syntax.specs.Module.{Sections, module_of, param_count, local_count}
+use Rattle.wasm_syntax.specs.internal.TypesReading.{value_type_at, func_type_at, limits_at, table_at, global_type_at}
+use Rattle.wasm_syntax.specs.internal.CodeReading.{code_at}
+use Rattle.wasm_syntax.specs.Reading.{◌>>=◌, Reader, WholeReader, byte_at, next_at, then_at, map_at, u32_at, vector_at, whole, sized_at, raw_of, name_at, customs_at, section_at}
 
 -- ---- parts of sections
 

@@ -1,8 +1,8 @@
 -- What an answer to a question of validation says: Ok that it holds, `Invalid` that it doesn't. Refused memory says
 -- nothing, so a function may stop there, whatever the question is.
 use Rattle.std.specs.Prelude.{Result, MatchResult}
-use Rattle.wasm_module.specs.declared.fault.LoadFault.{LoadFault}
-use Rattle.wasm_module.specs.declared.fault.LoadFault.TheVariants.{Memory, Invalid}
+use Rattle.wasm_syntax.specs.declared.fault.LoadFault.{LoadFault}
+use Rattle.wasm_syntax.specs.declared.fault.LoadFault.TheVariants.{Memory, Invalid}
 
 -- a refusal of what was to hold: where memory was refused nothing is said of it, and fault 12 says that it doesn't hold
 abbrev pub Refutes : LoadFault → Type 0 → Type 0

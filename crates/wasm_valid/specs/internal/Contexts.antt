@@ -1,7 +1,7 @@
 -- What the code keeps of the context of a module and of a body (section 3.1.1). It keeps a function as the index of its
 -- type, while a `Context` has the type itself, so typing is said of each context that fits what is kept.
 use Rattle.std.specs.Prelude.{◌≡◌}
-use Rattle.wasm_module.specs.declared.module.Module.{Module}
+use Rattle.wasm_syntax.specs.declared.module.Module.{Module}
 use Rattle.wasm_valid.specs.declared.module_context.ModuleContext.{ModuleContext}
 use Rattle.wasm_valid.specs.declared.function_context.FunctionContext.{FunctionContext}
 use Rattle.wasm_valid.specs.Arities.{results_of}

@@ -1,7 +1,7 @@
 -- Which lists of types a `Stack` stands for, of which the walk over a body may know a part only. `Bodies` asks by
 -- `FitsTypes` for one of these lists, since the typing rules speak of stacks of which all types are known.
 use Rattle.std.specs.Prelude.{◌≡◌, List, [], ◌∷◌, Option, Some, None, Bool, true, false}
-use Rattle.wasm_module.specs.declared.instruction.ValueType.{ValueType}
+use Rattle.wasm_syntax.specs.declared.instruction.ValueType.{ValueType}
 use Rattle.wasm_valid.specs.internal.Stack.{Stack}
 
 abbrev pub Agrees : Option ValueType → ValueType → Type 0

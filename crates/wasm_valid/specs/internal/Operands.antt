@@ -1,7 +1,7 @@
 -- The operands of a body while it is walked, of all open blocks, and how they are kept. The code has one list of types
 -- and a mark for each block; `blocks_of` reads these as the open blocks of `Blocks`.
 use Rattle.std.specs.Prelude.{◌≡◌, ℕ, ◌≤◌, List, [], ◌∷◌, Option, Some, None, Bool, true, false, map, take, drop, reverse, length}
-use Rattle.wasm_module.specs.declared.instruction.ValueType.{ValueType}
+use Rattle.wasm_syntax.specs.declared.instruction.ValueType.{ValueType}
 use Rattle.wasm_valid.specs.declared.control_frames.ControlFrame.{ControlFrame}
 use Rattle.wasm_valid.specs.internal.Stack.{Stack}
 use Rattle.wasm_valid.specs.Typing.{Labels}

@@ -1,9 +1,9 @@
 -- What follows a number or an instruction, as the code finds it when it looks for an instruction's place.
 use Rattle.std.specs.Prelude.{ℕ, zero, suc, List, [], ◌∷◌, length, drop, nat_lt, if◌then◌else◌}
-use Rattle.wasm_module.specs.declared.instruction.FloatOperator.{FloatOperator}
-use Rattle.wasm_module.specs.declared.instruction.FloatOperator.TheVariants as float_op
-use Rattle.wasm_module.specs.declared.instruction.Instruction.{Instruction}
-use Rattle.wasm_module.specs.declared.instruction.Instruction.TheVariants as op
+use Rattle.wasm_syntax.specs.declared.instruction.FloatOperator.{FloatOperator}
+use Rattle.wasm_syntax.specs.declared.instruction.FloatOperator.TheVariants as float_op
+use Rattle.wasm_syntax.specs.declared.instruction.Instruction.{Instruction}
+use Rattle.wasm_syntax.specs.declared.instruction.Instruction.TheVariants as op
 
 -- the last byte of a number is the first below 128
 abbrev pub after_number : List ℕ → List ℕ

@@ -1,5 +1,5 @@
 use Rattle.std.proofs.Common.{List, ◌≤◌, length, subst}
-use Rattle.wasm_module.specs.declared.module.Export.{Export}
+use Rattle.wasm_syntax.specs.declared.module.Export.{Export}
 use Rattle.plugin_session.proofs.Finding.{none_first, none_next, no_export, item_at}
 use Rattle.plugin_session.proofs.handling.exported_function.Goals as goal
 

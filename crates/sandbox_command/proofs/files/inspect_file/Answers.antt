@@ -1,5 +1,5 @@
 use Rattle.std.proofs.Common.{List, ℕ, inr, subst}
-use Rattle.wasm_module.specs.declared.profile.Profile.{Profile}
+use Rattle.wasm_syntax.specs.declared.profile.Profile.{Profile}
 use Rattle.sandbox_command.specs.Modules.{profile_for}
 use Rattle.sandbox_command.specs.Inspecting.{Inspects}
 use Rattle.sandbox_command.proofs.files.inspect_file.Goals as goal

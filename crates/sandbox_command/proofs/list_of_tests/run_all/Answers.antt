@@ -1,5 +1,5 @@
 use Rattle.std.proofs.Common.{◌≡◌, ◌⊎◌, ◌<◌, ◌+◌, ℕ, Bool, true, false, List, length, take, get_or, inl, inr, refl, sym, ◌∙◌, ap, subst}
-use Rattle.wasm_module.specs.declared.module.Module.{Module}
+use Rattle.wasm_syntax.specs.declared.module.Module.{Module}
 use Rattle.sandbox_command.specs.Around.{calls_of}
 use Rattle.sandbox_command.specs.declared.list_of_tests.TestFiles.{TestFiles}
 use Rattle.sandbox_command.specs.ListOfTests.{HasFailed, HasRun}

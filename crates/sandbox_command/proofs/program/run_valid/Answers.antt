@@ -1,6 +1,6 @@
 use Rattle.std.proofs.Common.{sym, ap, subst, ◌∙◌}
 use Rattle.vol_commands.specs.Volumes.{IsOpenFor, IsRefusedFor}
-use Rattle.wasm_module.specs.declared.module.Module.{Module}
+use Rattle.wasm_syntax.specs.declared.module.Module.{Module}
 use Rattle.wasi_calls.specs.host.Worlds.{hearing}
 use Rattle.sandbox_command.specs.Running.{Launches}
 use Rattle.sandbox_command.specs.declared.runnable.Runnable.{Runnable}

@@ -1,6 +1,6 @@
 use Rattle.std.proofs.Common.{◌≡◌, ◌∙◌, ℕ, IfSome, length, ap, subst, arith}
 use Rattle.std.specs.Prelude.{slice_get}
-use Rattle.wasm_module.specs.declared.module.Module.{Module}
+use Rattle.wasm_syntax.specs.declared.module.Module.{Module}
 use Rattle.sandbox_host.specs.Frames.{IsOffset}
 use Rattle.sandbox_host.proofs.frames.tell_frame.Goals as goal
 

@@ -1,5 +1,5 @@
 use Rattle.std.proofs.Common.{subst}
-use Rattle.wasm_module.specs.declared.profile.Profile.{Profile}
+use Rattle.wasm_syntax.specs.declared.profile.Profile.{Profile}
 use Rattle.sandbox_host.specs.Refusals.{NotLoadedWith}
 use Rattle.sandbox_host.proofs.opening.load_with.Goals as goal
 

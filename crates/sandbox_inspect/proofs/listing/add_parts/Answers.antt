@@ -1,6 +1,6 @@
 use Rattle.std.proofs.Common.{◌≡◌, ◌∙◌, ◌++◌, List, ℕ, Option, Result, Ok, Err, OnOk, ap, append_assoc}
 use Rattle.std.specs.List.{list_any}
-use Rattle.wasm_module.specs.declared.module.Limits.{Limits}
+use Rattle.wasm_syntax.specs.declared.module.Limits.{Limits}
 use Rattle.wasm_valid.specs.Spaces.{functions_of}
 use Rattle.sandbox_inspect.specs.Survey.{counts_text, entry_text, is_entry, sizes_text}
 use Rattle.sandbox_inspect.proofs.listing.add_parts.Goals as goal

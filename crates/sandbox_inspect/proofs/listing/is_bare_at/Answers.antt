@@ -2,7 +2,7 @@ use Rattle.std.proofs.Common.{ap, sym, ◌∙◌, Option, Some, ℕ, false}
 use Rattle.std.specs.List.{slice_get}
 use Rattle.std.specs.Option.{option_map_or}
 use Rattle.std.proofs.lemmas.Option.{slice_get_past, slice_get-get_or}
-use Rattle.wasm_module.specs.declared.module.FuncType.{FuncType}
+use Rattle.wasm_syntax.specs.declared.module.FuncType.{FuncType}
 use Rattle.sandbox_inspect.specs.Survey.{is_bare}
 use Rattle.sandbox_inspect.proofs.listing.is_bare_at.Goals as goal
 

@@ -1,7 +1,7 @@
 use Rattle.std.proofs.Common.{◌≡◌, ℕ, List, Option, Some, None, sym, subst}
 use Rattle.std.proofs.lemmas.Result.{IfOk-weaker}
-use Rattle.wasm_module.specs.declared.profile.Profile.{Profile}
-use Rattle.wasm_module.specs.Module.{SpellsWith}
+use Rattle.wasm_syntax.specs.declared.profile.Profile.{Profile}
+use Rattle.wasm_syntax.specs.Module.{SpellsWith}
 use Rattle.sandbox_inspect.specs.Places.{IsFunctionAt, own_function_at, up_to_imports}
 use Rattle.sandbox_inspect.specs.internal.Counting.{IsCountedAfter}
 use Rattle.sandbox_inspect.proofs.places.function_at.Goals as goal

@@ -2,8 +2,8 @@ use Rattle.std.proofs.Common.{◌≡◌, ℕ, ◌≤◌, List, ◌++◌, length,
 use Rattle.std.specs.Prelude.{nat_eq}
 use Rattle.std.specs.Cmp.Lexicographic.{pointwise, same_text}
 use Rattle.std.proofs.lemmas.Bool.{not-false}
-use Rattle.wasm_module.specs.declared.profile.Profile.{Profile}
-use Rattle.wasm_module.specs.declared.module.Body.{Body}
+use Rattle.wasm_syntax.specs.declared.profile.Profile.{Profile}
+use Rattle.wasm_syntax.specs.declared.module.Body.{Body}
 use Rattle.wasm_valid.specs.Offsets.{StandsBehind}
 use Rattle.sandbox_inspect.proofs.Entries.{held}
 use Rattle.sandbox_inspect.proofs.places.instruction_offset.Goals as goal

@@ -1,5 +1,5 @@
 use Rattle.std.proofs.Common.{◌<◌, arith}
-use Rattle.wasm_module.proofs.Powers.{seven}
+use Rattle.wasm_syntax.proofs.Powers.{seven}
 use Rattle.sandbox_inspect.proofs.sections.+number_of.Goals as goal
 
 pub returns-clause-within : goal.returns-clause-within

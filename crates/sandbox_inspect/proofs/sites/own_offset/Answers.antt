@@ -1,7 +1,7 @@
 use Rattle.std.proofs.Common.{◌≡◌, ◌∙◌, ℕ, List, Option, Some, None, IsSome, refl, sym, ap}
 use Rattle.std.specs.Prelude.{IfNone, slice_get}
 use Rattle.std.proofs.lemmas.Option.{slice_get-get_or}
-use Rattle.wasm_module.specs.declared.module.Body.{Body}
+use Rattle.wasm_syntax.specs.declared.module.Body.{Body}
 use Rattle.sandbox_inspect.specs.Places.{own_entry}
 use Rattle.sandbox_inspect.proofs.Spelled.{spelled_instruction}
 use Rattle.sandbox_inspect.proofs.sites.own_offset.Goals as goal

@@ -4,7 +4,7 @@ use Rattle.std.specs.Prelude.{ℕ, ◌&&◌, List, Option, Some, None, if◌then
 use Rattle.std.specs.List.{find}
 use Rattle.std.specs.Option.{option_map}
 use denote.Ref.{Bor}
-use Rattle.wasm_module.specs.declared.module.FuncType.{FuncType}
+use Rattle.wasm_syntax.specs.declared.module.FuncType.{FuncType}
 use Rattle.wasm_store.specs.declared.call.HostCall.{HostCall}
 use Rattle.wasi_calls.specs.host.Links.{Listed, are_types}
 

@@ -1,6 +1,6 @@
 use Rattle.std.proofs.Common.{◌≡◌, ℕ, ◌<◌, Some}
 use Rattle.std.specs.Prelude.{slice_get, ◌^◌}
-use Rattle.wasm_module.specs.declared.instruction.ValueType.{ValueType}
+use Rattle.wasm_syntax.specs.declared.instruction.ValueType.{ValueType}
 use Rattle.wasm_steps.specs.Operators.{width}
 use Rattle.wasm_interp.proofs.invoking.fit.Given as goal
 

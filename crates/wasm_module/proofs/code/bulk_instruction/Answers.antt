@@ -1,6 +1,6 @@
 use Rattle.std.proofs.Common.{refl, rules}
-use Rattle.wasm_module.specs.internal.CodeReading.{bulk_after}
-use Rattle.wasm_module.proofs.Exits.{handed_on}
+use Rattle.wasm_syntax.specs.internal.CodeReading.{bulk_after}
+use Rattle.wasm_syntax.proofs.Exits.{handed_on}
 use Rattle.wasm_module.proofs.Operands.{saturations_given}
 use Rattle.wasm_module.proofs.code.bulk_instruction.Goals as goal
 

@@ -1,6 +1,6 @@
 use Rattle.std.proofs.Common.{refl, rules}
-use Rattle.wasm_module.specs.internal.CodeReading.{control_after}
-use Rattle.wasm_module.proofs.Exits.{handed_on}
+use Rattle.wasm_syntax.specs.internal.CodeReading.{control_after}
+use Rattle.wasm_syntax.proofs.Exits.{handed_on}
 use Rattle.wasm_module.proofs.Operands.{blocks_given, blocks_none, branches_given, branches_none}
 use Rattle.wasm_module.proofs.code.control.Goals as goal
 

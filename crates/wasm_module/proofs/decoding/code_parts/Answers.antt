@@ -1,6 +1,6 @@
 use Rattle.std.proofs.Common.{refl}
 use Rattle.wasm_module.specs.internal.ModuleReading.{code_parts_at}
-use Rattle.wasm_module.proofs.Exits.{handed_on}
+use Rattle.wasm_syntax.proofs.Exits.{handed_on}
 use Rattle.wasm_module.proofs.decoding.code_parts.Goals as goal
 
 pub returns-in_err-data_count : goal.returns-in_err-data_count

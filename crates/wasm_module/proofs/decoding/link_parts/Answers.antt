@@ -1,6 +1,6 @@
 use Rattle.std.proofs.Common.{refl}
 use Rattle.wasm_module.specs.internal.ModuleReading.{link_parts_at}
-use Rattle.wasm_module.proofs.Exits.{handed_on}
+use Rattle.wasm_syntax.proofs.Exits.{handed_on}
 use Rattle.wasm_module.proofs.decoding.link_parts.Goals as goal
 
 pub returns-in_err-exports : goal.returns-in_err-exports

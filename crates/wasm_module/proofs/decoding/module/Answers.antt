@@ -1,7 +1,7 @@
 use Rattle.std.proofs.Common.{refl}
 use Rattle.std.proofs.lemmas.Bool.{le-leb}
 use Rattle.wasm_module.specs.internal.ModuleReading.{module_from}
-use Rattle.wasm_module.proofs.Exits.{handed_on}
+use Rattle.wasm_syntax.proofs.Exits.{handed_on}
 use Rattle.wasm_module.proofs.decoding.module.Goals as goal
 
 pub returns-in_err-preamble : goal.returns-in_err-preamble

@@ -1,4 +1,4 @@
-use Rattle.wasm_module.proofs.Exits.{handed_on}
+use Rattle.wasm_syntax.proofs.Exits.{handed_on}
 use Rattle.wasm_module.proofs.Words.{no_magic, then_version}
 use Rattle.wasm_module.proofs.decoding.preamble.Goals as goal
 

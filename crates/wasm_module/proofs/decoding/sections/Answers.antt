@@ -1,7 +1,7 @@
 use Rattle.std.proofs.Common.{refl}
-use Rattle.wasm_module.specs.Reading.{u32_at}
+use Rattle.wasm_syntax.specs.Reading.{u32_at}
 use Rattle.wasm_module.specs.internal.ModuleReading.{import_at, list_at, storage_parts_at, parts_at}
-use Rattle.wasm_module.proofs.Exits.{handed_on, grouped_some, grouped_none}
+use Rattle.wasm_syntax.proofs.Exits.{handed_on, grouped_some, grouped_none}
 use Rattle.wasm_module.proofs.ModuleOf.{parts_read, parts_refused}
 use Rattle.wasm_module.proofs.decoding.sections.Goals as goal
 

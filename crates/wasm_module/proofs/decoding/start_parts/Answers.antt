@@ -1,6 +1,6 @@
 use Rattle.std.proofs.Common.{refl}
 use Rattle.wasm_module.specs.internal.ModuleReading.{start_parts_at}
-use Rattle.wasm_module.proofs.Exits.{handed_on}
+use Rattle.wasm_syntax.proofs.Exits.{handed_on}
 use Rattle.wasm_module.proofs.decoding.start_parts.Goals as goal
 
 pub returns-in_err-start : goal.returns-in_err-start

@@ -1,7 +1,7 @@
 use Rattle.std.proofs.Common.{refl}
-use Rattle.wasm_module.specs.internal.TypesReading.{limits_at}
+use Rattle.wasm_syntax.specs.internal.TypesReading.{limits_at}
 use Rattle.wasm_module.specs.internal.ModuleReading.{global_at, list_at, link_parts_at, storage_parts_at}
-use Rattle.wasm_module.proofs.Exits.{handed_on, grouped_some, grouped_none}
+use Rattle.wasm_syntax.proofs.Exits.{handed_on, grouped_some, grouped_none}
 use Rattle.wasm_module.proofs.decoding.storage_parts.Goals as goal
 
 pub returns-in_err-tables : goal.returns-in_err-tables

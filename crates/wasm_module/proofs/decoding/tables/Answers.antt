@@ -1,6 +1,6 @@
 use Rattle.std.proofs.Common.{refl}
 use Rattle.wasm_module.specs.internal.ModuleReading.{list_at}
-use Rattle.wasm_module.proofs.Exits.{handed_on}
+use Rattle.wasm_syntax.proofs.Exits.{handed_on}
 use Rattle.wasm_module.proofs.decoding.tables.Goals as goal
 
 pub returns-in_err-section : goal.returns-in_err-section

@@ -1,5 +1,5 @@
 use Rattle.std.proofs.Common.{◌≡◌, ◌+◌, take}
-use Rattle.wasm_module.specs.Module.{local_count}
+use Rattle.wasm_syntax.specs.Module.{local_count}
 use Rattle.wasm_module.proofs.limits.few.Given as goal
 
 abbrev pub invariant-loop-entry : goal.invariant-loop-entry

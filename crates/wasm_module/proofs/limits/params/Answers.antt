@@ -1,6 +1,6 @@
 use Rattle.std.proofs.Common.{length, refl, sym, ap, ◌∙◌}
 use Rattle.std.proofs.lemmas.Option.{slice_get_past, slice_get_read}
-use Rattle.wasm_module.specs.Module.{param_count}
+use Rattle.wasm_syntax.specs.Module.{param_count}
 use Rattle.wasm_module.proofs.limits.params.Goals as goal
 
 pub returns-in-Some : goal.returns-in-Some

@@ -1,6 +1,6 @@
 use Rattle.std.proofs.Common.{◌≡◌, ◌-◌}
-use Rattle.wasm_module.specs.internal.TypesReading.{table_at}
-use Rattle.wasm_module.specs.Reading.{many_at}
+use Rattle.wasm_syntax.specs.internal.TypesReading.{table_at}
+use Rattle.wasm_syntax.specs.Reading.{many_at}
 use Rattle.wasm_module.proofs.Loop.{with_front}
 use Rattle.wasm_module.proofs.parts.table_types.Given as goal
 

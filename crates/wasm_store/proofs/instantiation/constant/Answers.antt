@@ -1,5 +1,5 @@
 use Rattle.std.proofs.Common.{◌≡◌, get_or, Some, sym, ap, ◌∙◌, rules}
-use Rattle.wasm_module.specs.declared.instruction.Instruction.TheVariants as op
+use Rattle.wasm_syntax.specs.declared.instruction.Instruction.TheVariants as op
 use Rattle.wasm_store.proofs.Constants.{narrow_first, start_global}
 use Rattle.wasm_store.proofs.instantiation.constant.Goals as goal
 

@@ -1,7 +1,7 @@
 -- Each call answers for one global.
 use Rattle.std.proofs.Common.{rules}
 use Rattle.std.proofs.lemmas.Iterator.{cases_from_all, YieldsList-from_slice}
-use Rattle.wasm_module.specs.declared.module.GlobalEntry.{GlobalEntry}
+use Rattle.wasm_syntax.specs.declared.module.GlobalEntry.{GlobalEntry}
 use Rattle.wasm_valid.specs.Validity.{IsConstant}
 use Rattle.wasm_valid.proofs.EachOne.{answered}
 use Rattle.wasm_valid.proofs.module_rules.globals_fit.Goals as goal

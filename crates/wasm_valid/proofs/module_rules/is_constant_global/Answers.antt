@@ -1,6 +1,6 @@
 use Rattle.std.proofs.Common.{Some, None, sym, ap, ◌∙◌}
 use Rattle.std.proofs.lemmas.Bool.{false≢true}
-use Rattle.wasm_module.specs.declared.module.GlobalType.{GlobalType}
+use Rattle.wasm_syntax.specs.declared.module.GlobalType.{GlobalType}
 use Rattle.wasm_valid.proofs.Contexts.{copied_at}
 use Rattle.wasm_valid.proofs.Heads.{same_some, some_not_none}
 use Rattle.wasm_valid.proofs.module_rules.is_constant_global.Goals as goal

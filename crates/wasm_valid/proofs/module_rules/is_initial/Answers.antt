@@ -1,5 +1,5 @@
 use Rattle.std.proofs.Common.{List, IsTrue, ◌↔◌, subst}
-use Rattle.wasm_module.specs.declared.instruction.Instruction.{Instruction}
+use Rattle.wasm_syntax.specs.declared.instruction.Instruction.{Instruction}
 use Rattle.wasm_valid.specs.Validity.{IsConstant}
 use Rattle.wasm_valid.proofs.module_rules.is_initial.Goals as goal
 

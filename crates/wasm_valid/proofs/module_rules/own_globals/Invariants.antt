@@ -1,5 +1,5 @@
 use Rattle.std.proofs.Common.{◌≡◌, map, take}
-use Rattle.wasm_module.specs.declared.module.GlobalEntry.{GlobalEntry}
+use Rattle.wasm_syntax.specs.declared.module.GlobalEntry.{GlobalEntry}
 use Rattle.wasm_valid.proofs.module_rules.own_globals.Given as goal
 
 abbrev pub invariant-loop-global : goal.invariant-loop-global

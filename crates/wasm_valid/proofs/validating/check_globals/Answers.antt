@@ -1,8 +1,8 @@
 use Rattle.std.proofs.Common.{List, All, IsTrue, ◌↔◌, ◌∙◌, ap, subst}
 use Rattle.std.specs.List.{filter_map}
-use Rattle.wasm_module.specs.declared.module.Import.{Import}
-use Rattle.wasm_module.specs.declared.module.GlobalType.{GlobalType}
-use Rattle.wasm_module.specs.declared.module.GlobalEntry.{GlobalEntry}
+use Rattle.wasm_syntax.specs.declared.module.Import.{Import}
+use Rattle.wasm_syntax.specs.declared.module.GlobalType.{GlobalType}
+use Rattle.wasm_syntax.specs.declared.module.GlobalEntry.{GlobalEntry}
 use Rattle.wasm_valid.specs.Spaces.{imported_global, kinds_of}
 use Rattle.wasm_valid.specs.Validity.{IsConstant}
 use Rattle.wasm_valid.specs.internal.Rules.{GlobalsHold}

@@ -1,6 +1,6 @@
 use Rattle.std.proofs.Common.{◌≤◌, ◌^◌, List, length, leb, All, IsTrue, sym, subst}
 use Rattle.std.proofs.lemmas.Bool.{leb-true, le-leb}
-use Rattle.wasm_module.specs.declared.module.Limits.{Limits}
+use Rattle.wasm_syntax.specs.declared.module.Limits.{Limits}
 use Rattle.wasm_valid.specs.Validity.{LimitsFit}
 use Rattle.wasm_valid.specs.internal.Rules.{LimitsHold}
 use Rattle.wasm_valid.proofs.Refusals.{refused}

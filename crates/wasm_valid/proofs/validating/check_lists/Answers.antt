@@ -1,6 +1,6 @@
 use Rattle.std.proofs.Common.{List, map, All, IsTrue, ◌↔◌, ◌∙◌, subst, ◌≡◌, Bool}
-use Rattle.wasm_module.specs.declared.module.GlobalType.{GlobalType}
-use Rattle.wasm_module.specs.declared.module.Export.{Export}
+use Rattle.wasm_syntax.specs.declared.module.GlobalType.{GlobalType}
+use Rattle.wasm_syntax.specs.declared.module.Export.{Export}
 use Rattle.wasm_valid.specs.declared.module_rules.Counts.{Counts}
 use Rattle.wasm_valid.specs.Spaces.{globals_of}
 use Rattle.wasm_valid.specs.Validity.{AreApart}

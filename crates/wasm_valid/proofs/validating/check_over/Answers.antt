@@ -1,6 +1,6 @@
 use Rattle.std.proofs.Common.{◌≡◌, ℕ, Bool, not, eqb, List, [], ◌∷◌, length, refl, ap, ◌∙◌, arith}
 use Rattle.std.proofs.lemmas.Bool.{ne_eqb}
-use Rattle.wasm_module.specs.declared.module.Limits.{Limits}
+use Rattle.wasm_syntax.specs.declared.module.Limits.{Limits}
 use Rattle.wasm_valid.specs.Validity.{IsValid, has_any}
 use Rattle.wasm_valid.specs.internal.Rules.{TypesFit, LimitsHold, GlobalsHold}
 use Rattle.wasm_valid.proofs.Refusals.{refused}

@@ -1,6 +1,6 @@
 use Rattle.std.proofs.Common.{rules, All, IsTrue, List, length, ◌++◌, ◌<◌, ◌≤◌, ℕ, sym, ap, ◌∙◌, subst}
-use Rattle.wasm_module.specs.declared.module.FuncType.{FuncType}
-use Rattle.wasm_module.specs.declared.module.Import.{Import}
+use Rattle.wasm_syntax.specs.declared.module.FuncType.{FuncType}
+use Rattle.wasm_syntax.specs.declared.module.Import.{Import}
 use Rattle.std.proofs.lemmas.List.Elements.{All-append}
 use Rattle.std.proofs.lemmas.Result.{IfOk-from_err}
 use Rattle.std.specs.List.{filter_map}

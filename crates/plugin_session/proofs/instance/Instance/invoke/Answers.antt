@@ -1,7 +1,7 @@
 use Rattle.std.proofs.Common.{◌∙◌, refl, sym, subst, inl, inr}
 use Rattle.std.specs.Prelude.{Contains}
-use Rattle.wasm_module.specs.declared.module.ExportKind.TheVariants as exports
-use Rattle.wasm_module.specs.declared.module.Module.{Module}
+use Rattle.wasm_syntax.specs.declared.module.ExportKind.TheVariants as exports
+use Rattle.wasm_syntax.specs.declared.module.Module.{Module}
 use Rattle.plugin_core.specs.Handling.{invokes}
 use Rattle.plugin_session.proofs.instance.Instance.invoke.Goals as goal
 

@@ -1,6 +1,6 @@
 use Rattle.std.proofs.Common.{◌≡◌, ℕ, ◌≤◌, List, ◌++◌, length, None, Some, ap, ◌∙◌, refl, arith, length-append}
-use Rattle.wasm_module.specs.declared.profile.Profile.{Profile}
-use Rattle.wasm_module.specs.declared.module.Body.{Body}
+use Rattle.wasm_syntax.specs.declared.profile.Profile.{Profile}
+use Rattle.wasm_syntax.specs.declared.module.Body.{Body}
 use Rattle.wasm_valid.specs.Offsets.{StandsBehind}
 use Rattle.wasm_module.proofs.Laws.{some_is}
 use Rattle.sandbox_inspect.specs.Places.{own_entry}

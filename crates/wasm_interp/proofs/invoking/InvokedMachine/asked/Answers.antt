@@ -1,7 +1,7 @@
 use Rattle.std.proofs.Common.{◌∙◌, ℕ, List, length, reverse, take, drop, ap, sym, subst, arith}
 use Rattle.std.specs.Arc.{arc_value}
-use Rattle.wasm_module.specs.declared.module.FuncType.{FuncType}
-use Rattle.wasm_module.specs.declared.module.Module.{Module}
+use Rattle.wasm_syntax.specs.declared.module.FuncType.{FuncType}
+use Rattle.wasm_syntax.specs.declared.module.Module.{Module}
 use Rattle.wasm_interp.specs.declared.tables.Prepared.{Prepared}
 use Rattle.wasm_interp.specs.Invoking.{IsImportType}
 use Rattle.wasm_interp.proofs.PlainSteps.Invoking.{arguments_asked}

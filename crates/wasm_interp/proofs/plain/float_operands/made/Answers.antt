@@ -1,8 +1,8 @@
 use Rattle.std.proofs.Common.{◌≡◌, ℕ, ◌<◌, ◌^◌, List, reverse, Result, Ok, IfOk, sym, ap, ◌∙◌, subst, arith}
 use Rattle.std.specs.Prelude.{from_bits}
 use Rattle.std.proofs.lemmas.List.{length-reverse}
-use Rattle.wasm_module.specs.ValueTypes.{float, integer}
-use Rattle.wasm_module.specs.declared.instruction.FloatOperator.{FloatOperator}
+use Rattle.wasm_syntax.specs.ValueTypes.{float, integer}
+use Rattle.wasm_syntax.specs.declared.instruction.FloatOperator.{FloatOperator}
 use Rattle.wasm_num.specs.declared.trap.Trap.{Trap}
 use Rattle.wasm_valid.specs.Arities.{float_gives}
 use Rattle.wasm_float.specs.Floats.{demoted, promoted}

@@ -1,6 +1,6 @@
 use Rattle.std.proofs.Common.{refl, rules}
-use Rattle.wasm_module.specs.internal.CodeReading.{instruction_at, instruction_after}
-use Rattle.wasm_module.proofs.Exits.{handed_on}
+use Rattle.wasm_syntax.specs.internal.CodeReading.{instruction_at, instruction_after}
+use Rattle.wasm_syntax.proofs.Exits.{handed_on}
 use Rattle.wasm_module.proofs.Opcodes.{control_read, variable_read, load_read, store_read, size_read, operator_read}
 use Rattle.wasm_module.proofs.code.InstructionDecode.decode.Goals as goal
 

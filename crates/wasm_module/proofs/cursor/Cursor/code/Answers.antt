@@ -1,7 +1,7 @@
 use Rattle.std.proofs.Common.{◌∷◌, []}
-use Rattle.wasm_module.specs.declared.open_blocks.OpenBlock.TheVariants.{Plain}
-use Rattle.wasm_module.specs.internal.CodeReading.{code_at, code_from}
-use Rattle.wasm_module.proofs.Exits.{handed_on, without_memory}
+use Rattle.wasm_syntax.specs.declared.open_blocks.OpenBlock.TheVariants.{Plain}
+use Rattle.wasm_syntax.specs.internal.CodeReading.{code_at, code_from}
+use Rattle.wasm_syntax.proofs.Exits.{handed_on, without_memory}
 use Rattle.wasm_module.proofs.Steps.{begins_loop, code_no_more, code_goes_on, code_closes, code_breaks_off}
 use Rattle.wasm_module.proofs.cursor.Cursor.code.Goals as goal
 

@@ -1,6 +1,6 @@
 use Rattle.std.proofs.Common.{◌≡◌, ◌-◌, ◌∷◌, []}
-use Rattle.wasm_module.specs.declared.open_blocks.OpenBlock.TheVariants.{Plain}
-use Rattle.wasm_module.specs.internal.CodeReading.{code_from}
+use Rattle.wasm_syntax.specs.declared.open_blocks.OpenBlock.TheVariants.{Plain}
+use Rattle.wasm_syntax.specs.internal.CodeReading.{code_from}
 use Rattle.wasm_module.proofs.Loop.{with_front}
 use Rattle.wasm_module.proofs.cursor.Cursor.code.Given as goal
 

@@ -1,5 +1,5 @@
-use Rattle.wasm_module.specs.Reading.{custom_of}
-use Rattle.wasm_module.proofs.Exits.{handed_on, given_within, none_within}
+use Rattle.wasm_syntax.specs.Reading.{custom_of}
+use Rattle.wasm_syntax.proofs.Exits.{handed_on, given_within, none_within}
 use Rattle.wasm_module.proofs.cursor.Cursor.custom.Goals as goal
 
 pub returns-in_err-sized_piece : goal.returns-in_err-sized_piece

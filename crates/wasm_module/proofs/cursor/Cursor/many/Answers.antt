@@ -1,6 +1,6 @@
 use Rattle.std.proofs.Common.{sym, ◌∙◌}
-use Rattle.wasm_module.specs.Reading.{many_at}
-use Rattle.wasm_module.proofs.Exits.{handed_on, without_memory}
+use Rattle.wasm_syntax.specs.Reading.{many_at}
+use Rattle.wasm_syntax.proofs.Exits.{handed_on, without_memory}
 use Rattle.wasm_module.proofs.Steps.{begins_loop, many_goes_on, many_no_item, many_done}
 use Rattle.wasm_module.proofs.cursor.Cursor.many.Goals as goal
 

@@ -1,6 +1,6 @@
 use Rattle.std.proofs.Common.{ℕ, List}
-use Rattle.wasm_module.specs.Reading.{utf8_text_of, name_at}
-use Rattle.wasm_module.proofs.Exits.{handed_on, given_within, none_within}
+use Rattle.wasm_syntax.specs.Reading.{utf8_text_of, name_at}
+use Rattle.wasm_syntax.proofs.Exits.{handed_on, given_within, none_within}
 use Rattle.wasm_module.proofs.cursor.Cursor.name.Goals as goal
 
 pub returns-in_err-sized_piece : goal.returns-in_err-sized_piece

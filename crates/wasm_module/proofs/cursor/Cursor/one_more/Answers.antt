@@ -1,5 +1,5 @@
 use Rattle.std.proofs.Common.{refl}
-use Rattle.wasm_module.specs.internal.CodeReading.{one_more_at}
+use Rattle.wasm_syntax.specs.internal.CodeReading.{one_more_at}
 use Rattle.wasm_module.proofs.cursor.Cursor.one_more.Goals as goal
 
 pub returns : goal.returns

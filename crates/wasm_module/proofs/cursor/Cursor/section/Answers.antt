@@ -1,6 +1,6 @@
 use Rattle.std.proofs.Common.{refl}
-use Rattle.wasm_module.specs.Reading.{section_at}
-use Rattle.wasm_module.proofs.Exits.{handed_on}
+use Rattle.wasm_syntax.specs.Reading.{section_at}
+use Rattle.wasm_syntax.proofs.Exits.{handed_on}
 use Rattle.wasm_module.proofs.cursor.Cursor.section.Goals as goal
 
 pub returns-then-not-begins : goal.returns-then-not-begins

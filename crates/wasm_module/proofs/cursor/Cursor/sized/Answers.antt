@@ -1,6 +1,6 @@
 use Rattle.std.proofs.Common.{refl, ◌∙◌}
-use Rattle.wasm_module.specs.Reading.{whole}
-use Rattle.wasm_module.proofs.Exits.{handed_on, none_within, sized_piece}
+use Rattle.wasm_syntax.specs.Reading.{whole}
+use Rattle.wasm_syntax.proofs.Exits.{handed_on, none_within, sized_piece}
 use Rattle.wasm_module.proofs.cursor.Cursor.sized.Goals as goal
 
 pub returns-in_err-sized_piece : goal.returns-in_err-sized_piece

@@ -1,6 +1,6 @@
 use Rattle.std.proofs.Common.{refl, ◌∙◌}
 use Rattle.wasm_module.specs.internal.ModuleReading.{body_of, body_at}
-use Rattle.wasm_module.proofs.Exits.{handed_on, none_within, sized_piece}
+use Rattle.wasm_syntax.proofs.Exits.{handed_on, none_within, sized_piece}
 use Rattle.wasm_module.proofs.parts.BodyDecode.decode.Goals as goal
 
 pub returns-in_err-sized_piece : goal.returns-in_err-sized_piece

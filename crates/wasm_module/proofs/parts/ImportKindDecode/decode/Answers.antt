@@ -1,6 +1,6 @@
 use Rattle.std.proofs.Common.{refl}
 use Rattle.wasm_module.specs.internal.ModuleReading.{import_kind_at, import_after}
-use Rattle.wasm_module.proofs.Exits.{handed_on}
+use Rattle.wasm_syntax.proofs.Exits.{handed_on}
 use Rattle.wasm_module.proofs.parts.ImportKindDecode.decode.Goals as goal
 
 pub returns-in_err-byte : goal.returns-in_err-byte

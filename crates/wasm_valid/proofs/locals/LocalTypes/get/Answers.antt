@@ -3,8 +3,8 @@ use Rattle.std.proofs.Common.{rules, tests, length, leb, List, sym, ◌∙◌, a
 use Rattle.std.specs.List.{slice_get}
 use Rattle.std.specs.Option.{option_map}
 use Rattle.std.proofs.lemmas.List.Sorted.{IsPartitionPoint-from_clause}
-use Rattle.wasm_module.specs.declared.instruction.ValueType.{ValueType}
-use Rattle.wasm_module.specs.declared.module.Locals.{Locals}
+use Rattle.wasm_syntax.specs.declared.instruction.ValueType.{ValueType}
+use Rattle.wasm_syntax.specs.declared.module.Locals.{Locals}
 use Rattle.wasm_valid.proofs.Contexts.{copied_at}
 use Rattle.wasm_valid.proofs.Groups.{located, ends_part_of}
 use Rattle.wasm_valid.proofs.locals.LocalTypes.get.Goals as goal

@@ -1,7 +1,7 @@
 use Rattle.std.proofs.Common.{◌≡◌, ◌∷◌, [], ◌++◌, ℕ, List, Option, ◌∙◌, ap}
 use Rattle.std.proofs.lemmas.Result.{IfOk-weaker}
-use Rattle.wasm_module.specs.declared.instruction.ValueType.{ValueType}
-use Rattle.wasm_module.specs.declared.module.Locals.{Locals}
+use Rattle.wasm_syntax.specs.declared.instruction.ValueType.{ValueType}
+use Rattle.wasm_syntax.specs.declared.module.Locals.{Locals}
 use Rattle.wasm_valid.specs.declared.control_frames.BlockKind.TheVariants.{Block}
 use Rattle.wasm_valid.specs.declared.function_context.FunctionContext.{FunctionContext}
 use Rattle.wasm_valid.specs.Typing.{Context}

@@ -1,7 +1,7 @@
 use Rattle.std.proofs.Common.{List, Option, take, ap, ◌∙◌, arith}
 use Rattle.std.proofs.lemmas.Result.{IfOk-from_err}
 use Rattle.std.proofs.lemmas.Grind.{common_steps}
-use Rattle.wasm_module.specs.declared.instruction.ValueType.{ValueType}
+use Rattle.wasm_syntax.specs.declared.instruction.ValueType.{ValueType}
 use Rattle.wasm_valid.proofs.operands.OperandStack.push.Goals as goal
 
 pub returns-in_err-push : goal.returns-in_err-push

@@ -1,5 +1,0 @@
-use Rattle.wasm_module.proofs.Floatlessness.{module_floatless}
-use Rattle.wasm_module.proofs.shared_laws.integers_alone.Goals as goal
-
-pub returns : goal.returns
-returns c = module_floatless

@@ -1,0 +1,13 @@
+pub mod Number
+pub mod Grammar
+pub mod Profile
+pub mod ValueTypes
+pub mod Types
+pub mod Accesses
+pub mod Nested
+pub mod Instructions
+pub mod Sections
+pub mod Module
+pub mod Floatless
+pub mod Reading
+pub mod internal

@@ -1,0 +1,13 @@
+//! (to be written)
+
+#![tactic(auto)]
+
+pub mod accesses;
+pub mod fault;
+pub mod instruction;
+pub mod items;
+pub mod module;
+pub mod number;
+pub mod open_blocks;
+pub mod profile;
+pub mod shared_laws;
