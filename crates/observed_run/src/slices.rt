@@ -82,9 +82,11 @@ where
     W2: Outlet,
     requires within { used_by (S.state session.old) ≤ until }
     requires few { sum profile.old.units + (until - used_by (S.state session.old)) < 2 ^ 64 }
-    ensures slice { RunsSlice (devices D.Device R.Read W1.Write W2.Write R.gave R.refused W1.took W1.refused W2.took W2.refused)
-        (S.state session.old) (S.state session.new) until (stop_of result.0) earlier result.1 }
-    ensures charged { ChargesSlice (S.state session.old) (S.state session.new) profile.old profile.new }
+    ensures slice { RunsSlice (devices D.Device R.Read W1.Write W2.Write R.gave R.refused W1.took
+        W1.refused W2.took W2.refused) (S.state session.old) (S.state session.new) until
+        (stop_of result.0) earlier result.1 }
+    ensures charged { ChargesSlice (S.state session.old) (S.state session.new) profile.old
+        profile.new }
 {
     let began = session.used();
     let node = enter(session, profile, functions);
@@ -110,8 +112,9 @@ where
     W2: Outlet,
     requires within { used_by (S.state session.old) ≤ fuel }
     requires few { sum profile.old.units + (fuel - used_by (S.state session.old)) < 2 ^ 64 }
-    ensures { RunsInSlices (devices D.Device R.Read W1.Write W2.Write R.gave R.refused W1.took W1.refused W2.took W2.refused)
-        (S.state session.old) fuel every (S.state session.new) result.0 result.1 profile.old profile.new }
+    ensures { RunsInSlices (devices D.Device R.Read W1.Write W2.Write R.gave R.refused W1.took
+        W1.refused W2.took W2.refused) (S.state session.old) fuel every (S.state session.new)
+        result.0 result.1 profile.old profile.new }
 {
     let mut functions = Vec::new(alloc);
     let mut until = session.used();
@@ -152,8 +155,9 @@ where
     requires unused { used_by (S.state session) ≡ 0 }
     requires few { sum profile.old.units + fuel < 2 ^ 64 }
     ensures kept { S.gives_back (S.state session).machine.valid result.kept }
-    ensures profiled { ReportsProfiled (devices D.Device R.Read W1.Write W2.Write R.gave R.refused W1.took W1.refused W2.took W2.refused)
-        (S.state session) fuel every result.report result.tally room.new result.depth profile.old profile.new }
+    ensures profiled { ReportsProfiled (devices D.Device R.Read W1.Write W2.Write R.gave R.refused
+        W1.took W1.refused W2.took W2.refused) (S.state session) fuel every result.report
+        result.tally room.new result.depth profile.old profile.new }
 {
     let mut session = session;
     let (outcome, tally) = run_in_slices(alloc, &mut session, fuel, every, profile);

@@ -77,8 +77,9 @@ where
     W2: Outlet + Drop,
     requires { used_by (S.state session) ≡ 0 }
     ensures kept { S.gives_back (S.state session).machine.valid result.kept }
-    ensures told { ReportsTold (devices D.Device R.Read W1.Write W2.Write R.gave R.refused W1.took W1.refused W2.took W2.refused)
-        (S.state session) fuel result.report result.tally room.new result.depth }
+    ensures told { ReportsTold (devices D.Device R.Read W1.Write W2.Write R.gave R.refused W1.took
+        W1.refused W2.took W2.refused) (S.state session) fuel result.report result.tally room.new
+        result.depth }
 {
     let mut session = session;
     let (end, tally) = run_slice(&mut session, fuel, Tally::none());

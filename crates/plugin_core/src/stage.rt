@@ -51,7 +51,8 @@ impl Stage {
 
     /// Where it is once the machine came back for this reason, and what runs has returned with this result, if it has.
     pub fn after_event(self, event: Event, value: Option<u64>) -> Stage
-        ensures { (s : Snapshot) → value ≡ slice_get (results_of s) 0 → result ≡ after self (act_of event s) }
+        ensures { (s : Snapshot) → value ≡ slice_get (results_of s) 0
+            → result ≡ after self (act_of event s) }
     {
         match event {
             Event::Returned => self.after_return(value),

@@ -41,7 +41,8 @@ where
 
     /// The call that the embedder is to answer, with its arguments.
     pub fn asked(&self) -> Option<AskedCall<'_>>
-        ensures asked { IfSome result (λ k. (f : FuncTypeValue) × IsAskedFor self.now.machine k.import f (reverse k.arguments.now)) }
+        ensures asked { IfSome result (λ k. (f : FuncTypeValue)
+            × IsAskedFor self.now.machine k.import f (reverse k.arguments.now)) }
         ensures not { IfNone result (IsAsking self.now.machine → ⊥) }
     {
         self.machine.asked()

@@ -41,7 +41,8 @@ pub enum Misuse {
 /// Whether a function may be called at this stage, or why not.
 fn may_invoke(stage: Stage) -> Result<(), Misuse>
     ensures may { MatchResult result (λ _. acts.Rests stage) (λ _. acts.Rests stage → ⊥) }
-    ensures told { MatchResult result (λ _. not_invoked_at stage ≡ None) (λ e. not_invoked_at stage ≡ Some e) }
+    ensures told { MatchResult result (λ _. not_invoked_at stage ≡ None)
+        (λ e. not_invoked_at stage ≡ Some e) }
 {
     match stage {
         Stage::Ready | Stage::Stopped => Ok(()),
@@ -54,7 +55,8 @@ fn may_invoke(stage: Stage) -> Result<(), Misuse>
 /// Whether the machine may go on at this stage, or why not.
 fn may_go(stage: Stage) -> Result<(), Misuse>
     ensures may { MatchResult result (λ _. acts.Goes stage) (λ _. acts.Goes stage → ⊥) }
-    ensures told { MatchResult result (λ _. not_gone_on_at stage ≡ None) (λ e. not_gone_on_at stage ≡ Some e) }
+    ensures told { MatchResult result (λ _. not_gone_on_at stage ≡ None)
+        (λ e. not_gone_on_at stage ≡ Some e) }
 {
     match stage {
         Stage::Running | Stage::Opening => Ok(()),
@@ -67,7 +69,8 @@ fn may_go(stage: Stage) -> Result<(), Misuse>
 /// Whether the embedder may answer at this stage, or why not.
 fn may_answer(stage: Stage) -> Result<(), Misuse>
     ensures may { MatchResult result (λ _. acts.Asks stage) (λ _. acts.Asks stage → ⊥) }
-    ensures told { MatchResult result (λ _. not_answered_at stage ≡ None) (λ e. not_answered_at stage ≡ Some e) }
+    ensures told { MatchResult result (λ _. not_answered_at stage ≡ None)
+        (λ e. not_answered_at stage ≡ Some e) }
 {
     match stage {
         Stage::Asked | Stage::AskedOpening => Ok(()),
@@ -79,7 +82,8 @@ fn may_answer(stage: Stage) -> Result<(), Misuse>
 /// Whether memory may be written at this stage, or why not.
 fn may_write(stage: Stage) -> Result<(), Misuse>
     ensures may { MatchResult result (λ _. acts.IsWritable stage) (λ _. acts.IsWritable stage → ⊥) }
-    ensures told { MatchResult result (λ _. not_written_at stage ≡ None) (λ e. not_written_at stage ≡ Some e) }
+    ensures told { MatchResult result (λ _. not_written_at stage ≡ None)
+        (λ e. not_written_at stage ≡ Some e) }
 {
     match stage {
         Stage::Ready | Stage::Asked | Stage::AskedOpening => Ok(()),
@@ -92,7 +96,8 @@ fn may_write(stage: Stage) -> Result<(), Misuse>
 /// Whether what is at work may be let go at this stage, or why not.
 fn may_abandon(stage: Stage) -> Result<(), Misuse>
     ensures may { MatchResult result (λ _. acts.IsOpen stage) (λ _. acts.IsOpen stage → ⊥) }
-    ensures told { MatchResult result (λ _. not_let_go_at stage ≡ None) (λ e. not_let_go_at stage ≡ Some e) }
+    ensures told { MatchResult result (λ _. not_let_go_at stage ≡ None)
+        (λ e. not_let_go_at stage ≡ Some e) }
 {
     if let Stage::Over = stage {
         return Err(Misuse::Over);
@@ -102,8 +107,10 @@ fn may_abandon(stage: Stage) -> Result<(), Misuse>
 
 /// The function of this export, if it has this name.
 fn named_function(export: &Export, name: &str) -> Option<u32>
-    ensures found { IfSome result (λ x. export.now ≡ record { name = name.now; kind = exports.Function x }) }
-    ensures other { IfNone result ((x : ℕ) → export.now ≡ record { name = name.now; kind = exports.Function x } → ⊥) }
+    ensures found { IfSome result (λ x. export.now
+        ≡ record { name = name.now; kind = exports.Function x }) }
+    ensures other { IfNone result ((x : ℕ) → export.now
+        ≡ record { name = name.now; kind = exports.Function x } → ⊥) }
 {
     let ExportKind::Function(function) = export.kind else {
         return None;
@@ -116,7 +123,8 @@ fn named_function(export: &Export, name: &str) -> Option<u32>
 
 /// The function that is exported by this name.
 fn exported_function(guest: &Module, name: &str) -> Option<u32>
-    ensures found { IfSome result (λ x. Contains guest.now.exports (record { name = name.now; kind = exports.Function x })) }
+    ensures found { IfSome result (λ x. Contains guest.now.exports
+        (record { name = name.now; kind = exports.Function x })) }
     ensures missing { IfNone result ((x : ℕ)
         → Contains guest.now.exports (record { name = name.now; kind = exports.Function x }) → ⊥) }
 {
@@ -141,9 +149,10 @@ where
     /// its type. Nothing runs yet.
     pub fn invoke(&mut self, name: &str, arguments: &[u64]) -> Result<(), Misuse>
         ensures invoked { IfOk result (λ _. Invokes
-            (devices D.Device R.Read W1.Write W2.Write R.gave R.refused W1.took W1.refused W2.took W2.refused)
-            self.old self.new name.now arguments.now) }
-        ensures refused { IfErr result (λ e. (self.new ≡ self.old) × RefusesCall self.old name.now arguments.now e) }
+            (devices D.Device R.Read W1.Write W2.Write R.gave R.refused W1.took W1.refused W2.took
+            W2.refused) self.old self.new name.now arguments.now) }
+        ensures refused { IfErr result (λ e. (self.new ≡ self.old)
+            × RefusesCall self.old name.now arguments.now e) }
     {
         may_invoke(self.stage)?;
         let Some(function) = exported_function(self.machine.module().module(), name) else {
@@ -162,9 +171,8 @@ where
     /// what runs returns or ends, or the next step would take a unit that isn't left.
     pub fn go(&mut self, units: u64) -> Result<Event, Misuse>
         requires { used_by self.old + units < 2 ^ 64 }
-        ensures went { IfOk result (Goes
-            (devices D.Device R.Read W1.Write W2.Write R.gave R.refused W1.took W1.refused W2.took W2.refused)
-            self.old self.new units) }
+        ensures went { IfOk result (Goes (devices D.Device R.Read W1.Write W2.Write R.gave R.refused
+            W1.took W1.refused W2.took W2.refused) self.old self.new units) }
 
         // It is refused just where no function is at work.
         ensures refused { IfErr result (λ e. (self.new ≡ self.old) × (acts.Goes self.old.stage → ⊥)
@@ -179,9 +187,10 @@ where
     /// Answers the call of the embedder's function, with its result if it has one.
     pub fn answer(&mut self, value: Option<u64>) -> Result<(), Misuse>
         ensures answered { IfOk result (λ _. Answers
-            (devices D.Device R.Read W1.Write W2.Write R.gave R.refused W1.took W1.refused W2.took W2.refused)
-            self.old self.new (option_to_list value)) }
-        ensures refused { IfErr result (λ e. (self.new ≡ self.old) × RefusesAnswer self.old (option_to_list value) e) }
+            (devices D.Device R.Read W1.Write W2.Write R.gave R.refused W1.took W1.refused W2.took
+            W2.refused) self.old self.new (option_to_list value)) }
+        ensures refused { IfErr result (λ e. (self.new ≡ self.old)
+            × RefusesAnswer self.old (option_to_list value) e) }
     {
         may_answer(self.stage)?;
         match self.machine.answer(value) {
@@ -196,9 +205,10 @@ where
     /// Answers as `answer` does with a list of results: no function has more than one.
     pub fn answer_all(&mut self, results: &[u64]) -> Result<(), Misuse>
         ensures answered { IfOk result (λ _. Answers
-            (devices D.Device R.Read W1.Write W2.Write R.gave R.refused W1.took W1.refused W2.took W2.refused)
-            self.old self.new results.now) }
-        ensures refused { IfErr result (λ e. (self.new ≡ self.old) × RefusesAnswer self.old results.now e) }
+            (devices D.Device R.Read W1.Write W2.Write R.gave R.refused W1.took W1.refused W2.took
+            W2.refused) self.old self.new results.now) }
+        ensures refused { IfErr result (λ e. (self.new ≡ self.old)
+            × RefusesAnswer self.old results.now e) }
     {
         match results {
             [] => self.answer(None),
@@ -213,9 +223,11 @@ where
     /// Writes bytes into memory where nothing runs, or where a function of the embedder was called.
     pub fn write(&mut self, address: u32, bytes: &[u8]) -> Result<(), Misuse>
         ensures written { IfOk result (λ _. Does
-            (devices D.Device R.Read W1.Write W2.Write R.gave R.refused W1.took W1.refused W2.took W2.refused)
-            self.old (acts.wrote (written self.old.machine.memory address bytes.now)) self.new) }
-        ensures refused { IfErr result (λ e. (self.new ≡ self.old) × RefusesWrite self.old address (length bytes.now) e) }
+            (devices D.Device R.Read W1.Write W2.Write R.gave R.refused W1.took W1.refused W2.took
+            W2.refused) self.old (acts.wrote (written self.old.machine.memory address bytes.now))
+            self.new) }
+        ensures refused { IfErr result (λ e. (self.new ≡ self.old)
+            × RefusesWrite self.old address (length bytes.now) e) }
     {
         may_write(self.stage)?;
         match self.machine.write(address, bytes) {
@@ -230,12 +242,12 @@ where
     /// instance is over.
     pub fn abandon(&mut self) -> Result<(), Misuse>
         ensures abandoned { IfOk result (λ _. Does
-            (devices D.Device R.Read W1.Write W2.Write R.gave R.refused W1.took W1.refused W2.took W2.refused)
-            self.old acts.abandoned self.new) }
+            (devices D.Device R.Read W1.Write W2.Write R.gave R.refused W1.took W1.refused W2.took
+            W2.refused) self.old acts.abandoned self.new) }
 
         // It is refused just where the instance is over.
-        ensures refused { IfErr result (λ e. (self.new ≡ self.old) × (acts.IsOpen self.old.stage → ⊥)
-            × (not_let_go_at self.old.stage ≡ Some e)) }
+        ensures refused { IfErr result (λ e. (self.new ≡ self.old)
+            × (acts.IsOpen self.old.stage → ⊥) × (not_let_go_at self.old.stage ≡ Some e)) }
     {
         may_abandon(self.stage)?;
         self.machine.abandon();

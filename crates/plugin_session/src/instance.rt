@@ -57,12 +57,15 @@ where
         err: W2,
     ) -> Result<Instance<'a, 's, 't, D, R, W1, W2>, RefusedParts<'s, 't, D, R, W1, W2>>
         requires { settings.pages ≡ plugin.now.pages }
-        ensures opens { IfOk result (Opens plugin.now.valid (given settings.entry volume input out err)) }
-        ensures shares { IfOk result (λ i. Shares D.Device (given settings.entry volume input out err) (session_of i)) }
+        ensures opens { IfOk result (Opens plugin.now.valid
+            (given settings.entry volume input out err)) }
+        ensures shares { IfOk result (λ i. Shares D.Device
+            (given settings.entry volume input out err) (session_of i)) }
         ensures hands_back { IfErr result (λ r. HandsBack D.Device plugin.now.valid
             (given settings.entry volume input out err)
             (record { valid = plugin.now.valid; parts = r.parts; fault = r.fault })) }
-        ensures refused { IfErr result (λ r. IsRefused D.honest r.fault plugin.now.valid (given settings.entry volume input out err)) }
+        ensures refused { IfErr result (λ r. IsRefused D.honest r.fault plugin.now.valid
+            (given settings.entry volume input out err)) }
     {
         volume.is_a_tree(); // a law for the contract
         let parts = HostParts {

@@ -13,5 +13,6 @@ use wasm_interp::SnapshotMeaning;
 /// volume's tree after some of the answers, of those from the last sync on that was answered with 0. It holds of any relation by which
 /// machines stand for configurations, if that tells of stores, as the machine's own does.
 pub fn instance_headline<M: SnapshotMeaning, D: Device, R: Inlet, W1: Outlet, W2: Outlet>()
-    ensures { InstanceHeadline M.stands (devices D.Device R.Read W1.Write W2.Write R.gave R.refused W1.took W1.refused W2.took W2.refused) }
+    ensures { InstanceHeadline M.stands (devices D.Device R.Read W1.Write W2.Write R.gave R.refused
+        W1.took W1.refused W2.took W2.refused) }
 {}

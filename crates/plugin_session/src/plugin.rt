@@ -41,7 +41,8 @@ impl<'a> Plugin<'a> {
         pages: u32,
     ) -> Result<Plugin<'a>, RefusedInstance<'a>>
         ensures module { IfOk result (λ p. (p.valid ≡ valid.entry) × (p.pages ≡ pages)) }
-        ensures refused { IfErr result (λ r. (r.valid ≡ valid.entry) × NotAllocated links pages valid.entry r.fault) }
+        ensures refused { IfErr result (λ r. (r.valid ≡ valid.entry)
+            × NotAllocated links pages valid.entry r.fault) }
     {
         match PreparedPlugin::new(alloc, valid, pages, &Linker, WASI) {
             Ok(module) => Ok(Plugin { module }),

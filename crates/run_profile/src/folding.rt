@@ -22,7 +22,8 @@ pub trait Names {
 
 /// Adds functions, of which the innermost comes first, as a stack: the outermost first, with a semicolon between two.
 fn add_stack<N: Names>(names: &N, line: &mut Vec<u8>, functions: &[usize]) -> io::Result<()>
-    ensures { OnOk result (line.new.items ≡ line.old.items ++ stack_text (N.text names.now) functions.now) }
+    ensures { OnOk result (line.new.items ≡ line.old.items ++ stack_text (N.text names.now)
+        functions.now) }
 {
     for depth in 0..functions.len() {
         if depth > 0 {
@@ -51,7 +52,8 @@ impl FuelProfile {
     ) -> io::Result<()>
         requires { node < length self.now.units }
         ensures { OnOk result ((functions : List ℕ) × IsStack self.now.calls node functions
-            × Appends (W.contents out.old) (W.contents out.new) (line_text (N.text names.now) functions (slice_index self.now.units node))) }
+            × Appends (W.contents out.old) (W.contents out.new)
+            (line_text (N.text names.now) functions (slice_index self.now.units node))) }
     {
         let functions = self.functions_at(alloc, node)?;
         let mut line = Vec::new(alloc);
@@ -67,8 +69,8 @@ impl FuelProfile {
         names: &N,
         out: &mut W,
     ) -> io::Result<()>
-        ensures { OnOk result ((text : List ℕ) × IsFolded self.now.calls (N.text names.now) 0 self.now.units text
-            × Appends (W.contents out.old) (W.contents out.new) text) }
+        ensures { OnOk result ((text : List ℕ) × IsFolded self.now.calls (N.text names.now) 0
+            self.now.units text × Appends (W.contents out.old) (W.contents out.new) text) }
     {
         for node in 0..self.nodes() {
             if self.units_at(node) > 0 {
@@ -83,8 +85,9 @@ impl FuelProfile {
     /// added to a function below the one that took them, a line `[cut] 0` comes last; no other line has 0. Where it fails, some of it may
     /// have been printed.
     pub fn print<N: Names, W: Write>(&self, alloc: Global, names: &N, out: &mut W) -> io::Result<()>
-        ensures { OnOk result ((text : List ℕ) × IsFolded self.now.calls (N.text names.now) 0 self.now.units text
-            × Appends (W.contents out.old) (W.contents out.new) (text ++ cut_text self.now.is_cut)) }
+        ensures { OnOk result ((text : List ℕ) × IsFolded self.now.calls (N.text names.now) 0
+            self.now.units text × Appends (W.contents out.old) (W.contents out.new)
+            (text ++ cut_text self.now.is_cut)) }
     {
         self.print_stacks(alloc, names, out)?;
         out.write_all(cut_line(self.is_cut()))

@@ -42,7 +42,8 @@ impl Model for FuelProfile {
 impl FuelProfile {
     /// No stack yet, and room for stacks with so many functions, all together.
     pub fn new(alloc: Global, room: u64) -> Result<FuelProfile, AllocError>
-        ensures { IfOk result (λ p. (p.calls ≡ []) × (p.units ≡ 0 ∷ []) × (p.is_cut ≡ false) × (p.room ≡ room)) }
+        ensures { IfOk result (λ p. (p.calls ≡ []) × (p.units ≡ 0 ∷ []) × (p.is_cut ≡ false)
+            × (p.room ≡ room)) }
     {
         let mut units = Vec::new(alloc);
         units.push(0)?;
@@ -69,7 +70,8 @@ impl FuelProfile {
         requires called { call.caller < length self.old.units }
         requires some { 0 < depth }
         ensures grows { Grows self.old self.new }
-        ensures found { IfSome result (λ node. (k : ℕ) × (node ≡ suc k) × (slice_get self.new.calls k ≡ Some call)) }
+        ensures found { IfSome result (λ node. (k : ℕ) × (node ≡ suc k)
+            × (slice_get self.new.calls k ≡ Some call)) }
         ensures there { IfSome result (λ node. node < length self.new.units) }
         ensures whole { self.new.is_cut ≡ self.old.is_cut }
     {

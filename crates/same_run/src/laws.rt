@@ -60,8 +60,9 @@ pub fn same_run<
     X1: Outlet,
     X2: Outlet,
 >()
-    ensures { SameRun (devices D.Device R.Read W1.Write W2.Write R.gave R.refused W1.took W1.refused W2.took W2.refused)
-        (devices E.Device S.Read X1.Write X2.Write S.gave S.refused X1.took X1.refused X2.took X2.refused) }
+    ensures { SameRun (devices D.Device R.Read W1.Write W2.Write R.gave R.refused W1.took W1.refused
+        W2.took W2.refused) (devices E.Device S.Read X1.Write X2.Write S.gave S.refused X1.took
+        X1.refused X2.took X2.refused) }
 {}
 
 /// The same module, supplies and volume give the same run, unless the host failed: memory, a stream or the device. So the
@@ -76,8 +77,9 @@ pub fn same_report<
     X1: Outlet,
     X2: Outlet,
 >()
-    ensures { SameReport (devices D.Device R.Read W1.Write W2.Write R.gave R.refused W1.took W1.refused W2.took W2.refused)
-        (devices E.Device S.Read X1.Write X2.Write S.gave S.refused X1.took X1.refused X2.took X2.refused) }
+    ensures { SameReport (devices D.Device R.Read W1.Write W2.Write R.gave R.refused W1.took
+        W1.refused W2.took W2.refused) (devices E.Device S.Read X1.Write X2.Write S.gave S.refused
+        X1.took X1.refused X2.took X2.refused) }
 {}
 
 /// The same for runs of the program: the same module, words, random bytes, input and volume give the same run, unless the
@@ -92,8 +94,8 @@ pub fn same_program_run<
     X1: Outlet,
     X2: Outlet,
 >()
-    ensures { SameProgramRun D.honest D.disk D.size D.failures D.goes_on R.remaining W1.contents W2.contents
-        (hearing R.gave R.refused W1.took W1.refused W2.took W2.refused)
-        E.honest E.disk E.size E.failures E.goes_on S.remaining X1.contents X2.contents
+    ensures { SameProgramRun D.honest D.disk D.size D.failures D.goes_on R.remaining W1.contents
+        W2.contents (hearing R.gave R.refused W1.took W1.refused W2.took W2.refused) E.honest E.disk
+        E.size E.failures E.goes_on S.remaining X1.contents X2.contents
         (hearing S.gave S.refused X1.took X1.refused X2.took X2.refused) }
 {}

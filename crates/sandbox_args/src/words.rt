@@ -108,7 +108,8 @@ fn with_arguments<'a>(
 
 /// A command of the table.
 fn subcommand<'a>(alloc: Global, row: &'static Subcommand) -> Result<Command<'a>, AllocError>
-    ensures { IfOk result (λ c. (app_of c ≡ app_for row.now) × ((fields_of c).has_globals ≡ false)) }
+    ensures { IfOk result (λ c. (app_of c ≡ app_for row.now)
+        × ((fields_of c).has_globals ≡ false)) }
 {
     let command = Command::new(alloc, row.name)
         .about(row.about)
@@ -205,14 +206,16 @@ fn is_flagged(matches: &ArgMatches<'_>, id: &str) -> bool
 
 /// The number of an argument.
 fn number(matches: &ArgMatches<'_>, id: &str) -> Option<u32>
-    ensures { result ≡ option_and_then (parsed_number 32) (one_of id.now (rows_of (found_of matches.now))) }
+    ensures { result ≡ option_and_then (parsed_number 32)
+        (one_of id.now (rows_of (found_of matches.now))) }
 {
     matches.get_one::<u32>(id)
 }
 
 /// The number of an argument that may have 64 bits.
 fn long_number(matches: &ArgMatches<'_>, id: &str) -> Option<u64>
-    ensures { result ≡ option_and_then (parsed_number 64) (one_of id.now (rows_of (found_of matches.now))) }
+    ensures { result ≡ option_and_then (parsed_number 64)
+        (one_of id.now (rows_of (found_of matches.now))) }
 {
     matches.get_one::<u64>(id)
 }
@@ -224,7 +227,8 @@ fn run_with<'a>(
     env: Vec<&'a str>,
     words: Vec<&'a str>,
 ) -> Run<'a>
-    ensures { AsksRunOf (rows_of (found_of matches.now)) dirs.entry.items env.entry.items words.entry.items result }
+    ensures { AsksRunOf (rows_of (found_of matches.now)) dirs.entry.items env.entry.items
+        words.entry.items result }
 {
     let limits = GuestLimits {
         fuel: long_number(matches, "fuel").unwrap_or(FUEL),
@@ -373,7 +377,8 @@ fn asked<'a>(
 /// What the matches of a whole command line ask for. (So that their owner lets them go in one place.)
 fn entered<'a>(alloc: Global, matches: &ArgMatches<'a>) -> Result<Invocation<'a>, AllocError>
     requires { has_subcommand matches.now ≡ true }
-    ensures { IfOk result (λ i. IsSomeAnd (subcommand_rows_of matches.now) (λ entered. AsksFor entered.0 entered.1 i)) }
+    ensures { IfOk result (λ i. IsSomeAnd (subcommand_rows_of matches.now)
+        (λ entered. AsksFor entered.0 entered.1 i)) }
 {
     let Some((name, inner)) = matches.subcommand() else {
         unreachable!() // clap refuses a command line without a subcommand
@@ -386,7 +391,8 @@ fn entered<'a>(alloc: Global, matches: &ArgMatches<'a>) -> Result<Invocation<'a>
 // A function of its own, so that the parser isn't on the stack below what is asked for.
 #[inline(never)]
 pub fn invocation<'a>(alloc: Global, words: &'a [String]) -> Result<Invocation<'a>, Error>
-    ensures asks { IfOk result (λ i. IsSomeAnd (subcommand_of program (map string_bytes words.entry.now))
+    ensures asks { IfOk result (λ i. IsSomeAnd
+        (subcommand_of program (map string_bytes words.entry.now))
         (λ entered. AsksFor entered.0 entered.1 i)) }
     ensures fails { FailsBy (fault_of program (map string_bytes words.entry.now)) result }
 {

@@ -50,7 +50,8 @@ pub extern "C" fn sandbox_text(kind: u32, number: u32, room: &mut [u8]) -> usize
 /// Decodes and validates a module.
 #[unsafe(no_mangle)]
 pub extern "C" fn sandbox_check(alloc: Global, module: &[u8], why: &mut Why) -> u32
-    ensures valid { result ≡ 0 → ((m : ModuleValue) × IsLoaded «module».now m) × (why.new ≡ why.old) }
+    ensures valid { result ≡ 0 → ((m : ModuleValue) × IsLoaded «module».now m)
+        × (why.new ≡ why.old) }
     ensures refused { result ≢ 0 → (result ≡ why.new.fault) × NotLoaded «module».now why.new }
 {
     sandbox_host::check(alloc, module, why)
@@ -68,7 +69,8 @@ pub extern "C" fn sandbox_run(
     ended: &mut Told,
     why: &mut Why,
 ) -> u32
-    ensures ran { result ≡ 0 → Ran «module».now supplies.now fuel ended.new out_length.new out.old out.new × (why.new ≡ why.old) }
+    ensures ran { result ≡ 0 → Ran «module».now supplies.now fuel ended.new out_length.new out.old
+        out.new × (why.new ≡ why.old) }
     ensures refused { result ≢ 0 → NotOpened «module».now supplies.now Fresh result why.old why.new
         × (out.new ≡ out.old) × (out_length.new ≡ out_length.old) × (ended.new ≡ ended.old) }
 {
@@ -87,10 +89,13 @@ pub extern "C" fn sandbox_open(
 ) -> u32
     ensures misuse { (is_none session.old.held ≡ false) ⊎ (is_none (origin_of volume.now) ≡ true)
         → (result ≡ 100) × (session.new ≡ session.old) × (why.new ≡ why.old) }
-    ensures opened { is_none session.old.held ≡ true → IfSome (origin_of volume.now) (λ origin. result ≡ 0
-        → IsSomeAnd (running session.new.held) (BeginsFrom «module».now supplies.now origin) × (why.new ≡ why.old)) }
-    ensures refused { is_none session.old.held ≡ true → IfSome (origin_of volume.now) (λ origin. result ≢ 0
-        → (session.new.held ≡ None) × NotOpened «module».now supplies.now origin result why.old why.new) }
+    ensures opened { is_none session.old.held ≡ true
+        → IfSome (origin_of volume.now) (λ origin. result ≡ 0
+        → IsSomeAnd (running session.new.held) (BeginsFrom «module».now supplies.now origin)
+        × (why.new ≡ why.old)) }
+    ensures refused { is_none session.old.held ≡ true
+        → IfSome (origin_of volume.now) (λ origin. result ≢ 0 → (session.new.held ≡ None)
+        × NotOpened «module».now supplies.now origin result why.old why.new) }
     ensures bytes { result ≡ 0 → bytes_of session.new.held ≡ «module».now }
 {
     sandbox_host::open(alloc, session, module, supplies, volume, why)
@@ -107,9 +112,11 @@ pub extern "C" fn sandbox_load(
     ensures misuse { is_none «module».old.held ≡ false
         → (result ≡ 100) × («module».new ≡ «module».old) × (why.new ≡ why.old) }
     ensures loaded { is_none «module».old.held ≡ true → result ≡ 0
-        → IsSomeAnd (loaded «module».new.held) (IsLoaded bytes.now) × (prepared «module».new.held ≡ None) × (why.new ≡ why.old) }
+        → IsSomeAnd (loaded «module».new.held) (IsLoaded bytes.now)
+        × (prepared «module».new.held ≡ None) × (why.new ≡ why.old) }
     ensures refused { is_none «module».old.held ≡ true → result ≢ 0 → («module».new.held ≡ None)
-        × (((result ≡ why.new.fault) × NotLoaded bytes.now why.new) ⊎ ((result ≡ 40) × (why.new ≡ why.old))) }
+        × (((result ≡ why.new.fault) × NotLoaded bytes.now why.new)
+        ⊎ ((result ≡ 40) × (why.new ≡ why.old))) }
     ensures bytes { result ≡ 0 → bytes_of «module».new.held ≡ bytes.now }
 {
     sandbox_host::load_module(alloc, module, bytes, why)
@@ -127,9 +134,11 @@ pub extern "C" fn sandbox_load_with(
     ensures misuse { is_none «module».old.held ≡ false
         → (result ≡ 100) × («module».new ≡ «module».old) × (why.new ≡ why.old) }
     ensures loaded { is_none «module».old.held ≡ true → result ≡ 0
-        → IsSomeAnd (loaded «module».new.held) (IsLoadedWith (profile_of floats) bytes.now) × (prepared «module».new.held ≡ None) × (why.new ≡ why.old) }
+        → IsSomeAnd (loaded «module».new.held) (IsLoadedWith (profile_of floats) bytes.now)
+        × (prepared «module».new.held ≡ None) × (why.new ≡ why.old) }
     ensures refused { is_none «module».old.held ≡ true → result ≢ 0 → («module».new.held ≡ None)
-        × (((result ≡ why.new.fault) × NotLoadedWith (profile_of floats) bytes.now why.new) ⊎ ((result ≡ 40) × (why.new ≡ why.old))) }
+        × (((result ≡ why.new.fault) × NotLoadedWith (profile_of floats) bytes.now why.new)
+        ⊎ ((result ≡ 40) × (why.new ≡ why.old))) }
     ensures bytes { result ≡ 0 → bytes_of «module».new.held ≡ bytes.now }
 {
     sandbox_host::load_module_with(alloc, module, bytes, floats, why)
@@ -170,7 +179,8 @@ pub extern "C" fn sandbox_prepare_with(
     ensures misuse { is_none «module».old.held ≡ false
         → (result ≡ 100) × («module».new ≡ «module».old) × (why.new ≡ why.old) }
     ensures loaded { is_none «module».old.held ≡ true → result ≡ 0
-        → IsSomeAnd (loaded «module».new.held) (IsLoadedWith (profile_of floats) bytes.now) × (why.new ≡ why.old) }
+        → IsSomeAnd (loaded «module».new.held) (IsLoadedWith (profile_of floats) bytes.now)
+        × (why.new ≡ why.old) }
     ensures prepared { is_none «module».old.held ≡ true → result ≡ 0
         → IsSomeAnd (prepared «module».new.held) (λ ready. ready.pages ≡ most_pages limits.now) }
     ensures refused { is_none «module».old.held ≡ true → result ≢ 0 → («module».new.held ≡ None)
@@ -187,12 +197,16 @@ pub extern "C" fn sandbox_module_share(
     other: &mut Handle,
     module: &mut Handle,
 ) -> u32
-    ensures misuse { ((is_none other.old.held ≡ false) ⊎ (has_module «module».old.held ≡ false)) ⊎ (is_none (prepared «module».old.held) ≡ true)
-        → (result ≡ 100) × (other.new.held ≡ other.old.held) }
-    ensures shared { is_none other.old.held ≡ true → has_module «module».old.held ≡ true → IfSome (prepared «module».old.held) (λ ready. result ≡ 0
-        → (loaded other.new.held ≡ Some ready.valid) × (prepared other.new.held ≡ Some ready)) }
-    ensures refused { is_none other.old.held ≡ true → has_module «module».old.held ≡ true → IfSome (prepared «module».old.held) (λ ready. result ≢ 0
-        → (result ≡ 40) × (other.new.held ≡ None)) }
+    ensures misuse { ((is_none other.old.held ≡ false) ⊎ (has_module «module».old.held ≡ false))
+        ⊎ (is_none (prepared «module».old.held) ≡ true) → (result ≡ 100)
+        × (other.new.held ≡ other.old.held) }
+    ensures shared { is_none other.old.held ≡ true → has_module «module».old.held ≡ true
+        → IfSome (prepared «module».old.held)
+        (λ ready. result ≡ 0 → (loaded other.new.held ≡ Some ready.valid)
+        × (prepared other.new.held ≡ Some ready)) }
+    ensures refused { is_none other.old.held ≡ true → has_module «module».old.held ≡ true
+        → IfSome (prepared «module».old.held)
+        (λ ready. result ≢ 0 → (result ≡ 40) × (other.new.held ≡ None)) }
     ensures bytes { result ≡ 0 → bytes_of other.new.held ≡ bytes_of «module».old.held }
     ensures kept { «module».new.held ≡ «module».old.held }
 {
@@ -208,15 +222,18 @@ pub extern "C" fn sandbox_open_loaded(
     supplies: &Supplies<'static>,
     volume: &VolumeSource<'_>,
 ) -> u32
-    ensures misuse { ((is_none session.old.held ≡ false) ⊎ (is_none (origin_of volume.now) ≡ true)) ⊎ (is_none (loaded «module».old.held) ≡ true)
-        → (result ≡ 100) × (session.new.held ≡ session.old.held) × («module».new.held ≡ «module».old.held) }
-    ensures opened { is_none session.old.held ≡ true → IfSome (origin_of volume.now) (λ origin.
-        IfSome (loaded «module».old.held) (λ m. result ≡ 0
-        → IsSomeAnd (running session.new.held) (Begins m supplies.now origin) × («module».new.held ≡ None)
-        × (prepared session.new.held ≡ prepared «module».old.held))) }
-    ensures refused { is_none session.old.held ≡ true → IfSome (origin_of volume.now) (λ origin.
-        IfSome (loaded «module».old.held) (λ m. result ≢ 0 → (session.new.held ≡ session.old.held)
-        × («module».new.held ≡ «module».old.held) × NotBegunOf (prepared «module».old.held) m supplies.now origin result)) }
+    ensures misuse { ((is_none session.old.held ≡ false) ⊎ (is_none (origin_of volume.now) ≡ true))
+        ⊎ (is_none (loaded «module».old.held) ≡ true) → (result ≡ 100)
+        × (session.new.held ≡ session.old.held) × («module».new.held ≡ «module».old.held) }
+    ensures opened { is_none session.old.held ≡ true
+        → IfSome (origin_of volume.now) (λ origin. IfSome (loaded «module».old.held)
+        (λ m. result ≡ 0 → IsSomeAnd (running session.new.held) (Begins m supplies.now origin)
+        × («module».new.held ≡ None) × (prepared session.new.held ≡ prepared «module».old.held))) }
+    ensures refused { is_none session.old.held ≡ true
+        → IfSome (origin_of volume.now) (λ origin. IfSome (loaded «module».old.held)
+        (λ m. result ≢ 0 → (session.new.held ≡ session.old.held)
+        × («module».new.held ≡ «module».old.held) × NotBegunOf (prepared «module».old.held) m
+        supplies.now origin result)) }
     ensures bytes { result ≡ 0 → bytes_of session.new.held ≡ bytes_of «module».old.held }
 {
     sandbox_host::open_loaded(alloc, session, module, supplies, volume)
@@ -275,11 +292,14 @@ pub extern "C" fn sandbox_frame_at(
     number: usize,
     told: &mut FunctionFrame,
 ) -> u32
-    ensures misuse { is_none (machine_of session.old.held) ≡ true → (result ≡ 100) × (told.new ≡ told.old) }
+    ensures misuse { is_none (machine_of session.old.held) ≡ true → (result ≡ 100)
+        × (told.new ≡ told.old) }
     ensures none { IfSome (machine_of session.old.held) (λ m. slice_get (frames_of m) number ≡ None
         → (result ≡ 101) × (told.new ≡ told.old)) }
-    ensures told { IfSome (machine_of session.old.held) (λ m. IfSome (slice_get (frames_of m) number) (λ frame. (result ≡ 0)
-        × TellsFrame (bytes_of session.old.held) m.valid number frame told.new)) }
+    ensures told { IfSome (machine_of session.old.held)
+        (λ m. IfSome (slice_get (frames_of m) number)
+        (λ frame. (result ≡ 0) × TellsFrame (bytes_of session.old.held) m.valid number frame
+        told.new)) }
     ensures kept { session.new.held ≡ session.old.held }
 {
     sandbox_host::frame_at(alloc, session, number, told)
@@ -329,8 +349,10 @@ pub extern "C" fn sandbox_operation_at(
     number: usize,
     told: &mut VolumeOperation,
 ) -> u32
-    ensures misuse { is_none (recorded session.old.held) ≡ true → (result ≡ 100) × (told.new ≡ told.old) }
-    ensures lost { IfSome (recorded session.old.held) (λ d. d.is_whole ≡ false → (result ≡ 40) × (told.new ≡ told.old)) }
+    ensures misuse { is_none (recorded session.old.held) ≡ true → (result ≡ 100)
+        × (told.new ≡ told.old) }
+    ensures lost { IfSome (recorded session.old.held)
+        (λ d. d.is_whole ≡ false → (result ≡ 40) × (told.new ≡ told.old)) }
     ensures told { IfSome (recorded session.old.held) (λ d. d.is_whole ≡ true
         → (result ≡ 0) × (told.new ≡ told_operation (operation_of d number) told.old)) }
     ensures kept { session.new.held ≡ session.old.held }
@@ -343,7 +365,8 @@ pub extern "C" fn sandbox_operation_at(
 pub extern "C" fn sandbox_close(alloc: Global, session: &mut Handle) -> u32
     ensures misuse { has_session session.old.held ≡ false
         → (result ≡ 100) × (session.new.held ≡ session.old.held) }
-    ensures closed { has_session session.old.held ≡ true → (result ≡ 0) × (session.new.held ≡ None) }
+    ensures closed { has_session session.old.held ≡ true → (result ≡ 0)
+        × (session.new.held ≡ None) }
 {
     sandbox_host::close(alloc, session)
 }
@@ -355,10 +378,12 @@ pub extern "C" fn sandbox_close_loaded(
     session: &mut Handle,
     module: &mut Handle,
 ) -> u32
-    ensures misuse { (is_none (finished session.old.held) ≡ true) ⊎ (is_none «module».old.held ≡ false)
-        → (result ≡ 100) × (session.new.held ≡ session.old.held) × («module».new.held ≡ «module».old.held) }
-    ensures closed { IfSome (finished session.old.held) (λ e. is_none «module».old.held ≡ true
-        → (result ≡ 0) × (session.new.held ≡ None) × (loaded «module».new.held ≡ Some (module_of e.loaded))
+    ensures misuse { (is_none (finished session.old.held) ≡ true)
+        ⊎ (is_none «module».old.held ≡ false) → (result ≡ 100)
+        × (session.new.held ≡ session.old.held) × («module».new.held ≡ «module».old.held) }
+    ensures closed { IfSome (finished session.old.held)
+        (λ e. is_none «module».old.held ≡ true → (result ≡ 0) × (session.new.held ≡ None)
+        × (loaded «module».new.held ≡ Some (module_of e.loaded))
         × (prepared «module».new.held ≡ prepared session.old.held)) }
     ensures bytes { result ≡ 0 → bytes_of «module».new.held ≡ bytes_of session.old.held }
 {
@@ -370,7 +395,8 @@ pub extern "C" fn sandbox_close_loaded(
 pub extern "C" fn sandbox_unload(alloc: Global, module: &mut Handle) -> u32
     ensures misuse { has_module «module».old.held ≡ false
         → (result ≡ 100) × («module».new.held ≡ «module».old.held) }
-    ensures closed { has_module «module».old.held ≡ true → (result ≡ 0) × («module».new.held ≡ None) }
+    ensures closed { has_module «module».old.held ≡ true → (result ≡ 0)
+        × («module».new.held ≡ None) }
 {
     sandbox_host::unload(alloc, module)
 }
@@ -378,8 +404,10 @@ pub extern "C" fn sandbox_unload(alloc: Global, module: &mut Handle) -> u32
 /// Makes sectors an empty volume.
 #[unsafe(no_mangle)]
 pub extern "C" fn sandbox_format(alloc: Global, sectors: &mut [[u8; 512]], slots: u32) -> u32
-    ensures formatted { result ≡ 0 → StandsAs (image_of sectors.new) (fresh (length sectors.old) slots) (empty_tree slots) }
-    ensures refused { result ≢ 0 → IsUnformatted (fresh (length sectors.old) slots) result × (sectors.new ≡ sectors.old) }
+    ensures formatted { result ≡ 0 → StandsAs (image_of sectors.new)
+        (fresh (length sectors.old) slots) (empty_tree slots) }
+    ensures refused { result ≢ 0 → IsUnformatted (fresh (length sectors.old) slots) result
+        × (sectors.new ≡ sectors.old) }
     ensures kept { length sectors.new ≡ length sectors.old }
 {
     sandbox_host::format(alloc, sectors, slots)
@@ -388,8 +416,10 @@ pub extern "C" fn sandbox_format(alloc: Global, sectors: &mut [[u8; 512]], slots
 /// Makes sectors an empty volume of version 4.
 #[unsafe(no_mangle)]
 pub extern "C" fn sandbox_format_huge(alloc: Global, sectors: &mut [[u8; 512]], slots: u32) -> u32
-    ensures formatted { result ≡ 0 → StandsAs (image_of sectors.new) (fresh_as Four (length sectors.old) slots) (empty_tree slots) }
-    ensures refused { result ≢ 0 → IsUnformatted (fresh_as Four (length sectors.old) slots) result × (sectors.new ≡ sectors.old) }
+    ensures formatted { result ≡ 0 → StandsAs (image_of sectors.new)
+        (fresh_as Four (length sectors.old) slots) (empty_tree slots) }
+    ensures refused { result ≢ 0 → IsUnformatted (fresh_as Four (length sectors.old) slots) result
+        × (sectors.new ≡ sectors.old) }
     ensures kept { length sectors.new ≡ length sectors.old }
 {
     sandbox_host::format_huge(alloc, sectors, slots)
@@ -408,8 +438,9 @@ pub extern "C" fn sandbox_plugin_load(
     ensures misuse { is_none plugin.old.held ≡ false
         → (result ≡ 100) × (plugin.new ≡ plugin.old) × (why.new ≡ why.old) }
     ensures loaded { is_none plugin.old.held ≡ true → result ≡ 0
-        → IsSomeAnd (plugin_of plugin.new.held) (λ ready. IsLoadedWith (profile_of floats) bytes.now ready.valid × (ready.pages ≡ most_pages limits.now))
-        × (why.new ≡ why.old) }
+        → IsSomeAnd (plugin_of plugin.new.held)
+        (λ ready. IsLoadedWith (profile_of floats) bytes.now ready.valid
+        × (ready.pages ≡ most_pages limits.now)) × (why.new ≡ why.old) }
     ensures refused { is_none plugin.old.held ≡ true → result ≢ 0 → (plugin.new.held ≡ None)
         × NotPluggedWith (profile_of floats) bytes.now limits.now result why.old why.new }
     ensures bytes { result ≡ 0 → bytes_of plugin.new.held ≡ bytes.now }
@@ -426,10 +457,11 @@ pub extern "C" fn sandbox_plugin_share(
 ) -> u32
     ensures misuse { (is_none other.old.held ≡ false) ⊎ (is_none (plugin_of plugin.old.held) ≡ true)
         → (result ≡ 100) × (other.new.held ≡ other.old.held) }
-    ensures shared { is_none other.old.held ≡ true → IfSome (plugin_of plugin.old.held) (λ ready. result ≡ 0
-        → plugin_of other.new.held ≡ Some ready) }
-    ensures refused { is_none other.old.held ≡ true → IfSome (plugin_of plugin.old.held) (λ ready. result ≢ 0
-        → (result ≡ 40) × (other.new.held ≡ None)) }
+    ensures shared { is_none other.old.held ≡ true → IfSome (plugin_of plugin.old.held)
+        (λ ready. result ≡ 0 → plugin_of other.new.held ≡ Some ready) }
+    ensures refused { is_none other.old.held ≡ true
+        → IfSome (plugin_of plugin.old.held)
+        (λ ready. result ≢ 0 → (result ≡ 40) × (other.new.held ≡ None)) }
     ensures bytes { result ≡ 0 → bytes_of other.new.held ≡ bytes_of plugin.old.held }
     ensures kept { plugin.new.held ≡ plugin.old.held }
 {
@@ -445,8 +477,10 @@ pub extern "C" fn sandbox_plugin_name(
     index: usize,
     room: &mut [u8],
 ) -> usize
-    ensures named { IfSome (plugin_of plugin.old.held) (λ ready. IsNamed ready.valid part index room.old room.new result) }
-    ensures misuse { is_none (plugin_of plugin.old.held) ≡ true → (result ≡ 2 ^ 64 - 1) × (room.new ≡ room.old) }
+    ensures named { IfSome (plugin_of plugin.old.held)
+        (λ ready. IsNamed ready.valid part index room.old room.new result) }
+    ensures misuse { is_none (plugin_of plugin.old.held) ≡ true → (result ≡ 2 ^ 64 - 1)
+        × (room.new ≡ room.old) }
     ensures kept { plugin.new.held ≡ plugin.old.held }
 {
     sandbox_host::plugin_name(alloc, plugin, part, index, room)
@@ -471,8 +505,9 @@ pub extern "C" fn sandbox_instance_open(
     supplies: &Supplies<'static>,
     volume: &VolumeSource<'_>,
 ) -> u32
-    ensures misuse { ((is_none instance.old.held ≡ false) ⊎ (is_none (origin_of volume.now) ≡ true)) ⊎ (is_none (plugin_of plugin.old.held) ≡ true)
-        → (result ≡ 100) × (instance.new.held ≡ instance.old.held) }
+    ensures misuse { ((is_none instance.old.held ≡ false) ⊎ (is_none (origin_of volume.now) ≡ true))
+        ⊎ (is_none (plugin_of plugin.old.held) ≡ true) → (result ≡ 100)
+        × (instance.new.held ≡ instance.old.held) }
     ensures opened { is_none instance.old.held ≡ true → IfSome (origin_of volume.now) (λ origin.
         IfSome (plugin_of plugin.old.held) (λ ready. result ≡ 0
         → IsSomeAnd (living instance.new.held) (BeginsInstance ready.valid supplies.now origin))) }
@@ -495,8 +530,9 @@ pub extern "C" fn sandbox_invoke(
 ) -> u32
     ensures misuse { is_none (living instance.old.held) ≡ true
         → (result ≡ 100) × (instance.new.held ≡ instance.old.held) }
-    ensures invoked { IfSome (living instance.old.held) (λ old.
-        IsSomeAnd (living instance.new.held) (λ new. Answered result old new (Invokes old new name.now arguments.now)
+    ensures invoked { IfSome (living instance.old.held)
+        (λ old. IsSomeAnd (living instance.new.held)
+        (λ new. Answered result old new (Invokes old new name.now arguments.now)
         (NoCall old name.now arguments.now))) }
     ensures bytes { bytes_of instance.new.held ≡ bytes_of instance.old.held }
 {
@@ -513,8 +549,10 @@ pub extern "C" fn sandbox_go(
 ) -> u32
     ensures misuse { is_none (living instance.old.held) ≡ true
         → (result ≡ 100) × (instance.new.held ≡ instance.old.held) × (told.new ≡ told.old) }
-    ensures went { IfSome (living instance.old.held) (λ old. IsSomeAnd (living instance.new.held) (λ new.
-        Answered result old new (Went units old new told.new) (NoGoing old) × (result ≢ 0 → told.new ≡ told.old))) }
+    ensures went { IfSome (living instance.old.held)
+        (λ old. IsSomeAnd (living instance.new.held)
+        (λ new. Answered result old new (Went units old new told.new) (NoGoing old)
+        × (result ≢ 0 → told.new ≡ told.old))) }
     ensures bytes { bytes_of instance.new.held ≡ bytes_of instance.old.held }
 {
     sandbox_host::go(alloc, instance, units, told)
@@ -523,8 +561,10 @@ pub extern "C" fn sandbox_go(
 /// Copies the arguments of the host's function that is called, or the result.
 #[unsafe(no_mangle)]
 pub extern "C" fn sandbox_values(alloc: Global, instance: &mut Handle, room: &mut [u64]) -> usize
-    ensures shown { IfSome (living instance.old.held) (λ s. IsHandedOver s room.old room.new result) }
-    ensures none { is_none (living instance.old.held) ≡ true → (result ≡ 0) × (room.new ≡ room.old) }
+    ensures shown { IfSome (living instance.old.held)
+        (λ s. IsHandedOver s room.old room.new result) }
+    ensures none { is_none (living instance.old.held) ≡ true → (result ≡ 0)
+        × (room.new ≡ room.old) }
     ensures kept { instance.new.held ≡ instance.old.held }
 {
     sandbox_host::values(alloc, instance, room)
@@ -535,9 +575,9 @@ pub extern "C" fn sandbox_values(alloc: Global, instance: &mut Handle, room: &mu
 pub extern "C" fn sandbox_answer(alloc: Global, instance: &mut Handle, results: &[u64]) -> u32
     ensures misuse { is_none (living instance.old.held) ≡ true
         → (result ≡ 100) × (instance.new.held ≡ instance.old.held) }
-    ensures answered { IfSome (living instance.old.held) (λ old.
-        IsSomeAnd (living instance.new.held) (λ new. Answered result old new (Answers old new results.now)
-        (NoAnswer old results.now))) }
+    ensures answered { IfSome (living instance.old.held)
+        (λ old. IsSomeAnd (living instance.new.held)
+        (λ new. Answered result old new (Answers old new results.now) (NoAnswer old results.now))) }
     ensures bytes { bytes_of instance.new.held ≡ bytes_of instance.old.held }
 {
     sandbox_host::answer(alloc, instance, results)
@@ -548,9 +588,9 @@ pub extern "C" fn sandbox_answer(alloc: Global, instance: &mut Handle, results: 
 pub extern "C" fn sandbox_abandon(alloc: Global, instance: &mut Handle) -> u32
     ensures misuse { is_none (living instance.old.held) ≡ true
         → (result ≡ 100) × (instance.new.held ≡ instance.old.held) }
-    ensures abandoned { IfSome (living instance.old.held) (λ old.
-        IsSomeAnd (living instance.new.held) (λ new. Answered result old new (Does known old acts.abandoned new)
-        (NoLettingGo old))) }
+    ensures abandoned { IfSome (living instance.old.held)
+        (λ old. IsSomeAnd (living instance.new.held)
+        (λ new. Answered result old new (Does known old acts.abandoned new) (NoLettingGo old))) }
     ensures bytes { bytes_of instance.new.held ≡ bytes_of instance.old.held }
 {
     sandbox_host::abandon(alloc, instance)
@@ -573,8 +613,10 @@ pub extern "C" fn sandbox_memory_read(
     address: u32,
     room: &mut [u8],
 ) -> u32
-    ensures misuse { is_none (living instance.old.held) ≡ true → (result ≡ 100) × (room.new ≡ room.old) }
-    ensures read { IfSome (living instance.old.held) (λ s. IsRead s.machine.memory address room.old room.new result) }
+    ensures misuse { is_none (living instance.old.held) ≡ true → (result ≡ 100)
+        × (room.new ≡ room.old) }
+    ensures read { IfSome (living instance.old.held)
+        (λ s. IsRead s.machine.memory address room.old room.new result) }
     ensures kept { instance.new.held ≡ instance.old.held }
 {
     sandbox_host::memory_read(alloc, instance, address, room)
@@ -590,8 +632,10 @@ pub extern "C" fn sandbox_memory_write(
 ) -> u32
     ensures misuse { is_none (living instance.old.held) ≡ true
         → (result ≡ 100) × (instance.new.held ≡ instance.old.held) }
-    ensures written { IfSome (living instance.old.held) (λ old. IsSomeAnd (living instance.new.held) (λ new.
-        Answered result old new (Does known old (acts.wrote (written old.machine.memory address bytes.now)) new)
+    ensures written { IfSome (living instance.old.held)
+        (λ old. IsSomeAnd (living instance.new.held)
+        (λ new. Answered result old new (Does known old
+        (acts.wrote (written old.machine.memory address bytes.now)) new)
         (NoWrite old address bytes.now))) }
     ensures bytes { bytes_of instance.new.held ≡ bytes_of instance.old.held }
 {

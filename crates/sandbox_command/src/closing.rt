@@ -93,9 +93,9 @@ pub(crate) fn finished<D: Drop, I: Drop, O: Write + Drop, R: Drop, W1: Drop, W2:
 ) -> (Ending, Option<Stopped>, RunLeft<D, I, O, R, W1, W2>)
     ensures ending { (result.0.status ≡ ended.status) × (result.0.summary ≡ ended.summary) }
     ensures stopped { result.1 ≡ ended.stopped }
-    ensures left { (own : SinkValue O W2)
-        × AppendsSome (sink_contents O.contents W2.contents (own_of ended.err spare.err)) (sink_contents O.contents W2.contents own)
-        × (result.2 ≡ left_of ended spare own) }
+    ensures left { (own : SinkValue O W2) × AppendsSome
+        (sink_contents O.contents W2.contents (own_of ended.err spare.err))
+        (sink_contents O.contents W2.contents own) × (result.2 ≡ left_of ended spare own) }
 {
     let Executed {
         status,
@@ -124,7 +124,8 @@ pub(crate) fn finished<D: Drop, I: Drop, O: Write + Drop, R: Drop, W1: Drop, W2:
 
 /// Whether a guest ran.
 fn has_begun(summary: &Option<Summary>) -> bool
-    ensures { result ≡ false → (outcome : Outcome) (s : SummaryValue) → summary.now ≡ Some s → s.end ≡ Ran outcome → ⊥ }
+    ensures { result ≡ false → (outcome : Outcome) (s : SummaryValue) → summary.now ≡ Some s
+        → s.end ≡ Ran outcome → ⊥ }
 {
     match summary {
         Some(summary) => matches!(summary.end, End::Ran(_)),
@@ -190,7 +191,8 @@ pub(crate) fn handed_out<P: Places, W: Write>(
     ending: Ending,
     err: &mut W,
 ) -> Ending
-    ensures hands { Hands P.Places name.entry device.now ending.status ending.summary places.old places.new result.status result.summary }
+    ensures hands { Hands P.Places name.entry device.now ending.status ending.summary places.old
+        places.new result.status result.summary }
     ensures lines { AppendsSome (W.contents err.old) (W.contents err.new) }
 {
     let Some(path) = name else {
@@ -308,8 +310,8 @@ fn given<P: Places, W: Write>(
     ending: Ending,
     err: &mut W,
 ) -> (Ending, RamDevice)
-    ensures gives { Gives P.Places name.entry device ending.status ending.summary places.old places.new
-        result.0.status result.0.summary result.1 }
+    ensures gives { Gives P.Places name.entry device ending.status ending.summary places.old
+        places.new result.0.status result.0.summary result.1 }
     ensures lines { AppendsSome (W.contents err.old) (W.contents err.new) }
 {
     let Some(path) = name else {
@@ -332,10 +334,12 @@ pub(crate) fn delivered<P: Places, R: Drop, W1: Drop, W2: Write + Drop>(
     left: RunLeft<RamDevice, P::Input, P::Output, R, W1, W2>,
     ending: Ending,
 ) -> (Ending, RunLeft<RamDevice, P::Input, P::Output, R, W1, W2>)
-    ensures hands { HandsAll P.Places run.now left.device ending.status ending.summary places.old places.new
-        result.0.status result.0.summary result.1.device }
-    ensures rest { (own : SinkValue P.Output W2) × (result.1 ≡ record left { device = result.1.device; own = own })
-        × AppendsSome (sink_contents P.Output.contents W2.contents left.own) (sink_contents P.Output.contents W2.contents own) }
+    ensures hands { HandsAll P.Places run.now left.device ending.status ending.summary places.old
+        places.new result.0.status result.0.summary result.1.device }
+    ensures rest { (own : SinkValue P.Output W2)
+        × (result.1 ≡ record left { device = result.1.device; own = own })
+        × AppendsSome (sink_contents P.Output.contents W2.contents left.own)
+        (sink_contents P.Output.contents W2.contents own) }
 {
     let RunLeft {
         device,
@@ -384,8 +388,10 @@ fn print_stacks<P: Places>(
 ) -> io::Result<()>
     requires { P.is_output name.now file.old }
     ensures asked { P.asked (Prints name.now) places.old places.new }
-    ensures refused { IfErr result (λ error. P.refused (Prints name.now) (error_kind error) places.old places.new) }
-    ensures printed { OnOk result ((text : Text) × IsProfileOf «module».now fuel_use.now text × P.printed name.now text places.old places.new
+    ensures refused { IfErr result (λ error. P.refused (Prints name.now) (error_kind error)
+        places.old places.new) }
+    ensures printed { OnOk result ((text : Text) × IsProfileOf «module».now fuel_use.now text
+        × P.printed name.now text places.old places.new
         × Appends (P.Output.contents file.old) (P.Output.contents file.new) text) }
 {
     let names = StackNames::of(alloc, module, fuel_use);
@@ -404,8 +410,8 @@ fn print_use<P: Places, W: Write>(
     err: &mut W,
 ) -> Ending
     requires { P.is_output name.now file }
-    ensures profile { PrintsProfile P.Places P.Output.Write «module».now fuel_use.now name.now file ending.status ending.summary
-        places.old places.new result.status result.summary }
+    ensures profile { PrintsProfile P.Places P.Output.Write «module».now fuel_use.now name.now file
+        ending.status ending.summary places.old places.new result.status result.summary }
     ensures lines { AppendsSome (W.contents err.old) (W.contents err.new) }
 {
     let mut file = file;
@@ -445,8 +451,8 @@ pub(crate) fn profiled<P: Places, W: Write>(
 ) -> Ending
     requires file { IsOfName P.is_output run.now.profile file }
     requires told { TellsUse file stopped }
-    ensures profile { IsProfiled P.Places P.Output.Write «module».now stopped run.now.profile file ending.status ending.summary
-        places.old places.new result.status result.summary }
+    ensures profile { IsProfiled P.Places P.Output.Write «module».now stopped run.now.profile file
+        ending.status ending.summary places.old places.new result.status result.summary }
     ensures lines { AppendsSome (W.contents err.old) (W.contents err.new) }
 {
     let (Some(name), Some(file)) = (run.profile, file) else {
@@ -471,7 +477,8 @@ pub(crate) fn told<P: Places, W: Write>(
     err: &mut W,
 ) -> u8
     requires { IsOfName P.is_output name report }
-    ensures tells { IsTold P.Places P.Output.Write name.entry report ending.summary lines.now ending.status places.old places.new result }
+    ensures tells { IsTold P.Places P.Output.Write name.entry report ending.summary lines.now
+        ending.status places.old places.new result }
     ensures lines { AppendsSome (W.contents err.old) (W.contents err.new) }
 {
     let (Some(name), Some(mut report), Some(summary)) = (name, report, ending.summary) else {

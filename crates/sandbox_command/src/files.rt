@@ -52,9 +52,10 @@ pub fn exit_code<R: Inlet + Drop, W1: Outlet + Drop, W2: Outlet + Drop>(
     out: W1,
     mut err: W2,
 ) -> ExitCode
-    ensures tells { IsAnswered R.Read W1.Write W2.Write (flushing FileFlushed HasRefused W1.flushed W1.refuses W2.flushed W2.refuses)
-        (calling WasGiven HasRefused FileTook HasRefused R.gave R.refused W1.took W1.refused W2.took W2.refused)
-        (record { input = input; out = out; err = err }) (exit_status result) }
+    ensures tells { IsAnswered R.Read W1.Write W2.Write
+        (flushing FileFlushed HasRefused W1.flushed W1.refuses W2.flushed W2.refuses)
+        (calling WasGiven HasRefused FileTook HasRefused R.gave R.refused W1.took W1.refused W2.took
+        W2.refused) (record { input = input; out = out; err = err }) (exit_status result) }
     ensures within { exit_status result ≤ 125 }
 {
     let words = match words_given(rt) {
@@ -80,7 +81,8 @@ pub fn perform<R: Inlet + Drop, W1: Outlet + Drop, W2: Outlet + Drop>(
 ) -> u8
     ensures tells { IsPerformedOnSystem R.Read W1.Write W2.Write
         (flushing FileFlushed HasRefused W1.flushed W1.refuses W2.flushed W2.refuses)
-        (calling WasGiven HasRefused FileTook HasRefused R.gave R.refused W1.took W1.refused W2.took W2.refused) invocation.now (record { input = input; out = out; err = err }) result }
+        (calling WasGiven HasRefused FileTook HasRefused R.gave R.refused W1.took W1.refused W2.took
+        W2.refused) invocation.now (record { input = input; out = out; err = err }) result }
     ensures within { result ≤ 124 }
 {
     let mut places = HostPlaces::of(rt, invocation);
@@ -102,10 +104,11 @@ pub fn perform_in<P: Places, R: Inlet + Drop, W1: Outlet + Drop, W2: Outlet + Dr
     invocation: &Invocation<'_>,
     given: Streams<R, W1, W2>,
 ) -> u8
-    ensures tells { IsPerformed (around P.Places P.Input.Read P.Output.Write P.Volume.Device R.Read W1.Write W2.Write
-        (flushing P.Output.flushed P.Output.refuses W1.flushed W1.refuses W2.flushed W2.refuses)
-        (calling P.Input.gave P.Input.refused P.Output.took P.Output.refused R.gave R.refused W1.took W1.refused W2.took W2.refused))
-        invocation.now given places.old places.new result }
+    ensures tells { IsPerformed (around P.Places P.Input.Read P.Output.Write P.Volume.Device R.Read
+        W1.Write W2.Write (flushing P.Output.flushed P.Output.refuses W1.flushed W1.refuses
+        W2.flushed W2.refuses) (calling P.Input.gave P.Input.refused P.Output.took P.Output.refused
+        R.gave R.refused W1.took W1.refused W2.took W2.refused)) invocation.now given places.old
+        places.new result }
     ensures within { result ≤ 124 }
 {
     if clashes(invocation) {
@@ -174,10 +177,10 @@ fn end_clashing<P: Places, R: Inlet + Drop, W1: Outlet + Drop, W2: Outlet + Drop
     given: Streams<R, W1, W2>,
 ) -> u8
     ensures status { result ≡ 124 }
-    ensures ends { EndsGiven (around P.Places P.Input.Read P.Output.Write P.Volume.Device R.Read W1.Write W2.Write
-        (flushing P.Output.flushed P.Output.refuses W1.flushed W1.refuses W2.flushed W2.refuses)
-        (calling P.Input.gave P.Input.refused P.Output.took P.Output.refused R.gave R.refused W1.took W1.refused W2.took W2.refused))
-        given places.old places.new }
+    ensures ends { EndsGiven (around P.Places P.Input.Read P.Output.Write P.Volume.Device R.Read
+        W1.Write W2.Write (flushing P.Output.flushed P.Output.refuses W1.flushed W1.refuses
+        W2.flushed W2.refuses) (calling P.Input.gave P.Input.refused P.Output.took P.Output.refused
+        R.gave R.refused W1.took W1.refused W2.took W2.refused)) given places.old places.new }
 {
     let mut given = given;
     let status = program::refuse_setting(&mut given.err);
@@ -197,15 +200,16 @@ fn execute_on<P: Places, R: Inlet + Drop, W1: Outlet + Drop, W2: Outlet + Drop>(
     device: io::Result<P::Volume>,
     given: Streams<R, W1, W2>,
 ) -> u8
-    ensures tells { MatchResult device
-        (λ device. HasExecuted (around P.Places P.Input.Read P.Output.Write P.Volume.Device R.Read W1.Write W2.Write
+    ensures tells { MatchResult device (λ device. HasExecuted
+        (around P.Places P.Input.Read P.Output.Write P.Volume.Device R.Read W1.Write W2.Write
         (flushing P.Output.flushed P.Output.refuses W1.flushed W1.refuses W2.flushed W2.refuses)
-        (calling P.Input.gave P.Input.refused P.Output.took P.Output.refused R.gave R.refused W1.took W1.refused W2.took W2.refused))
-        work.entry device given places.old places.new result)
-        (λ error. (result ≡ file_status (error_kind error))
-        × EndsGiven (around P.Places P.Input.Read P.Output.Write P.Volume.Device R.Read W1.Write W2.Write
-        (flushing P.Output.flushed P.Output.refuses W1.flushed W1.refuses W2.flushed W2.refuses)
-        (calling P.Input.gave P.Input.refused P.Output.took P.Output.refused R.gave R.refused W1.took W1.refused W2.took W2.refused)) given places.old places.new) }
+        (calling P.Input.gave P.Input.refused P.Output.took P.Output.refused R.gave R.refused
+        W1.took W1.refused W2.took W2.refused)) work.entry device given places.old places.new
+        result) (λ error. (result ≡ file_status (error_kind error))
+        × EndsGiven (around P.Places P.Input.Read P.Output.Write P.Volume.Device R.Read W1.Write
+        W2.Write (flushing P.Output.flushed P.Output.refuses W1.flushed W1.refuses W2.flushed
+        W2.refuses) (calling P.Input.gave P.Input.refused P.Output.took P.Output.refused R.gave
+        R.refused W1.took W1.refused W2.took W2.refused)) given places.old places.new) }
     ensures within { result ≤ 124 }
 {
     match device {
@@ -229,10 +233,11 @@ fn inspect_file<P: Places, R: Inlet + Drop, W1: Outlet + Drop, W2: Outlet + Drop
     floats: bool,
     given: Streams<R, W1, W2>,
 ) -> u8
-    ensures tells { DoesInspect (around P.Places P.Input.Read P.Output.Write P.Volume.Device R.Read W1.Write W2.Write
-        (flushing P.Output.flushed P.Output.refuses W1.flushed W1.refuses W2.flushed W2.refuses)
-        (calling P.Input.gave P.Input.refused P.Output.took P.Output.refused R.gave R.refused W1.took W1.refused W2.took W2.refused))
-        floats path.now given places.old places.new result }
+    ensures tells { DoesInspect (around P.Places P.Input.Read P.Output.Write P.Volume.Device R.Read
+        W1.Write W2.Write (flushing P.Output.flushed P.Output.refuses W1.flushed W1.refuses
+        W2.flushed W2.refuses) (calling P.Input.gave P.Input.refused P.Output.took P.Output.refused
+        R.gave R.refused W1.took W1.refused W2.took W2.refused)) floats path.now given places.old
+        places.new result }
     ensures within { result ≤ 124 }
 {
     match places.bytes(path, MODULE_READ) {

@@ -58,7 +58,8 @@ fn volume_in(
     requires { WasOpened name.now file × WasLocked file }
     ensures volume { IfOk result (IsVolume name.now) }
     ensures unused { IfOk result (λ d. d.device.failures ≡ 0) }
-    ensures enough { IfOk result (λ d. HasRoom (λ it. length it.device.sectors) file_disk only_new (min sectors 16777216) d) }
+    ensures enough { IfOk result (λ d. HasRoom (λ it. length it.device.sectors) file_disk only_new
+        (min sectors 16777216) d) }
 {
     if only_new {
         let kept = FileDevice::lengthened_unless(alloc, file, sectors, &MAGIC)?;
@@ -183,7 +184,8 @@ impl<'a> HostPlaces<'a> {
     fn lengthened(&mut self, name: &str, sectors: u32, only_new: bool) -> io::Result<HostVolume>
         ensures volume { IfOk result (IsVolume name.now) }
         ensures unused { IfOk result (λ d. d.device.failures ≡ 0) }
-        ensures enough { IfOk result (λ d. HasRoom (λ it. length it.device.sectors) file_disk only_new (min sectors 16777216) d) }
+        ensures enough { IfOk result (λ d. HasRoom (λ it. length it.device.sectors) file_disk
+            only_new (min sectors 16777216) d) }
     {
         self.go_on()?;
         let file = FileDevice::lock_or_make(self.rt, name)?;

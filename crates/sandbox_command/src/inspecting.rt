@@ -68,8 +68,10 @@ pub(crate) fn inspect<R: Drop, W1: Outlet + Drop, W2: Write + Drop>(
     profile: Profile,
     given: Streams<R, W1, W2>,
 ) -> Executed<(), R, W1, W2>
-    ensures tells { (failed : Bool) × Inspects profile bytes.now (W1.contents given.out) (W1.contents result.out) failed result.flushed result.status
-        × ((printed : W1) × Hears (Moves W1.took) (Refuses W1.took W1.refused) failed given.out printed) }
+    ensures tells { (failed : Bool) × Inspects profile bytes.now (W1.contents given.out)
+        (W1.contents result.out) failed result.flushed result.status
+        × ((printed : W1) × Hears (Moves W1.took) (Refuses W1.took W1.refused) failed given.out
+        printed) }
     ensures input { result.input ≡ given.input }
     ensures err { AppendsSome (W2.contents given.err) (W2.contents result.err) }
     ensures answered { Answered W1.flushed W1.refuses result.flushed result.out }

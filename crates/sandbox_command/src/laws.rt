@@ -13,8 +13,8 @@ use vol_tree::one_tree;
 
 /// Where a guest ran, by whichever relation machines stand for configurations, the headline holds of it.
 pub fn run_upholds<M: SnapshotMeaning, D: Device, R: Inlet, W1: Outlet, W2: Outlet>()
-    ensures { RunUpholds M.stands D.honest D.disk D.size D.failures D.goes_on R.remaining W1.contents W2.contents
-        (hearing R.gave R.refused W1.took W1.refused W2.took W2.refused) }
+    ensures { RunUpholds M.stands D.honest D.disk D.size D.failures D.goes_on R.remaining
+        W1.contents W2.contents (hearing R.gave R.refused W1.took W1.refused W2.took W2.refused) }
 {
     headline_opened::<M, D, Counted<R>, Counted<W1>, Counted<W2>>();
     turns_are_safe::<D, Counted<R>, Counted<W1>, Counted<W2>>();
@@ -22,8 +22,8 @@ pub fn run_upholds<M: SnapshotMeaning, D: Device, R: Inlet, W1: Outlet, W2: Outl
 
 /// In each run of which it is said that a session ran, alone or as a test of a list, a guest ran, by the machine's own relation.
 pub fn runs_are_guests<D: Device, R: Inlet, W1: Outlet, W2: Outlet>()
-    ensures { RunsAreGuests D.honest D.disk D.size D.failures D.goes_on R.remaining W1.contents W2.contents
-        (hearing R.gave R.refused W1.took W1.refused W2.took W2.refused) }
+    ensures { RunsAreGuests D.honest D.disk D.size D.failures D.goes_on R.remaining W1.contents
+        W2.contents (hearing R.gave R.refused W1.took W1.refused W2.took W2.refused) }
 {}
 
 /// A volume that is made of a tar stream has, when it is opened, the tree that the members of the stream make in an empty one.

@@ -79,7 +79,8 @@ fn word_and_rest(text: &str) -> Option<(&str, &str)>
 
 /// The test of a line, which is four words with one blank between them.
 fn test_of(line: &str) -> Option<TestFiles<'_>>
-    ensures { MatchOption result (IsNoTest line.now) (λ test. (line_of test ≡ line.now) × IsTest test) }
+    ensures { MatchOption result (IsNoTest line.now)
+        (λ test. (line_of test ≡ line.now) × IsTest test) }
 {
     let (input, rest) = word_and_rest(line)?;
     let (output, rest) = word_and_rest(rest)?;
@@ -146,9 +147,11 @@ fn tested<'m, P: Places>(
     requires supplied { AreSupplies run.now supplies.now }
     requires ready { IsReadyFor run.now.limits.pages runnable }
     ensures module { result.0 ≡ runnable.entry }
-    ensures tested { IsTestedOrUnread P.Places P.Input.Read P.Output.Write P.Output.flushed P.Output.refuses (calls_of P.Input.gave P.Input.refused) (calls_of P.Output.took P.Output.refused)
-        run.now files.entry.«module».now (module_in runnable.entry) files.entry.random.now test.entry
-        places.old places.new result.1 result.2.items }
+    ensures tested { IsTestedOrUnread P.Places P.Input.Read P.Output.Write P.Output.flushed
+        P.Output.refuses (calls_of P.Input.gave P.Input.refused)
+        (calls_of P.Output.took P.Output.refused) run.now files.entry.«module».now
+        (module_in runnable.entry) files.entry.random.now test.entry places.old places.new result.1
+        result.2.items }
 {
     match prepare(alloc, places, run, test) {
         Ok(PreparedTest { device, streams }) => {
@@ -180,7 +183,8 @@ fn is_told_of_guest<P: Places>(
     frames: &[u8],
 ) -> bool
     requires { P.is_output name.now report }
-    ensures { IsTold P.Places P.Output.Write result name.now report summary.now frames.now places.old places.new }
+    ensures { IsTold P.Places P.Output.Write result name.now report summary.now frames.now
+        places.old places.new }
 {
     let mut report = report;
     let is_printed = places.print(name, &mut report, summary, frames).is_ok();
@@ -205,12 +209,14 @@ fn run_test<'m, P: Places>(
     requires supplied { AreSupplies run.now supplies.now }
     requires ready { IsReadyFor run.now.limits.pages runnable }
     ensures module { result.0 ≡ runnable.entry }
-    ensures ends { OneEndsAs
-        (HasRun P.Places P.Input.Read P.Output.Write P.Output.flushed P.Output.refuses (calls_of P.Input.gave P.Input.refused) (calls_of P.Output.took P.Output.refused)
-        run.now files.entry.«module».now (module_in runnable.entry) files.entry.random.now)
-        (HasFailed P.Places P.Input.Read P.Output.Write P.Output.flushed P.Output.refuses (calls_of P.Input.gave P.Input.refused) (calls_of P.Output.took P.Output.refused)
-        run.now files.entry.«module».now (module_in runnable.entry) files.entry.random.now)
-        result.1 test.entry places.old places.new }
+    ensures ends { OneEndsAs (HasRun P.Places P.Input.Read P.Output.Write P.Output.flushed
+        P.Output.refuses (calls_of P.Input.gave P.Input.refused)
+        (calls_of P.Output.took P.Output.refused) run.now files.entry.«module».now
+        (module_in runnable.entry) files.entry.random.now)
+        (HasFailed P.Places P.Input.Read P.Output.Write P.Output.flushed P.Output.refuses
+        (calls_of P.Input.gave P.Input.refused) (calls_of P.Output.took P.Output.refused) run.now
+        files.entry.«module».now (module_in runnable.entry) files.entry.random.now) result.1
+        test.entry places.old places.new }
 {
     let Ok(report) = places.make(test.report) else {
         return (runnable, false);
@@ -236,12 +242,14 @@ fn run_all<'m, P: Places>(
 ) -> bool
     requires supplied { AreSupplies run.now supplies.now }
     requires ready { IsReadyFor run.now.limits.pages runnable }
-    ensures { AllEndAs
-        (HasRun P.Places P.Input.Read P.Output.Write P.Output.flushed P.Output.refuses (calls_of P.Input.gave P.Input.refused) (calls_of P.Output.took P.Output.refused)
-        run.now files.entry.«module».now (module_in runnable.entry) files.entry.random.now)
-        (HasFailed P.Places P.Input.Read P.Output.Write P.Output.flushed P.Output.refuses (calls_of P.Input.gave P.Input.refused) (calls_of P.Output.took P.Output.refused)
-        run.now files.entry.«module».now (module_in runnable.entry) files.entry.random.now)
-        result tests.now places.old places.new }
+    ensures { AllEndAs (HasRun P.Places P.Input.Read P.Output.Write P.Output.flushed
+        P.Output.refuses (calls_of P.Input.gave P.Input.refused)
+        (calls_of P.Output.took P.Output.refused) run.now files.entry.«module».now
+        (module_in runnable.entry) files.entry.random.now)
+        (HasFailed P.Places P.Input.Read P.Output.Write P.Output.flushed P.Output.refuses
+        (calls_of P.Input.gave P.Input.refused) (calls_of P.Output.took P.Output.refused) run.now
+        files.entry.«module».now (module_in runnable.entry) files.entry.random.now) result tests.now
+        places.old places.new }
 {
     let mut runnable = runnable;
     let mut have_run = true;
@@ -319,8 +327,9 @@ fn run_tests<P: Places, W: Write>(
     tests: &[TestFiles<'_>],
     err: &mut W,
 ) -> u8
-    ensures runs { RunsTests P.Places P.Input.Read P.Output.Write P.Output.flushed P.Output.refuses (calls_of P.Input.gave P.Input.refused) (calls_of P.Output.took P.Output.refused)
-        run.now «module».now random.now tests.now places.old places.new result }
+    ensures runs { RunsTests P.Places P.Input.Read P.Output.Write P.Output.flushed P.Output.refuses
+        (calls_of P.Input.gave P.Input.refused) (calls_of P.Output.took P.Output.refused) run.now
+        «module».now random.now tests.now places.old places.new result }
     ensures line { AppendsSome (W.contents err.old) (W.contents err.new) }
 {
     let supplies = match supplied(alloc, run) {
@@ -353,10 +362,10 @@ fn list_and_files<P: Places>(
     run: &Run<'_>,
     list: &str,
 ) -> io::Result<(String, Vec<u8>, Vec<u8>)>
-    ensures { MatchResult result
-        (λ it. AreRead P.Places run.now list.now places.old places.new (string_bytes it.0) it.1.items it.2.items)
-        (λ error. IsRefusedAmong P.asked P.refused (list_accesses run.now list.now) (error_kind error)
-        places.old places.new) }
+    ensures { MatchResult result (λ it. AreRead P.Places run.now list.now places.old places.new
+        (string_bytes it.0) it.1.items it.2.items)
+        (λ error. IsRefusedAmong P.asked P.refused (list_accesses run.now list.now)
+        (error_kind error) places.old places.new) }
 {
     let text = places.text(list)?;
     let (module, random) = read_files(alloc, places, run)?;
@@ -372,8 +381,9 @@ fn run_lines<P: Places, W: Write>(
     list: &str,
     err: &mut W,
 ) -> u8
-    ensures runs { RunsLines P.Places P.Input.Read P.Output.Write P.Output.flushed P.Output.refuses (calls_of P.Input.gave P.Input.refused) (calls_of P.Output.took P.Output.refused)
-        run.now list.now places.old places.new result }
+    ensures runs { RunsLines P.Places P.Input.Read P.Output.Write P.Output.flushed P.Output.refuses
+        (calls_of P.Input.gave P.Input.refused) (calls_of P.Output.took P.Output.refused) run.now
+        list.now places.old places.new result }
     ensures line { AppendsSome (W.contents err.old) (W.contents err.new) }
 {
     let (text, module, random) = match list_and_files(alloc, places, run, list) {
@@ -405,10 +415,11 @@ pub fn run_list<P: Places, R: Inlet + Drop, W1: Outlet + Drop, W2: Outlet + Drop
     list: &str,
     given: Streams<R, W1, W2>,
 ) -> u8
-    ensures { RunsList (around P.Places P.Input.Read P.Output.Write P.Volume.Device R.Read W1.Write W2.Write
-        (flushing P.Output.flushed P.Output.refuses W1.flushed W1.refuses W2.flushed W2.refuses)
-        (calling P.Input.gave P.Input.refused P.Output.took P.Output.refused R.gave R.refused W1.took W1.refused W2.took W2.refused))
-        run.now list.now given places.old places.new result }
+    ensures { RunsList (around P.Places P.Input.Read P.Output.Write P.Volume.Device R.Read W1.Write
+        W2.Write (flushing P.Output.flushed P.Output.refuses W1.flushed W1.refuses W2.flushed
+        W2.refuses) (calling P.Input.gave P.Input.refused P.Output.took P.Output.refused R.gave
+        R.refused W1.took W1.refused W2.took W2.refused)) run.now list.now given places.old
+        places.new result }
 {
     let mut given = given;
     let status = run_lines(alloc, places, run, list, &mut given.err);

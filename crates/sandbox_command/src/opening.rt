@@ -62,8 +62,8 @@ pub(crate) fn memory_of<P: Places>(
     ensures sectors { IfOk result (λ device. IsImage run.now.image device.sectors) }
     ensures image { IfOk result (λ device. IsOfImage P.is_image run.now.image device) }
     ensures asked { Chain P.asked (reads_of run.now.image) places.old places.new }
-    ensures refused { IfErr result
-        (λ error. IsRefusedAmong P.asked P.refused (reads_of run.now.image) (error_kind error) places.old places.new
+    ensures refused { IfErr result (λ error. IsRefusedAmong P.asked P.refused
+        (reads_of run.now.image) (error_kind error) places.old places.new
         ⊎ ((run.now.image ≡ None) × (error_kind error ≡ failing.OutOfMemory))) }
 {
     match run.image {
@@ -78,11 +78,11 @@ pub(crate) fn read_files<P: Places>(
     places: &mut P,
     run: &Run<'_>,
 ) -> io::Result<(Vec<u8>, Vec<u8>)>
-    ensures { MatchResult result
-        (λ it. Chain P.asked (file_accesses run.now) places.old places.new
+    ensures { MatchResult result (λ it. Chain P.asked (file_accesses run.now) places.old places.new
         × P.is_beginning run.now.«module».now 67108865 it.0.items
         × IsOfRandom (λ name. P.is_beginning name 67108864) run.now.random it.1.items)
-        (λ error. IsRefusedAmong P.asked P.refused (file_accesses run.now) (error_kind error) places.old places.new) }
+        (λ error. IsRefusedAmong P.asked P.refused (file_accesses run.now) (error_kind error)
+        places.old places.new) }
 {
     let module = places.bytes(run.module, MODULE_READ)?;
     let random = random_of(alloc, places, run)?;
@@ -91,10 +91,11 @@ pub(crate) fn read_files<P: Places>(
 
 /// The random bytes of a run that names a file of them, or none.
 fn random_of<P: Places>(alloc: Global, places: &mut P, run: &Run<'_>) -> io::Result<Vec<u8>>
-    ensures read { IfOk result (λ it. IsOfRandom (λ name. P.is_beginning name 67108864) run.now.random it.items) }
+    ensures read { IfOk result (λ it. IsOfRandom (λ name. P.is_beginning name 67108864)
+        run.now.random it.items) }
     ensures asked { Chain P.asked (reads_of run.now.random) places.old places.new }
-    ensures refused { IfErr result (λ error. IsRefusedAmong P.asked P.refused (reads_of run.now.random) (error_kind error)
-        places.old places.new) }
+    ensures refused { IfErr result (λ error. IsRefusedAmong P.asked P.refused
+        (reads_of run.now.random) (error_kind error) places.old places.new) }
 {
     match run.random {
         Some(file) => places.bytes(file, RANDOM_READ),
@@ -108,11 +109,13 @@ fn medium_of<P: Places>(
     places: &mut P,
     run: &Run<'_>,
 ) -> io::Result<Medium<P::Volume>>
-    ensures medium { IfOk result (IsMedium P.Places P.Volume.Device run.now.volume run.now.image_from run.now.image) }
-    ensures asked { Chain P.asked (medium_accesses run.now.volume run.now.image_from run.now.image) places.old places.new }
-    ensures refused { IfErr result (λ error.
-        IsRefusedAmong P.asked P.refused (medium_accesses run.now.volume run.now.image_from run.now.image) (error_kind error) places.old places.new
-        ⊎ (IsFresh run.now × (error_kind error ≡ failing.OutOfMemory))) }
+    ensures medium { IfOk result (IsMedium P.Places P.Volume.Device run.now.volume
+        run.now.image_from run.now.image) }
+    ensures asked { Chain P.asked (medium_accesses run.now.volume run.now.image_from run.now.image)
+        places.old places.new }
+    ensures refused { IfErr result (λ error. IsRefusedAmong P.asked P.refused
+        (medium_accesses run.now.volume run.now.image_from run.now.image) (error_kind error)
+        places.old places.new ⊎ (IsFresh run.now × (error_kind error ≡ failing.OutOfMemory))) }
 {
     match (run.volume, run.image_from) {
         (Some(path), _) => Ok(Medium::File(places.lock(path)?)),
@@ -125,8 +128,8 @@ fn medium_of<P: Places>(
 fn opened_file<P: Places>(places: &mut P, path: Option<&str>) -> io::Result<Option<P::Input>>
     ensures file { IfOk result (IsOfName P.is_input path.entry) }
     ensures asked { Chain P.asked (where_named Opens path.entry) places.old places.new }
-    ensures refused { IfErr result (λ error. IsRefusedAmong P.asked P.refused (where_named Opens path.entry) (error_kind error)
-        places.old places.new) }
+    ensures refused { IfErr result (λ error. IsRefusedAmong P.asked P.refused
+        (where_named Opens path.entry) (error_kind error) places.old places.new) }
 {
     match path {
         Some(path) => Ok(Some(places.open(path)?)),
@@ -138,8 +141,8 @@ fn opened_file<P: Places>(places: &mut P, path: Option<&str>) -> io::Result<Opti
 fn made_file<P: Places>(places: &mut P, path: Option<&str>) -> io::Result<Option<P::Output>>
     ensures file { IfOk result (IsOfName P.is_output path.entry) }
     ensures asked { Chain P.asked (where_named Makes path.entry) places.old places.new }
-    ensures refused { IfErr result (λ error. IsRefusedAmong P.asked P.refused (where_named Makes path.entry) (error_kind error)
-        places.old places.new) }
+    ensures refused { IfErr result (λ error. IsRefusedAmong P.asked P.refused
+        (where_named Makes path.entry) (error_kind error) places.old places.new) }
 {
     match path {
         Some(path) => Ok(Some(places.make(path)?)),
@@ -155,8 +158,8 @@ fn ledger_of<P: Places>(
 ) -> io::Result<Option<Ledger<P::Output>>>
     ensures ledger { IfOk result (IsLedger P.is_output path.entry) }
     ensures asked { Chain P.asked (where_named Makes path.entry) places.old places.new }
-    ensures refused { IfErr result (λ error.
-        IsRefusedAmong P.asked P.refused (where_named Makes path.entry) (error_kind error) places.old places.new
+    ensures refused { IfErr result (λ error. IsRefusedAmong P.asked P.refused
+        (where_named Makes path.entry) (error_kind error) places.old places.new
         ⊎ (IsSome path.entry × (error_kind error ≡ failing.OutOfMemory))) }
 {
     let Some(path) = path else {
@@ -170,8 +173,8 @@ fn ledger_of<P: Places>(
 /// Opens what gets a volume in memory at the end, or its tree, where one is named.
 fn receive_file<P: Places>(places: &mut P, path: Option<&str>) -> io::Result<()>
     ensures asked { Chain P.asked (where_named Receives path.entry) places.old places.new }
-    ensures refused { IfErr result (λ error. IsRefusedAmong P.asked P.refused (where_named Receives path.entry) (error_kind error)
-        places.old places.new) }
+    ensures refused { IfErr result (λ error. IsRefusedAmong P.asked P.refused
+        (where_named Receives path.entry) (error_kind error) places.old places.new) }
 {
     match path {
         Some(path) => places.receive(path),
@@ -181,7 +184,8 @@ fn receive_file<P: Places>(places: &mut P, path: Option<&str>) -> io::Result<()>
 
 /// Both of these, or the error of the first that has one.
 fn both<A: Drop, B: Drop>(a: io::Result<A>, b: io::Result<B>) -> io::Result<(A, B)>
-    ensures { MatchResult result (λ it. (a ≡ Ok it.0) × (b ≡ Ok it.1)) (λ error. (a ≡ Err error) ⊎ (b ≡ Err error)) }
+    ensures { MatchResult result (λ it. (a ≡ Ok it.0) × (b ≡ Ok it.1))
+        (λ error. (a ≡ Err error) ⊎ (b ≡ Err error)) }
 {
     match (a, b) {
         (Ok(a), Ok(b)) => Ok((a, b)),
@@ -199,7 +203,8 @@ pub(crate) fn open_all<P: Places>(
 ) -> io::Result<RunFiles<P::Input, P::Output, P::Volume>>
     ensures asked { Chain P.asked (run_accesses run.now) places.old places.new }
     ensures opened { IfOk result (AreOpened P.Places P.Volume.Device run.now) }
-    ensures refused { IfErr result (λ error. Lacks P.Places run.now (error_kind error) places.old places.new) }
+    ensures refused { IfErr result (λ error. Lacks P.Places run.now (error_kind error) places.old
+        places.new) }
 {
     let module = places.bytes(run.module, MODULE_READ);
     let random = random_of(alloc, places, run);
@@ -239,7 +244,8 @@ pub(crate) fn made_report<P: Places>(
     path: Option<&str>,
 ) -> io::Result<Option<P::Output>>
     ensures { MatchResult result (HasReport P.Places path.entry places.old places.new)
-        (λ error. IsRefusedAmong P.asked P.refused (report_accesses path.entry) (error_kind error) places.old places.new) }
+        (λ error. IsRefusedAmong P.asked P.refused (report_accesses path.entry) (error_kind error)
+        places.old places.new) }
 {
     let Some(path) = path else {
         return Ok(None);

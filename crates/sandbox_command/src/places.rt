@@ -72,26 +72,30 @@ pub trait Places {
     /// Opens a file to read.
     fn open(&mut self, name: &str) -> io::Result<Self::Input>
         ensures asked { asked (Opens name.now) self.old self.new }
-        ensures refused { IfErr result (λ error. refused (Opens name.now) (error_kind error) self.old self.new) }
+        ensures refused { IfErr result (λ error. refused (Opens name.now) (error_kind error)
+            self.old self.new) }
         ensures input { IfOk result (λ file. is_input name.now file) };
 
     /// Opens a file to write, or makes it. What it had goes when it is first written.
     fn make(&mut self, name: &str) -> io::Result<Self::Output>
         ensures asked { asked (Makes name.now) self.old self.new }
-        ensures refused { IfErr result (λ error. refused (Makes name.now) (error_kind error) self.old self.new) }
+        ensures refused { IfErr result (λ error. refused (Makes name.now) (error_kind error)
+            self.old self.new) }
         ensures output { IfOk result (λ file. is_output name.now file) };
 
     /// Cuts a file to nothing that was made last under this name, and that has no other part in what is done.
     fn cut(&mut self, name: &str, file: Self::Output) -> io::Result<Self::Output>
         requires { is_output name.now file }
         ensures asked { asked (Cuts name.now) self.old self.new }
-        ensures refused { IfErr result (λ error. refused (Cuts name.now) (error_kind error) self.old self.new) }
+        ensures refused { IfErr result (λ error. refused (Cuts name.now) (error_kind error) self.old
+            self.new) }
         ensures output { IfOk result (λ file. is_output name.now file) };
 
     /// Opens and locks the file of a volume, and reads its sectors.
     fn lock(&mut self, name: &str) -> io::Result<Self::Volume>
         ensures asked { asked (Locks name.now) self.old self.new }
-        ensures refused { IfErr result (λ error. refused (Locks name.now) (error_kind error) self.old self.new) }
+        ensures refused { IfErr result (λ error. refused (Locks name.now) (error_kind error)
+            self.old self.new) }
         ensures volume { IfOk result (λ device. is_volume name.now device) }
         ensures unused { IfOk result (λ device. Self.Volume.failures device ≡ 0) };
 
@@ -99,7 +103,8 @@ pub trait Places {
     /// to be new, one that begins as a volume stays as it is.
     fn lengthen(&mut self, name: &str, sectors: u32, only_new: bool) -> io::Result<Self::Volume>
         ensures asked { asked (lengthens only_new name.now sectors) self.old self.new }
-        ensures refused { IfErr result (λ error. refused (lengthens only_new name.now sectors) (error_kind error) self.old self.new) }
+        ensures refused { IfErr result (λ error. refused (lengthens only_new name.now sectors)
+            (error_kind error) self.old self.new) }
         ensures volume { IfOk result (λ device. is_volume name.now device) }
         ensures unused { IfOk result (λ device. Self.Volume.failures device ≡ 0) }
         ensures enough { IfOk result (λ device. HasRoom Self.Volume.size Self.Volume.disk only_new (min sectors 16777216) device) };
@@ -108,20 +113,23 @@ pub trait Places {
     /// to it.
     fn image(&mut self, name: &str) -> io::Result<RamDevice>
         ensures asked { asked (Reads name.now) self.old self.new }
-        ensures refused { IfErr result (λ error. refused (Reads name.now) (error_kind error) self.old self.new) }
+        ensures refused { IfErr result (λ error. refused (Reads name.now) (error_kind error)
+            self.old self.new) }
         ensures image { IfOk result (λ device. is_image name.now device) }
         ensures few { IfOk result (λ device. length device.sectors ≤ 16777216) };
 
     /// Reads the text of a file.
     fn text(&mut self, name: &str) -> io::Result<String>
         ensures asked { asked (Reads name.now) self.old self.new }
-        ensures refused { IfErr result (λ error. refused (Reads name.now) (error_kind error) self.old self.new) }
+        ensures refused { IfErr result (λ error. refused (Reads name.now) (error_kind error)
+            self.old self.new) }
         ensures text { IfOk result (λ text. is_text name.now (string_bytes text)) };
 
     /// Reads the bytes of a file, or this many where it has more.
     fn bytes(&mut self, name: &str, most: u64) -> io::Result<Vec<u8>>
         ensures asked { asked (Reads name.now) self.old self.new }
-        ensures refused { IfErr result (λ error. refused (Reads name.now) (error_kind error) self.old self.new) }
+        ensures refused { IfErr result (λ error. refused (Reads name.now) (error_kind error)
+            self.old self.new) }
         ensures bytes { IfOk result (λ bytes. is_beginning name.now most bytes.items) };
 
     /// Opens and locks what gets a volume, or the tree of one, at the end.
@@ -132,13 +140,15 @@ pub trait Places {
     /// Gives the sectors of a device to what was opened so. Where that could be done in place alone, it says why.
     fn hand_out(&mut self, name: &str, device: &RamDevice) -> io::Result<Option<Hindrance>>
         ensures asked { asked (HandsOut name.now) self.old self.new }
-        ensures refused { IfErr result (λ error. refused (HandsOut name.now) (error_kind error) self.old self.new) }
+        ensures refused { IfErr result (λ error. refused (HandsOut name.now) (error_kind error)
+            self.old self.new) }
         ensures handed { OnOk result (handed_out name.now device.now self.old self.new) };
 
     /// Gives these bytes to what was opened so, in the same way.
     fn hand_over(&mut self, name: &str, bytes: &[u8]) -> io::Result<Option<Hindrance>>
         ensures asked { asked (HandsOver name.now) self.old self.new }
-        ensures refused { IfErr result (λ error. refused (HandsOver name.now) (error_kind error) self.old self.new) }
+        ensures refused { IfErr result (λ error. refused (HandsOver name.now) (error_kind error)
+            self.old self.new) }
         ensures handed { OnOk result (handed_over name.now bytes.now self.old self.new) };
 
     /// Prints a report, and further lines of it, into a file that was made under this name. Where that fails, some of it may have been
@@ -152,8 +162,10 @@ pub trait Places {
     ) -> io::Result<()>
         requires { is_output name.now file.old }
         ensures asked { asked (Prints name.now) self.old self.new }
-        ensures refused { IfErr result (λ error. refused (Prints name.now) (error_kind error) self.old self.new) }
-        ensures printed { OnOk result (printed name.now (report_text summary.now ++ lines.now) self.old self.new) }
+        ensures refused { IfErr result (λ error. refused (Prints name.now) (error_kind error)
+            self.old self.new) }
+        ensures printed { OnOk result (printed name.now (report_text summary.now ++ lines.now)
+            self.old self.new) }
         ensures tells { OnOk result
             (Appends (Self.Output.contents file.old) (Self.Output.contents file.new) (report_text summary.now ++ lines.now)) };
 
@@ -169,7 +181,8 @@ pub trait Places {
     ) -> io::Result<()>
         requires { is_output name.now file.old }
         ensures asked { asked (Prints name.now) self.old self.new }
-        ensures refused { IfErr result (λ error. refused (Prints name.now) (error_kind error) self.old self.new) }
+        ensures refused { IfErr result (λ error. refused (Prints name.now) (error_kind error)
+            self.old self.new) }
         ensures printed { OnOk result ((text : Text) × IsProfile (N.text names.now) stacks.now text × printed name.now text self.old self.new
             × Appends (Self.Output.contents file.old) (Self.Output.contents file.new) text) };
 

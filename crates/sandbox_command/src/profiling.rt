@@ -121,7 +121,8 @@ impl<'a> StackNames<'a> {
 
     /// Adds what a function is called in stacks, looked up.
     fn look_up(&self, line: &mut Vec<u8>, own: usize) -> io::Result<()>
-        ensures { OnOk result (line.new.items ≡ line.old.items ++ stack_name self.now.bytes self.now.imported own) }
+        ensures { OnOk result (line.new.items ≡ line.old.items ++ stack_name self.now.bytes
+            self.now.imported own) }
     {
         let index = (self.imported as u64).saturating_add(own as u64);
         let mut called = Vec::new(self.alloc);

@@ -189,7 +189,8 @@ pub(crate) fn tell_end<W: Write>(err: &mut W, summary: &Summary)
 fn flush_both<W1: Outlet, W2: Outlet>(out: &mut W1, err: &mut W2) -> bool
     ensures out { Keeps (W1.contents out.old) (W1.contents out.new) }
     ensures err { Keeps (W2.contents err.old) (W2.contents err.new) }
-    ensures answered { BothAnswered W1.flushed W1.refuses W2.flushed W2.refuses result out.new err.new }
+    ensures answered { BothAnswered W1.flushed W1.refuses W2.flushed W2.refuses result out.new
+        err.new }
 {
     if !out.try_flush() {
         return false;
@@ -276,12 +277,14 @@ pub(crate) fn reported<D: Device + Drop, R: Drop, W1: Outlet + Drop, W2: Outlet 
 ) -> Executed<D, R, W1, W2>
     ensures stopped { result.stopped ≡ Some stopped }
     ensures ends { EndsWith report.outcome report.volume result.flushed result.status }
-    ensures summary { result.summary ≡ Some (run_summary run.now report tally result.status result.flushed) }
+    ensures summary { result.summary ≡ Some (run_summary run.now report tally result.status
+        result.flushed) }
     ensures device { result.device ≡ returned_device report.volume }
     ensures input { result.input ≡ report.input.stream }
     ensures out { Keeps (W1.contents report.out.stream) (W1.contents result.out) }
     ensures err { Keeps (W2.contents report.err.stream) (W2.contents result.err) }
-    ensures answered { BothAnswered W1.flushed W1.refuses W2.flushed W2.refuses result.flushed result.out result.err }
+    ensures answered { BothAnswered W1.flushed W1.refuses W2.flushed W2.refuses result.flushed
+        result.out result.err }
 {
     let (cut, broken) = (cut_of(&report), is_broken(&report));
     let Report {
@@ -451,9 +454,10 @@ pub(crate) fn run_valid<
     requires new { IfSome stacks (λ s. s ≡ no_stacks) }
     ensures module { result.0 ≡ runnable.entry }
     ensures fuel_use { TellsUse stacks result.1.stopped }
-    ensures runs { RunsOn D.honest D.disk D.size D.failures D.goes_on R.remaining W1.contents W2.contents
-        (hearing R.gave R.refused W1.took W1.refused W2.took W2.refused)
-        run.now (module_in runnable.entry) random.now device streams.input streams.out streams.err result.1 }
+    ensures runs { RunsOn D.honest D.disk D.size D.failures D.goes_on R.remaining W1.contents
+        W2.contents (hearing R.gave R.refused W1.took W1.refused W2.took W2.refused) run.now
+        (module_in runnable.entry) random.now device streams.input streams.out streams.err
+        result.1 }
     ensures answered { RunAnswered W1.flushed W1.refuses W2.flushed W2.refuses result.1 }
 {
     match open_for_run(alloc, volume_of(run), device) {
@@ -488,11 +492,12 @@ pub(crate) fn run<D: Device + Drop, R: Inlet + Drop, W1: Outlet + Drop, W2: Outl
 ) -> (Executed<D, R, W1, W2>, Vec<u8>)
     requires { IfSome stacks (λ s. s ≡ no_stacks) }
     ensures fuel_use { TellsUse stacks result.0.stopped }
-    ensures runs { Runs D.honest D.disk D.size D.failures D.goes_on R.remaining W1.contents W2.contents
-        (hearing R.gave R.refused W1.took W1.refused W2.took W2.refused)
-        run.now «module».now random.now device streams.input streams.out streams.err result.0 }
+    ensures runs { Runs D.honest D.disk D.size D.failures D.goes_on R.remaining W1.contents
+        W2.contents (hearing R.gave R.refused W1.took W1.refused W2.took W2.refused) run.now
+        «module».now random.now device streams.input streams.out streams.err result.0 }
     ensures answered { RunAnswered W1.flushed W1.refuses W2.flushed W2.refuses result.0 }
-    ensures lines { TellsLines (profile_for run.now.floats) «module».now run.now.frames result.0.stopped result.1.items }
+    ensures lines { TellsLines (profile_for run.now.floats) «module».now run.now.frames
+        result.0.stopped result.1.items }
 {
     let (status, fault) = match supplied(alloc, run) {
         Ok(supplies) => match load_with(alloc, module, profile_for(run.floats)) {
@@ -523,10 +528,12 @@ pub fn execute<D: Device + Drop, R: Inlet + Drop, W1: Outlet + Drop, W2: Write +
     device: D,
     given: Streams<R, W1, W2>,
 ) -> Executed<D, R, W1, W2>
-    ensures tells { Executes D.honest D.disk D.size D.failures D.goes_on R.remaining W1.contents W2.contents
-        (calls_of R.gave R.refused) (calls_of W1.took W1.refused) work.entry device given.input given.out given.err result }
+    ensures tells { Executes D.honest D.disk D.size D.failures D.goes_on R.remaining W1.contents
+        W2.contents (calls_of R.gave R.refused) (calls_of W1.took W1.refused) work.entry device
+        given.input given.out given.err result }
     ensures answered { Answered W1.flushed W1.refuses result.flushed result.out }
-    ensures stays_within { StaysWithin D.honest D.disk D.size D.goes_on work.entry device result.device }
+    ensures stays_within { StaysWithin D.honest D.disk D.size D.goes_on work.entry device
+        result.device }
     ensures within { result.status ≤ 124 }
 {
     let mut given = given;

@@ -14,7 +14,8 @@ const PIECE: usize = 16_384;
 /// Reads once, and again where that is interrupted: how many bytes of the piece came, none only at the end.
 fn read_piece<R: Inlet>(input: &mut R, piece: &mut [u8]) -> io::Result<usize>
     ensures few { IfOk result (λ n. n ≤ length piece.new) }
-    ensures gave { IfOk result (λ n. AtLast R.gave R.refused input.old (take n piece.new) input.new) }
+    ensures gave { IfOk result (λ n. AtLast R.gave R.refused input.old (take n piece.new)
+        input.new) }
 {
     for _tries in 0..u64::MAX {
         match input.try_read(piece) {
@@ -32,7 +33,8 @@ fn read_piece<R: Inlet>(input: &mut R, piece: &mut [u8]) -> io::Result<usize>
 /// Reads once, and puts what came behind what is there: how many bytes, none only at the end.
 fn read_more<R: Inlet>(input: &mut R, piece: &mut [u8], bytes: &mut Vec<u8>) -> io::Result<usize>
     ensures few { IfOk result (λ n. n ≤ length piece.new) }
-    ensures gave { IfOk result (λ n. (more : List ℕ) × (length more ≡ n) × AtLast R.gave R.refused input.old more input.new
+    ensures gave { IfOk result (λ n. (more : List ℕ) × (length more ≡ n)
+        × AtLast R.gave R.refused input.old more input.new
         × (bytes.new.items ≡ bytes.old.items ++ more)) }
 {
     let count = read_piece(input, piece)?;
@@ -48,7 +50,8 @@ pub(crate) fn read_whole<R: Inlet>(
     most: u64,
     expected: usize,
 ) -> io::Result<Vec<u8>>
-    ensures { IfOk result (λ bytes. IsWhole (AtLast R.gave R.refused) most input.old bytes.items input.new) }
+    ensures { IfOk result (λ bytes. IsWhole (AtLast R.gave R.refused) most input.old bytes.items
+        input.new) }
 {
     let mut bytes = Vec::with_capacity(alloc, expected)?;
     let mut piece = vec![in alloc; 0; PIECE]?;

@@ -54,10 +54,11 @@ pub(crate) fn run_alone<P: Places, R: Inlet + Drop, W1: Outlet + Drop, W2: Outle
     run: &Run<'_>,
     given: Streams<R, W1, W2>,
 ) -> u8
-    ensures { RunsAlone (around P.Places P.Input.Read P.Output.Write P.Volume.Device R.Read W1.Write W2.Write
-        (flushing P.Output.flushed P.Output.refuses W1.flushed W1.refuses W2.flushed W2.refuses)
-        (calling P.Input.gave P.Input.refused P.Output.took P.Output.refused R.gave R.refused W1.took W1.refused W2.took W2.refused))
-        run.now given places.old places.new result }
+    ensures { RunsAlone (around P.Places P.Input.Read P.Output.Write P.Volume.Device R.Read W1.Write
+        W2.Write (flushing P.Output.flushed P.Output.refuses W1.flushed W1.refuses W2.flushed
+        W2.refuses) (calling P.Input.gave P.Input.refused P.Output.took P.Output.refused R.gave
+        R.refused W1.took W1.refused W2.took W2.refused)) run.now given places.old places.new
+        result }
 {
     match open_all(alloc, places, run) {
         Ok(opened) => match made_report(places, run.report) {
@@ -78,10 +79,10 @@ pub(crate) fn end_refused<P: Places, R: Inlet + Drop, W1: Outlet + Drop, W2: Out
     given: Streams<R, W1, W2>,
 ) -> u8
     ensures status { result ≡ file_status (error_kind error.now) }
-    ensures ends { EndsGiven (around P.Places P.Input.Read P.Output.Write P.Volume.Device R.Read W1.Write W2.Write
-        (flushing P.Output.flushed P.Output.refuses W1.flushed W1.refuses W2.flushed W2.refuses)
-        (calling P.Input.gave P.Input.refused P.Output.took P.Output.refused R.gave R.refused W1.took W1.refused W2.took W2.refused))
-        given places.old places.new }
+    ensures ends { EndsGiven (around P.Places P.Input.Read P.Output.Write P.Volume.Device R.Read
+        W1.Write W2.Write (flushing P.Output.flushed P.Output.refuses W1.flushed W1.refuses
+        W2.flushed W2.refuses) (calling P.Input.gave P.Input.refused P.Output.took P.Output.refused
+        R.gave R.refused W1.took W1.refused W2.took W2.refused)) given places.old places.new }
 {
     let mut given = given;
     let status = refuse(&*places, error, &mut given.err);
@@ -100,10 +101,13 @@ fn end_unread<P: Places, R: Inlet + Drop, W1: Outlet + Drop, W2: Outlet + Drop>(
 ) -> u8
     requires { IsOfName P.is_output run.now.report report }
     ensures { (told : P) × (lines : Text) × AreLinesOfNone lines
-        × IsTold P.Places P.Output.Write run.now.report report (Some (unread run.now (error_kind error.now))) lines (file_status (error_kind error.now)) places.old told result
-        × EndsGiven (around P.Places P.Input.Read P.Output.Write P.Volume.Device R.Read W1.Write W2.Write
+        × IsTold P.Places P.Output.Write run.now.report report
+        (Some (unread run.now (error_kind error.now))) lines (file_status (error_kind error.now))
+        places.old told result × EndsGiven (around P.Places P.Input.Read P.Output.Write
+        P.Volume.Device R.Read W1.Write W2.Write
         (flushing P.Output.flushed P.Output.refuses W1.flushed W1.refuses W2.flushed W2.refuses)
-        (calling P.Input.gave P.Input.refused P.Output.took P.Output.refused R.gave R.refused W1.took W1.refused W2.took W2.refused)) given told places.new }
+        (calling P.Input.gave P.Input.refused P.Output.took P.Output.refused R.gave R.refused
+        W1.took W1.refused W2.took W2.refused)) given told places.new }
 {
     let mut given = given;
     let ending = Ending {
@@ -135,10 +139,11 @@ fn end_unfilled<P: Places, R: Inlet + Drop, W1: Outlet + Drop, W2: Outlet + Drop
     requires report { IsOfName P.is_output run.now.report report }
     requires profile { IsLedger P.is_output run.now.profile wired.profile }
     ensures { (archive : List ℕ) → Fills archive (Err failure)
-        → IsUnfilled (around P.Places P.Input.Read P.Output.Write P.Volume.Device R.Read W1.Write W2.Write
-        (flushing P.Output.flushed P.Output.refuses W1.flushed W1.refuses W2.flushed W2.refuses)
-        (calling P.Input.gave P.Input.refused P.Output.took P.Output.refused R.gave R.refused W1.took W1.refused W2.took W2.refused))
-        run.now archive wired.«module».items wired.streams wired.spare (file_of wired.profile) report places.old places.new result }
+        → IsUnfilled (around P.Places P.Input.Read P.Output.Write P.Volume.Device R.Read W1.Write
+        W2.Write (flushing P.Output.flushed P.Output.refuses W1.flushed W1.refuses W2.flushed
+        W2.refuses) (calling P.Input.gave P.Input.refused P.Output.took P.Output.refused R.gave
+        R.refused W1.took W1.refused W2.took W2.refused)) run.now archive wired.«module».items
+        wired.streams wired.spare (file_of wired.profile) report places.old places.new result }
 {
     let Wired {
         module,
@@ -186,10 +191,12 @@ fn run_filled<P: Places, R: Inlet + Drop, W1: Outlet + Drop, W2: Outlet + Drop>(
 ) -> u8
     requires report { IsOfName P.is_output run.now.report report }
     requires profile { IsLedger P.is_output run.now.profile wired.profile }
-    ensures { RunsFilled (around P.Places P.Input.Read P.Output.Write P.Volume.Device R.Read W1.Write W2.Write
-        (flushing P.Output.flushed P.Output.refuses W1.flushed W1.refuses W2.flushed W2.refuses)
-        (calling P.Input.gave P.Input.refused P.Output.took P.Output.refused R.gave R.refused W1.took W1.refused W2.took W2.refused))
-        run.now archive.items wired.«module».items wired.random.items wired.streams wired.spare (file_of wired.profile) report places.old places.new result }
+    ensures { RunsFilled (around P.Places P.Input.Read P.Output.Write P.Volume.Device R.Read
+        W1.Write W2.Write (flushing P.Output.flushed P.Output.refuses W1.flushed W1.refuses
+        W2.flushed W2.refuses) (calling P.Input.gave P.Input.refused P.Output.took P.Output.refused
+        R.gave R.refused W1.took W1.refused W2.took W2.refused)) run.now archive.items
+        wired.«module».items wired.random.items wired.streams wired.spare (file_of wired.profile)
+        report places.old places.new result }
 {
     let bytes = archive.as_slice();
     let made = filled(alloc, bytes);
@@ -211,10 +218,11 @@ fn run_opened<P: Places, R: Inlet + Drop, W1: Outlet + Drop, W2: Outlet + Drop>(
 ) -> u8
     requires report { IsOfName P.is_output run.now.report report }
     requires profile { IsLedger P.is_output run.now.profile opened.profile }
-    ensures { RunsOnMedium (around P.Places P.Input.Read P.Output.Write P.Volume.Device R.Read W1.Write W2.Write
-        (flushing P.Output.flushed P.Output.refuses W1.flushed W1.refuses W2.flushed W2.refuses)
-        (calling P.Input.gave P.Input.refused P.Output.took P.Output.refused R.gave R.refused W1.took W1.refused W2.took W2.refused))
-        opened.medium run.now opened given report places.old places.new result }
+    ensures { RunsOnMedium (around P.Places P.Input.Read P.Output.Write P.Volume.Device R.Read
+        W1.Write W2.Write (flushing P.Output.flushed P.Output.refuses W1.flushed W1.refuses
+        W2.flushed W2.refuses) (calling P.Input.gave P.Input.refused P.Output.took P.Output.refused
+        R.gave R.refused W1.took W1.refused W2.took W2.refused)) opened.medium run.now opened given
+        report places.old places.new result }
 {
     let RunFiles {
         module,
@@ -260,11 +268,13 @@ fn run_in_file<P: Places, R: Inlet + Drop, W1: Outlet + Drop, W2: Outlet + Drop>
 ) -> u8
     requires report { IsOfName P.is_output run.now.report report }
     requires profile { IsLedger P.is_output run.now.profile wired.profile }
-    ensures { RunsWith (around P.Places P.Input.Read P.Output.Write P.Volume.Device R.Read W1.Write W2.Write
-        (flushing P.Output.flushed P.Output.refuses W1.flushed W1.refuses W2.flushed W2.refuses)
-        (calling P.Input.gave P.Input.refused P.Output.took P.Output.refused R.gave R.refused W1.took W1.refused W2.took W2.refused)) P.Volume.Device
-        (λ left before said p q status summary after. KeepsIt P.Places left before said p q status summary after)
-        run.now wired.«module».items wired.random.items device wired.streams wired.spare (file_of wired.profile) report places.old places.new result }
+    ensures { RunsWith (around P.Places P.Input.Read P.Output.Write P.Volume.Device R.Read W1.Write
+        W2.Write (flushing P.Output.flushed P.Output.refuses W1.flushed W1.refuses W2.flushed
+        W2.refuses) (calling P.Input.gave P.Input.refused P.Output.took P.Output.refused R.gave
+        R.refused W1.took W1.refused W2.took W2.refused)) P.Volume.Device
+        (λ left before said p q status summary after. KeepsIt P.Places left before said p q status
+        summary after) run.now wired.«module».items wired.random.items device wired.streams
+        wired.spare (file_of wired.profile) report places.old places.new result }
 {
     let Wired {
         module,
@@ -297,10 +307,12 @@ fn run_in_memory<P: Places, R: Inlet + Drop, W1: Outlet + Drop, W2: Outlet + Dro
 ) -> u8
     requires report { IsOfName P.is_output run.now.report report }
     requires profile { IsLedger P.is_output run.now.profile wired.profile }
-    ensures { RunsInMemory (around P.Places P.Input.Read P.Output.Write P.Volume.Device R.Read W1.Write W2.Write
-        (flushing P.Output.flushed P.Output.refuses W1.flushed W1.refuses W2.flushed W2.refuses)
-        (calling P.Input.gave P.Input.refused P.Output.took P.Output.refused R.gave R.refused W1.took W1.refused W2.took W2.refused))
-        run.now wired.«module».items wired.random.items device wired.streams wired.spare (file_of wired.profile) report places.old places.new result }
+    ensures { RunsInMemory (around P.Places P.Input.Read P.Output.Write P.Volume.Device R.Read
+        W1.Write W2.Write (flushing P.Output.flushed P.Output.refuses W1.flushed W1.refuses
+        W2.flushed W2.refuses) (calling P.Input.gave P.Input.refused P.Output.took P.Output.refused
+        R.gave R.refused W1.took W1.refused W2.took W2.refused)) run.now wired.«module».items
+        wired.random.items device wired.streams wired.spare (file_of wired.profile) report
+        places.old places.new result }
 {
     let Wired {
         module,

@@ -80,8 +80,9 @@ where
     requires unused { used_by (S.state session) ≡ 0 }
     requires new { stacks ≡ no_stacks }
     ensures kept { S.gives_back (S.state session).machine.valid result.0.kept }
-    ensures told { ReportsCharged (devices D.Device R.Read W1.Write W2.Write R.gave R.refused W1.took W1.refused W2.took W2.refused)
-        (S.state session) run.now.limits.fuel (slice_of run.now) result.0.report result.0.tally room.new result.0.depth (Some result.1) }
+    ensures told { ReportsCharged (devices D.Device R.Read W1.Write W2.Write R.gave R.refused
+        W1.took W1.refused W2.took W2.refused) (S.state session) run.now.limits.fuel
+        (slice_of run.now) result.0.report result.0.tally room.new result.0.depth (Some result.1) }
 {
     let fuel = run.limits.fuel;
     let slice = slice_of(run);
@@ -107,8 +108,9 @@ where
     requires unused { used_by (S.state session) ≡ 0 }
     requires new { IfSome stacks (λ s. s ≡ no_stacks) }
     ensures kept { S.gives_back (S.state session).machine.valid result.0.kept }
-    ensures told { ReportsCharged (devices D.Device R.Read W1.Write W2.Write R.gave R.refused W1.took W1.refused W2.took W2.refused)
-        (S.state session) run.now.limits.fuel (slice_of run.now) result.0.report result.0.tally room.new result.0.depth result.1 }
+    ensures told { ReportsCharged (devices D.Device R.Read W1.Write W2.Write R.gave R.refused
+        W1.took W1.refused W2.took W2.refused) (S.state session) run.now.limits.fuel
+        (slice_of run.now) result.0.report result.0.tally room.new result.0.depth result.1 }
     ensures stacks { IsThere stacks → IsThere result.1 }
 {
     match stacks {
@@ -140,9 +142,11 @@ where
         × ((S.state session).host.interactive ≡ None) }
     requires new { IfSome stacks (λ s. s ≡ no_stacks) }
     ensures kept { S.gives_back (S.state session).machine.valid result.0.kept }
-    ensures told { ReportsCharged (devices D.Device R.Read W1.Write W2.Write R.gave R.refused W1.took W1.refused W2.took W2.refused)
-        (prepared_by run.now (limited_to run.now.limits.values (S.state session))) run.now.limits.fuel (slice_of run.now)
-        result.0.report result.0.tally room.new result.0.depth result.1 }
+    ensures told { ReportsCharged (devices D.Device R.Read W1.Write W2.Write R.gave R.refused
+        W1.took W1.refused W2.took W2.refused)
+        (prepared_by run.now (limited_to run.now.limits.values (S.state session)))
+        run.now.limits.fuel (slice_of run.now) result.0.report result.0.tally room.new
+        result.0.depth result.1 }
     ensures stacks { IsThere stacks → IsThere result.1 }
 {
     let mut session = session;
@@ -189,10 +193,11 @@ where
     requires new { IfSome stacks (λ s. s ≡ no_stacks) }
     ensures kept { S.gives_back (S.state session).machine.valid result.0 }
     ensures fuel_use { TellsUse stacks result.1.stopped }
-    ensures answered { BothAnswered W1.flushed W1.refuses W2.flushed W2.refuses result.1.flushed result.1.out result.1.err }
-    ensures ran { RunsSession D.honest D.disk D.size D.failures D.goes_on R.remaining W1.contents W2.contents
-        (hearing R.gave R.refused W1.took W1.refused W2.took W2.refused)
-        run.now imported (S.state session) result.1 }
+    ensures answered { BothAnswered W1.flushed W1.refuses W2.flushed W2.refuses result.1.flushed
+        result.1.out result.1.err }
+    ensures ran { RunsSession D.honest D.disk D.size D.failures D.goes_on R.remaining W1.contents
+        W2.contents (hearing R.gave R.refused W1.took W1.refused W2.took W2.refused) run.now
+        imported (S.state session) result.1 }
 {
     let mut room = room_for(alloc, run);
     let (told, stacks) = run_within(alloc, run, session, stacks, room.as_mut_slice());
@@ -250,9 +255,9 @@ pub(crate) fn launch_bare<
     requires { IfSome stacks (λ s. s ≡ no_stacks) }
     ensures module { result.0 ≡ valid.entry }
     ensures fuel_use { TellsUse stacks result.1.stopped }
-    ensures launches { Launches D.honest D.disk D.size D.failures D.goes_on R.remaining W1.contents W2.contents
-        (hearing R.gave R.refused W1.took W1.refused W2.took W2.refused)
-        valid.entry run.now parts.entry result.1 }
+    ensures launches { Launches D.honest D.disk D.size D.failures D.goes_on R.remaining W1.contents
+        W2.contents (hearing R.gave R.refused W1.took W1.refused W2.took W2.refused) valid.entry
+        run.now parts.entry result.1 }
     ensures answered { RunAnswered W1.flushed W1.refuses W2.flushed W2.refuses result.1 }
 {
     let HostParts {
@@ -291,8 +296,8 @@ pub(crate) fn launch_prepared<
     requires pages { parts.settings.pages ≡ shared.now.pages }
     requires new { IfSome stacks (λ s. s ≡ no_stacks) }
     ensures fuel_use { TellsUse stacks result.stopped }
-    ensures launches { Launches D.honest D.disk D.size D.failures D.goes_on R.remaining W1.contents W2.contents
-        (hearing R.gave R.refused W1.took W1.refused W2.took W2.refused)
+    ensures launches { Launches D.honest D.disk D.size D.failures D.goes_on R.remaining W1.contents
+        W2.contents (hearing R.gave R.refused W1.took W1.refused W2.took W2.refused)
         shared.now.valid run.now parts.entry result }
     ensures answered { RunAnswered W1.flushed W1.refuses W2.flushed W2.refuses result }
 {

@@ -88,7 +88,8 @@ fn add_frame(
     inside: usize,
     frame: Frame,
 ) -> io::Result<()>
-    ensures { OnOk result ((site : Text) × IsSite bytes.now «module».now frame.own (instruction_of inside frame.next) site
+    ensures { OnOk result ((site : Text) × IsSite bytes.now «module».now frame.own
+        (instruction_of inside frame.next) site
         × (text.new.items ≡ text.old.items ++ (codes "frame:" ++ (site ++ codes "\n")))) }
 {
     text.write_all(b"frame:")?;
@@ -109,7 +110,8 @@ fn add_frames(
     module: &Module<'_>,
     frames: &[Frame],
 ) -> io::Result<()>
-    ensures { OnOk result ((lines : Text) × AreFrameLines bytes.now «module».now frames.now lines × (text.new.items ≡ text.old.items ++ lines)) }
+    ensures { OnOk result ((lines : Text) × AreFrameLines bytes.now «module».now frames.now lines
+        × (text.new.items ≡ text.old.items ++ lines)) }
 {
     for inside in 0..frames.len() {
         add_frame(text, bytes, module, inside, frames[inside])?;
@@ -125,7 +127,8 @@ fn frame_lines(
     module: &Module<'_>,
     stopped: &Stopped,
 ) -> io::Result<Vec<u8>>
-    ensures { IfOk result (λ text. AreLinesOf bytes.now «module».now run.now.frames stopped.now text.items) }
+    ensures { IfOk result (λ text. AreLinesOf bytes.now «module».now run.now.frames stopped.now
+        text.items) }
 {
     let mut text = Vec::new(alloc);
     if run.frames > 0 {
@@ -163,7 +166,8 @@ fn lines_with_answers(
     module: &Module<'_>,
     stopped: &Stopped,
 ) -> io::Result<Vec<u8>>
-    ensures { IfOk result (λ text. HasLines bytes.now «module».now run.now.frames stopped.now text.items) }
+    ensures { IfOk result (λ text. HasLines bytes.now «module».now run.now.frames stopped.now
+        text.items) }
 {
     let mut text = frame_lines(alloc, run, bytes, module, stopped)?;
     add_answers(&mut text, &stopped.answers)?;

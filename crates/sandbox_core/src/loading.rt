@@ -15,10 +15,12 @@ pub fn load(alloc: Global, bytes: &[u8]) -> Result<Valid<'_>, LoadFault>
     ensures found { IfOk result (λ v. Spells bytes.now v × IsValid v) }
 
     // Where it isn't memory that was wanting, the bytes spell no valid module.
-    ensures no { IfErr result (λ e. e ≢ LoadFault.Memory → (m : ModuleValue) → Spells bytes.now m → IsValid m → ⊥) }
+    ensures no { IfErr result (λ e. e ≢ LoadFault.Memory → (m : ModuleValue) → Spells bytes.now m
+        → IsValid m → ⊥) }
 
     // Another refusal than of an invalid module or for memory: the bytes spell no module at all.
-    ensures refused { IfErr result (λ e. ¬ IsRefusal e → (m : ModuleValue) → Spells bytes.now m → ⊥) }
+    ensures refused { IfErr result (λ e. ¬ IsRefusal e → (m : ModuleValue) → Spells bytes.now m
+        → ⊥) }
 {
     load_with(alloc, bytes, Profile::Integers)
 }
@@ -28,10 +30,12 @@ pub fn load_with(alloc: Global, bytes: &[u8], profile: Profile) -> Result<Valid<
     ensures found { IfOk result (λ v. SpellsWith profile bytes.now v × IsValid v) }
 
     // Where it isn't memory that was wanting, the bytes spell no valid module.
-    ensures no { IfErr result (λ e. e ≢ LoadFault.Memory → (m : ModuleValue) → SpellsWith profile bytes.now m → IsValid m → ⊥) }
+    ensures no { IfErr result (λ e. e ≢ LoadFault.Memory → (m : ModuleValue)
+        → SpellsWith profile bytes.now m → IsValid m → ⊥) }
 
     // Another refusal than of an invalid module or for memory: the bytes spell no module at all.
-    ensures refused { IfErr result (λ e. ¬ IsRefusal e → (m : ModuleValue) → SpellsWith profile bytes.now m → ⊥) }
+    ensures refused { IfErr result (λ e. ¬ IsRefusal e → (m : ModuleValue)
+        → SpellsWith profile bytes.now m → ⊥) }
 {
     let module = decode_with(alloc, bytes, profile)?;
     one_module_with(); // a law for the contract: what is found not valid is all that the bytes spell

@@ -42,7 +42,8 @@ where
     W1: Outlet + Drop,
     W2: Outlet + Drop,
     requires { used_by session ≡ 0 }
-    ensures { Reports (devices D.Device R.Read W1.Write W2.Write R.gave R.refused W1.took W1.refused W2.took W2.refused) session.entry fuel result }
+    ensures { Reports (devices D.Device R.Read W1.Write W2.Write R.gave R.refused W1.took W1.refused
+        W2.took W2.refused) session.entry fuel result }
 {
     let (report, _) = run_counted(session, fuel);
     report
@@ -59,8 +60,8 @@ where
     W1: Outlet + Drop,
     W2: Outlet + Drop,
     requires { used_by session ≡ 0 }
-    ensures { ReportsCounted (devices D.Device R.Read W1.Write W2.Write R.gave R.refused W1.took W1.refused W2.took W2.refused)
-        session.entry fuel result.0 result.1 }
+    ensures { ReportsCounted (devices D.Device R.Read W1.Write W2.Write R.gave R.refused W1.took
+        W1.refused W2.took W2.refused) session.entry fuel result.0 result.1 }
 {
     let (valid, report, tally) = run_counted_with_module(session, fuel);
     drop(valid);
@@ -79,8 +80,8 @@ where
     W2: Outlet + Drop,
     requires { used_by session ≡ 0 }
     ensures module { result.0 ≡ session.entry.machine.valid }
-    ensures counted { ReportsCounted (devices D.Device R.Read W1.Write W2.Write R.gave R.refused W1.took W1.refused W2.took W2.refused)
-        session.entry fuel result.1 result.2 }
+    ensures counted { ReportsCounted (devices D.Device R.Read W1.Write W2.Write R.gave R.refused
+        W1.took W1.refused W2.took W2.refused) session.entry fuel result.1 result.2 }
 {
     let (outcome, tally) = run_out(&mut session, fuel);
     let used = session.used();
@@ -119,8 +120,8 @@ where
     requires { used_by session.old ≤ fuel }
     ensures within { used_by session.new ≤ fuel }
     ensures module { session.new.machine.valid ≡ session.old.machine.valid }
-    ensures run { RunsTo (devices D.Device R.Read W1.Write W2.Write R.gave R.refused W1.took W1.refused W2.took W2.refused)
-        session.old fuel session.new result.0 result.1 }
+    ensures run { RunsTo (devices D.Device R.Read W1.Write W2.Write R.gave R.refused W1.took
+        W1.refused W2.took W2.refused) session.old fuel session.new result.0 result.1 }
 {
     let mut tally = Tally::none();
     'running: loop {

@@ -74,7 +74,8 @@ where
     R: Inlet + Drop,
     W1: Outlet + Drop,
     W2: Outlet + Drop,
-    ensures { (machine : Snapshot) → Finishes D.Device (record { machine = machine; host = host.entry }) result }
+    ensures { (machine : Snapshot) → Finishes D.Device
+        (record { machine = machine; host = host.entry }) result }
 {
     let HostParts {
         settings: _,
@@ -165,8 +166,8 @@ where
     /// take a unit that isn't left. A session that has ended answers the same again.
     pub fn resume(&mut self, units: u64) -> Pause
         requires { used_by self.old + units < 2 ^ 64 }
-        ensures { Resumes (devices D.Device R.Read W1.Write W2.Write R.gave R.refused W1.took W1.refused W2.took W2.refused)
-            self.old self.new units result }
+        ensures { Resumes (devices D.Device R.Read W1.Write W2.Write R.gave R.refused W1.took
+            W1.refused W2.took W2.refused) self.old self.new units result }
     {
         self.machine.resume(&mut self.host, units)
     }

@@ -74,7 +74,8 @@ impl<'a> SharedModule<'a> {
         pages: u32,
     ) -> Result<SharedModule<'a>, RefusedInstance<'a>>
         ensures module { IfOk result (λ m. (m.valid ≡ valid.entry) × (m.pages ≡ pages)) }
-        ensures refused { IfErr result (λ r. (r.valid ≡ valid.entry) × RefusedFor link pages valid.entry r.fault) }
+        ensures refused { IfErr result (λ r. (r.valid ≡ valid.entry)
+            × RefusedFor link pages valid.entry r.fault) }
     {
         match PreparedModule::new(alloc, valid, pages, &Linker) {
             Ok(module) => Ok(SharedModule { module }),
@@ -199,8 +200,8 @@ where
     /// Goes on as `Session::resume` does.
     pub fn resume(&mut self, units: u64) -> Pause
         requires { used_by self.old + units < 2 ^ 64 }
-        ensures { Resumes (devices D.Device R.Read W1.Write W2.Write R.gave R.refused W1.took W1.refused W2.took W2.refused)
-            self.old self.new units result }
+        ensures { Resumes (devices D.Device R.Read W1.Write W2.Write R.gave R.refused W1.took
+            W1.refused W2.took W2.refused) self.old self.new units result }
     {
         self.machine.resume(&mut self.host, units)
     }

@@ -25,8 +25,8 @@ where
     W1: Outlet + Drop,
     W2: Outlet + Drop,
     requires { used_by session ≡ 0 }
-    ensures { ReportsCounted (devices D.Device R.Read W1.Write W2.Write R.gave R.refused W1.took W1.refused W2.took W2.refused)
-        session.entry fuel result.0 result.1 }
+    ensures { ReportsCounted (devices D.Device R.Read W1.Write W2.Write R.gave R.refused W1.took
+        W1.refused W2.took W2.refused) session.entry fuel result.0 result.1 }
 {
     let (outcome, tally) = run_out_shared(&mut session, fuel);
     let used = session.used();
@@ -63,8 +63,8 @@ where
     W2: Outlet + Drop,
     requires { used_by session.old ≤ fuel }
     ensures within { used_by session.new ≤ fuel }
-    ensures run { RunsTo (devices D.Device R.Read W1.Write W2.Write R.gave R.refused W1.took W1.refused W2.took W2.refused)
-        session.old fuel session.new result.0 result.1 }
+    ensures run { RunsTo (devices D.Device R.Read W1.Write W2.Write R.gave R.refused W1.took
+        W1.refused W2.took W2.refused) session.old fuel session.new result.0 result.1 }
 {
     let mut tally = Tally::none();
     'running: loop {

@@ -27,8 +27,9 @@ where
     W1: Outlet,
     W2: Outlet,
     requires { used_by (S.state session.old) ≤ until }
-    ensures { RunsSlice (devices D.Device R.Read W1.Write W2.Write R.gave R.refused W1.took W1.refused W2.took W2.refused)
-        (S.state session.old) (S.state session.new) until (stop_of result.0) earlier result.1 }
+    ensures { RunsSlice (devices D.Device R.Read W1.Write W2.Write R.gave R.refused W1.took
+        W1.refused W2.took W2.refused) (S.state session.old) (S.state session.new) until
+        (stop_of result.0) earlier result.1 }
 {
     let mut tally = earlier;
     'running: loop {
@@ -52,8 +53,8 @@ where
     W1: Outlet + Drop,
     W2: Outlet + Drop,
     ensures kept { S.gives_back (S.state session).machine.valid result.0 }
-    ensures reports { ReportsStop (devices D.Device R.Read W1.Write W2.Write R.gave R.refused W1.took W1.refused W2.took W2.refused)
-        (S.state session) outcome result.1 }
+    ensures reports { ReportsStop (devices D.Device R.Read W1.Write W2.Write R.gave R.refused
+        W1.took W1.refused W2.took W2.refused) (S.state session) outcome result.1 }
 {
     let used = session.used();
     let pages = session.pages();

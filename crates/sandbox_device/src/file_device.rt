@@ -104,7 +104,8 @@ fn read_sectors<F: SectorFile>(
     requires read { AreRead F.gave file.now beginning.now }
     ensures count { IfOk result (λ s. length s ≡ count) }
     ensures read { IfOk result (AreRead F.gave file.now) }
-    ensures begins { IfOk result (λ s. 0 < length beginning.now → image_of s 0 ≡ image_of beginning.now 0) }
+    ensures begins { IfOk result (λ s. 0 < length beginning.now
+        → image_of s 0 ≡ image_of beginning.now 0) }
 {
     let mut sectors = Sectors::zeros(alloc, count)?;
     sectors.put_all(0, beginning);
@@ -233,7 +234,8 @@ impl<F: SectorFile + Drop> FileDevice<F> {
     ) -> io::Result<FileDevice<F>>
         ensures few { IfOk result (λ d. length d.sectors ≤ 16777216) }
         ensures sized { IfOk result (λ d. IsOfSize (max sectors 65536) d.sectors) }
-        ensures enough { IfOk result (λ d. min sectors 16777216 ≤ length d.sectors ⊎ BeginsWith beginning.now d.sectors) }
+        ensures enough { IfOk result (λ d. min sectors 16777216 ≤ length d.sectors
+            ⊎ BeginsWith beginning.now d.sectors) }
         ensures unused { IfOk result (λ d. d.failures ≡ 0) }
         ensures same { IfOk result (λ d. d.file ≡ file) }
         ensures read { IfOk result (λ d. AreRead F.gave file d.sectors) }
@@ -332,14 +334,21 @@ impl<F: SectorFile + Drop> Device for FileDevice<F> {
         requires { n < length self.old.sectors }
         ensures told { MatchResult result (λ _. F.wrote self.old.file n image.now self.new.file)
             (λ _. F.refused self.old.file self.new.file) }
-        ensures written { F.honest self.old.file
-            → OnOk result (image_of self.new.sectors ≡ put n image.now (image_of self.old.sectors)) }
+        ensures written { F.honest self.old.file → OnOk result
+            (image_of self.new.sectors ≡ put n image.now (image_of self.old.sectors)) }
         ensures seen { F.honest self.old.file
             → Wrote n image.now (image_of self.old.sectors) (image_of self.new.sectors) }
-        ensures crash { F.honest self.old.file → Leaves (kept self.old.sectors self.old.moments.unsynced self.old.moments.times) (kept self.new.sectors self.new.moments.unsynced self.new.moments.times)
-            (After (Wrote n image.now) (kept self.old.sectors self.old.moments.unsynced self.old.moments.times).may_leave) }
-        ensures keeps { F.honest self.old.file → Keeps (kept self.old.sectors self.old.moments.unsynced self.old.moments.times) (kept self.new.sectors self.new.moments.unsynced self.new.moments.times) }
-        ensures operation_count { F.honest self.old.file → OneMore (kept self.old.sectors self.old.moments.unsynced self.old.moments.times) (kept self.new.sectors self.new.moments.unsynced self.new.moments.times) }
+        ensures crash { F.honest self.old.file → Leaves
+            (kept self.old.sectors self.old.moments.unsynced self.old.moments.times)
+            (kept self.new.sectors self.new.moments.unsynced self.new.moments.times)
+            (After (Wrote n image.now) (kept self.old.sectors self.old.moments.unsynced
+            self.old.moments.times).may_leave) }
+        ensures keeps { F.honest self.old.file → Keeps
+            (kept self.old.sectors self.old.moments.unsynced self.old.moments.times)
+            (kept self.new.sectors self.new.moments.unsynced self.new.moments.times) }
+        ensures operation_count { F.honest self.old.file
+            → OneMore (kept self.old.sectors self.old.moments.unsynced self.old.moments.times)
+            (kept self.new.sectors self.new.moments.unsynced self.new.moments.times) }
         ensures honest { F.honest self.old.file ↔ F.honest self.new.file }
         ensures size { length self.new.sectors ≡ length self.old.sectors }
         ensures failures { self.new.failures ≡ counted (is_err result) self.old.failures }
@@ -357,15 +366,24 @@ impl<F: SectorFile + Drop> Device for FileDevice<F> {
 
     /// What the trait says; and it is the file that made it last and has all its sectors, or that failed.
     fn sync(&mut self) -> Result<(), DeviceFault>
-        ensures told { MatchResult result
-            (λ _. IsSettled F.synced F.measured (length self.old.sectors) self.old.file self.new.file)
-            (λ _. IsUnsettled F.refused F.synced F.measured (length self.old.sectors) self.old.file self.new.file) }
-        ensures durable { F.honest self.old.file
-            → OnOk result (Only (image_of self.old.sectors) (kept self.new.sectors self.new.moments.unsynced self.new.moments.times).may_leave) }
-        ensures seen { F.honest self.old.file → image_of self.new.sectors ≡ image_of self.old.sectors }
-        ensures crash { F.honest self.old.file → Leaves (kept self.old.sectors self.old.moments.unsynced self.old.moments.times) (kept self.new.sectors self.new.moments.unsynced self.new.moments.times) (λ c. ⊥) }
-        ensures keeps { F.honest self.old.file → Keeps (kept self.old.sectors self.old.moments.unsynced self.old.moments.times) (kept self.new.sectors self.new.moments.unsynced self.new.moments.times) }
-        ensures operation_count { F.honest self.old.file → OneMore (kept self.old.sectors self.old.moments.unsynced self.old.moments.times) (kept self.new.sectors self.new.moments.unsynced self.new.moments.times) }
+        ensures told { MatchResult result (λ _. IsSettled F.synced F.measured
+            (length self.old.sectors) self.old.file self.new.file)
+            (λ _. IsUnsettled F.refused F.synced F.measured (length self.old.sectors) self.old.file
+            self.new.file) }
+        ensures durable { F.honest self.old.file → OnOk result
+            (Only (image_of self.old.sectors) (kept self.new.sectors self.new.moments.unsynced
+            self.new.moments.times).may_leave) }
+        ensures seen { F.honest self.old.file → image_of self.new.sectors ≡ image_of
+            self.old.sectors }
+        ensures crash { F.honest self.old.file → Leaves
+            (kept self.old.sectors self.old.moments.unsynced self.old.moments.times)
+            (kept self.new.sectors self.new.moments.unsynced self.new.moments.times) (λ c. ⊥) }
+        ensures keeps { F.honest self.old.file → Keeps
+            (kept self.old.sectors self.old.moments.unsynced self.old.moments.times)
+            (kept self.new.sectors self.new.moments.unsynced self.new.moments.times) }
+        ensures operation_count { F.honest self.old.file
+            → OneMore (kept self.old.sectors self.old.moments.unsynced self.old.moments.times)
+            (kept self.new.sectors self.new.moments.unsynced self.new.moments.times) }
         ensures honest { F.honest self.old.file ↔ F.honest self.new.file }
         ensures size { length self.new.sectors ≡ length self.old.sectors }
         ensures failures { self.new.failures ≡ counted (is_err result) self.old.failures }

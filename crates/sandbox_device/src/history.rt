@@ -39,7 +39,8 @@ impl History {
 
     /// A write or a sync more.
     pub(crate) fn and(&self, operation: &Operation) -> History
-        ensures { (result.first ≡ self.now.first) × (result.done ≡ self.now.done ++ operation.now ∷ [])
+        ensures { (result.first ≡ self.now.first)
+            × (result.done ≡ self.now.done ++ operation.now ∷ [])
             × (result.outcomes ≡ true ∷ self.now.outcomes) }
     {
         History {}

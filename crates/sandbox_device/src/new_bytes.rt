@@ -29,7 +29,8 @@ impl Contents<'_> {
 
     /// Writes all of its bytes.
     pub(crate) fn write_to<W: Write>(self, out: &mut W) -> io::Result<()>
-        ensures { OnOk result (Appends (W.contents out.old) (W.contents out.new) (bytes_of self.entry)) }
+        ensures { OnOk result (Appends (W.contents out.old) (W.contents out.new)
+            (bytes_of self.entry)) }
     {
         match self {
             Contents::Sectors(device) => device.write_to(out),

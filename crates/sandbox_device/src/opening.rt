@@ -113,7 +113,8 @@ fn made_or_opened<R: Files<File = File>>(files: &R, path: &str) -> io::Result<(F
 impl<F: WrittenFile + Drop> OutputOn<F> {
     /// Locks a file that was opened to write, and does nothing else to it.
     pub fn new(file: F, is_new: bool) -> io::Result<OutputOn<F>>
-        ensures { IfOk result (λ it. F.locked file × (it ≡ record { file = file; is_new = is_new; is_cut = false })) }
+        ensures { IfOk result (λ it. F.locked file
+            × (it ≡ record { file = file; is_new = is_new; is_cut = false })) }
     {
         file.take_write_lock()?;
         Ok(OutputOn {
@@ -157,7 +158,8 @@ impl<F: WrittenFile + Drop> Write for OutputOn<F> {
 impl FileOutput {
     /// Opens a file to write, or makes it, and locks it where it can be. It is refused where another use of it has locked it.
     pub fn open<R: Files<File = File>>(files: &R, path: &str) -> io::Result<FileOutput>
-        ensures { IfOk result (λ it. StandsApart it.on.file × WasOpened path.now it.on.file × (it.on.is_cut ≡ false)) }
+        ensures { IfOk result (λ it. StandsApart it.on.file × WasOpened path.now it.on.file
+            × (it.on.is_cut ≡ false)) }
     {
         let (file, is_new) = made_or_opened(files, path)?;
         let on = OutputOn::new(file, is_new)?;
@@ -188,7 +190,8 @@ impl Write for FileOutput {
     fn write(&mut self, buf: &[u8]) -> io::Result<usize>
         ensures bound { WritesAtMost result buf.now }
         ensures bytes { WriteAppends None None result buf.now }
-        ensures puts { IfOk result (λ n. Puts WasCut WasPut self.old.on (take n buf.now) self.new.on) }
+        ensures puts { IfOk result (λ n. Puts WasCut WasPut self.old.on (take n buf.now)
+            self.new.on) }
     {
         self.on.write(buf)
     }

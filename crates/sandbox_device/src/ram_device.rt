@@ -67,7 +67,8 @@ impl RamDevice {
 
     /// Writes the bytes of all its sectors, one after the other.
     pub fn write_to<W: Write>(&self, out: &mut W) -> io::Result<()>
-        ensures { OnOk result (Appends (W.contents out.old) (W.contents out.new) (joined_sectors self.now.sectors)) }
+        ensures { OnOk result (Appends (W.contents out.old) (W.contents out.new)
+            (joined_sectors self.now.sectors)) }
     {
         for n in 0..self.sectors.len() as u32 {
             out.write_all(&self.sectors.get(n))?;

@@ -27,7 +27,8 @@ pub struct RecordedDevice {
 
 /// Adds an operation to a record that is whole. Where memory is refused, it isn't whole any more.
 fn note(so_far: &mut Vec<Operation>, is_whole: &mut bool, operation: &Operation)
-    ensures { is_whole.new ≡ true → (is_whole.old ≡ true) × (so_far.new.items ≡ so_far.old.items ++ operation.now ∷ []) }
+    ensures { is_whole.new ≡ true → (is_whole.old ≡ true)
+        × (so_far.new.items ≡ so_far.old.items ++ operation.now ∷ []) }
 {
     if *is_whole {
         *is_whole = so_far.push(*operation).is_ok();
@@ -53,7 +54,8 @@ impl RecordedDevice {
         ensures sectors { IfOk result (λ d. d.sectors ≡ sectors.now) }
         ensures unused { IfOk result (λ d. (d.history.first ≡ sectors.now) × (d.history.done ≡ [])
             × (d.history.outcomes ≡ [])) }
-        ensures recorded { IfOk result (λ d. (d.is_recorded ≡ is_recorded) × (d.is_whole ≡ is_recorded)) }
+        ensures recorded { IfOk result (λ d. (d.is_recorded ≡ is_recorded)
+            × (d.is_whole ≡ is_recorded)) }
     {
         let sectors = Sectors::of(alloc, sectors)?;
         Ok(RecordedDevice::from_sectors(alloc, sectors, is_recorded))
@@ -100,7 +102,8 @@ impl RecordedDevice {
     /// The write or sync with this number, from 0 on, in the order in which they were done; none past the last. Of a record that
     /// isn't whole it may be any.
     pub fn operation(&self, n: usize) -> Option<&Operation>
-        ensures { self.now.is_whole ≡ true → option_copied result ≡ slice_get self.now.history.done n }
+        ensures { self.now.is_whole ≡ true → option_copied result ≡ slice_get self.now.history.done
+            n }
     {
         self.noted.get(n)
     }

@@ -376,7 +376,8 @@ impl Replacement {
     ) -> io::Result<Option<Hindrance>>
         ensures replaced { self.way ≡ Beside → IfOk result (λ hindrance. IfNone hindrance
             (WasReplaced R (string_bytes self.path) (bytes_of contents.entry))) }
-        ensures given { OnOk result (IsGiven R (string_bytes self.path) self.old (bytes_of contents.entry)) }
+        ensures given { OnOk result (IsGiven R (string_bytes self.path) self.old
+            (bytes_of contents.entry)) }
     {
         match self.way {
             ReplacingWay::Beside => self.fill_beside(rt, contents),
@@ -434,7 +435,8 @@ impl Replacement {
         folder: &File,
         contents: Contents<'_>,
     ) -> io::Result<()>
-        ensures { OnOk result (WasReplaced R (string_bytes self.now.path) (bytes_of contents.entry)) }
+        ensures { OnOk result (WasReplaced R (string_bytes self.now.path)
+            (bytes_of contents.entry)) }
     {
         let mut successor = Successor {
             rt,
@@ -454,7 +456,8 @@ impl Replacement {
     ) -> io::Result<Option<Hindrance>>
         ensures replaced { IfOk result (λ hindrance. IfNone hindrance
             (WasReplaced R (string_bytes self.path) (bytes_of contents.entry))) }
-        ensures given { OnOk result (IsGiven R (string_bytes self.path) self.old (bytes_of contents.entry)) }
+        ensures given { OnOk result (IsGiven R (string_bytes self.path) self.old
+            (bytes_of contents.entry)) }
     {
         let newcomer = self.newcomer(rt)?; // locked until the new bytes have the name
         let Ok((spare, folder)) = self.spare(rt) else {
@@ -481,7 +484,8 @@ impl Replacement {
         rt: &R,
         contents: Contents<'_>,
     ) -> io::Result<()>
-        ensures { OnOk result (IsGiven R (string_bytes self.path) self.old (bytes_of contents.entry)) }
+        ensures { OnOk result (IsGiven R (string_bytes self.path) self.old
+            (bytes_of contents.entry)) }
     {
         let Replacement { path, old, .. } = self;
         let file = there(rt, path.as_str(), old)?;

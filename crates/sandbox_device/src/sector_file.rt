@@ -59,7 +59,8 @@ pub trait SectorFile {
 
     /// Makes last what was written.
     fn sync(&mut self) -> io::Result<()>
-        ensures told { MatchResult result (λ _. synced self.old self.new) (λ _. refused self.old self.new) }
+        ensures told { MatchResult result (λ _. synced self.old self.new)
+            (λ _. refused self.old self.new) }
         ensures honest { honest self.old ↔ honest self.new };
 }
 

@@ -37,7 +37,8 @@ fn ask_for_all(alloc: Global, count: u32) -> Result<(), AllocError> {
 
 /// This many parts that are full, of zeros.
 fn full_parts(alloc: Global, many: u32) -> Result<Vec<SectorBlock>, AllocError>
-    ensures { IfOk result (λ parts. parts.items ≡ replicate many (replicate 131072 (replicate 512 0))) }
+    ensures { IfOk result (λ parts. parts.items ≡ replicate many
+        (replicate 131072 (replicate 512 0))) }
 {
     let mut parts = Vec::new(alloc);
     for _ in 0..many {
@@ -89,7 +90,8 @@ impl Sectors {
     pub(crate) fn put_all(&mut self, first: u32, images: &[[u8; 512]])
         requires fit { first + length images.now ≤ length self.old }
         requires small { first + length images.now < 2 ^ 32 }
-        ensures { self.new ≡ take first self.old ++ images.now ++ drop (first + length images.now) self.old }
+        ensures { self.new ≡ take first self.old ++ images.now ++ drop (first + length images.now)
+            self.old }
     {
         let mut n = first;
         for image in images {

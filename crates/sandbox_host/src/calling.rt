@@ -19,7 +19,8 @@ use std::str;
 
 /// The number of what a call answered.
 pub(crate) fn number_of(answer: Result<(), Misuse>) -> u32
-    ensures { MatchResult answer (λ _. result ≡ 0) (λ misuse. (result ≡ misuse_number misuse) × (result ≢ 0)) }
+    ensures { MatchResult answer (λ _. result ≡ 0)
+        (λ misuse. (result ≡ misuse_number misuse) × (result ≢ 0)) }
 {
     match answer {
         Ok(()) => OK,
@@ -29,7 +30,8 @@ pub(crate) fn number_of(answer: Result<(), Misuse>) -> u32
 
 /// Is about to enter the function that is exported by this name.
 fn enter(instance: &mut HostInstance<'_>, name: &[u8], arguments: &[u64]) -> u32
-    ensures { Answered result instance.old instance.new (Invokes instance.old instance.new name.now arguments.now)
+    ensures { Answered result instance.old instance.new
+        (Invokes instance.old instance.new name.now arguments.now)
         (NoCall instance.old name.now arguments.now) }
 {
     let Ok(name) = str::from_utf8(name) else {
@@ -43,8 +45,9 @@ fn enter(instance: &mut HostInstance<'_>, name: &[u8], arguments: &[u64]) -> u32
 pub fn invoke(alloc: Global, instance: &mut Handle, name: &[u8], arguments: &[u64]) -> u32
     ensures misuse { is_none (living instance.old.held) ≡ true
         → (result ≡ MISUSE) × (instance.new.held ≡ instance.old.held) }
-    ensures invoked { IfSome (living instance.old.held) (λ old.
-        IsSomeAnd (living instance.new.held) (λ new. Answered result old new (Invokes old new name.now arguments.now)
+    ensures invoked { IfSome (living instance.old.held)
+        (λ old. IsSomeAnd (living instance.new.held)
+        (λ new. Answered result old new (Invokes old new name.now arguments.now)
         (NoCall old name.now arguments.now))) }
     ensures bytes { bytes_of instance.new.held ≡ bytes_of instance.old.held }
 {
@@ -61,8 +64,8 @@ pub fn invoke(alloc: Global, instance: &mut Handle, name: &[u8], arguments: &[u6
 
 /// Lets an instance go on for at most this many units, and not past 2^64 - 1 in all.
 fn go_on(instance: &mut HostInstance<'_>, units: u64, told: &mut Told) -> u32
-    ensures went { Answered result instance.old instance.new (Went units instance.old instance.new told.new)
-        (NoGoing instance.old) }
+    ensures went { Answered result instance.old instance.new
+        (Went units instance.old instance.new told.new) (NoGoing instance.old) }
     ensures refused { result ≢ 0 → told.new ≡ told.old }
 {
     let most = units.min(u64::MAX - instance.used());
@@ -80,8 +83,10 @@ fn go_on(instance: &mut HostInstance<'_>, units: u64, told: &mut Told) -> u32
 pub fn go(alloc: Global, instance: &mut Handle, units: u64, told: &mut Told) -> u32
     ensures misuse { is_none (living instance.old.held) ≡ true
         → (result ≡ MISUSE) × (instance.new.held ≡ instance.old.held) × (told.new ≡ told.old) }
-    ensures went { IfSome (living instance.old.held) (λ old. IsSomeAnd (living instance.new.held) (λ new.
-        Answered result old new (Went units old new told.new) (NoGoing old) × (result ≢ 0 → told.new ≡ told.old))) }
+    ensures went { IfSome (living instance.old.held)
+        (λ old. IsSomeAnd (living instance.new.held)
+        (λ new. Answered result old new (Went units old new told.new) (NoGoing old)
+        × (result ≢ 0 → told.new ≡ told.old))) }
     ensures bytes { bytes_of instance.new.held ≡ bytes_of instance.old.held }
 {
     let Some(mut held) = instance.take(alloc) else {
@@ -97,8 +102,8 @@ pub fn go(alloc: Global, instance: &mut Handle, units: u64, told: &mut Told) -> 
 
 /// Answers with these results.
 fn give(instance: &mut HostInstance<'_>, results: &[u64]) -> u32
-    ensures { Answered result instance.old instance.new (Answers instance.old instance.new results.now)
-        (NoAnswer instance.old results.now) }
+    ensures { Answered result instance.old instance.new
+        (Answers instance.old instance.new results.now) (NoAnswer instance.old results.now) }
 {
     number_of(instance.answer_all(results))
 }
@@ -107,9 +112,9 @@ fn give(instance: &mut HostInstance<'_>, results: &[u64]) -> u32
 pub fn answer(alloc: Global, instance: &mut Handle, results: &[u64]) -> u32
     ensures misuse { is_none (living instance.old.held) ≡ true
         → (result ≡ MISUSE) × (instance.new.held ≡ instance.old.held) }
-    ensures answered { IfSome (living instance.old.held) (λ old.
-        IsSomeAnd (living instance.new.held) (λ new. Answered result old new (Answers old new results.now)
-        (NoAnswer old results.now))) }
+    ensures answered { IfSome (living instance.old.held)
+        (λ old. IsSomeAnd (living instance.new.held)
+        (λ new. Answered result old new (Answers old new results.now) (NoAnswer old results.now))) }
     ensures bytes { bytes_of instance.new.held ≡ bytes_of instance.old.held }
 {
     let Some(mut held) = instance.take(alloc) else {
@@ -125,8 +130,8 @@ pub fn answer(alloc: Global, instance: &mut Handle, results: &[u64]) -> u32
 
 /// Lets what is at work in an instance go.
 fn let_go(instance: &mut HostInstance<'_>) -> u32
-    ensures { Answered result instance.old instance.new (Does known instance.old acts.abandoned instance.new)
-        (NoLettingGo instance.old) }
+    ensures { Answered result instance.old instance.new
+        (Does known instance.old acts.abandoned instance.new) (NoLettingGo instance.old) }
 {
     number_of(instance.abandon())
 }
@@ -135,9 +140,9 @@ fn let_go(instance: &mut HostInstance<'_>) -> u32
 pub fn abandon(alloc: Global, instance: &mut Handle) -> u32
     ensures misuse { is_none (living instance.old.held) ≡ true
         → (result ≡ MISUSE) × (instance.new.held ≡ instance.old.held) }
-    ensures abandoned { IfSome (living instance.old.held) (λ old.
-        IsSomeAnd (living instance.new.held) (λ new. Answered result old new (Does known old acts.abandoned new)
-        (NoLettingGo old))) }
+    ensures abandoned { IfSome (living instance.old.held)
+        (λ old. IsSomeAnd (living instance.new.held)
+        (λ new. Answered result old new (Does known old acts.abandoned new) (NoLettingGo old))) }
     ensures bytes { bytes_of instance.new.held ≡ bytes_of instance.old.held }
 {
     let Some(mut held) = instance.take(alloc) else {
@@ -168,8 +173,10 @@ fn show_values(instance: &HostInstance<'_>, room: &mut [u64]) -> usize
 /// Copies the arguments of the host's function that is called, or the result of what has returned, as many as there is room for,
 /// and says how many there are.
 pub fn values(alloc: Global, instance: &mut Handle, room: &mut [u64]) -> usize
-    ensures shown { IfSome (living instance.old.held) (λ s. IsHandedOver s room.old room.new result) }
-    ensures none { is_none (living instance.old.held) ≡ true → (result ≡ 0) × (room.new ≡ room.old) }
+    ensures shown { IfSome (living instance.old.held)
+        (λ s. IsHandedOver s room.old room.new result) }
+    ensures none { is_none (living instance.old.held) ≡ true → (result ≡ 0)
+        × (room.new ≡ room.old) }
     ensures kept { instance.new.held ≡ instance.old.held }
 {
     let Some(held) = instance.take(alloc) else {

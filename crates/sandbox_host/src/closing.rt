@@ -12,7 +12,8 @@ use std::alloc::Global;
 pub fn close(alloc: Global, session: &mut Handle) -> u32
     ensures misuse { has_session session.old.held ≡ false
         → (result ≡ MISUSE) × (session.new.held ≡ session.old.held) }
-    ensures closed { has_session session.old.held ≡ true → (result ≡ OK) × (session.new.held ≡ None) }
+    ensures closed { has_session session.old.held ≡ true → (result ≡ OK)
+        × (session.new.held ≡ None) }
 {
     let Some(held) = session.take(alloc) else {
         return MISUSE;
@@ -29,7 +30,8 @@ pub fn close(alloc: Global, session: &mut Handle) -> u32
 pub fn unload(alloc: Global, module: &mut Handle) -> u32
     ensures misuse { has_module «module».old.held ≡ false
         → (result ≡ MISUSE) × («module».new.held ≡ «module».old.held) }
-    ensures closed { has_module «module».old.held ≡ true → (result ≡ OK) × («module».new.held ≡ None) }
+    ensures closed { has_module «module».old.held ≡ true → (result ≡ OK)
+        × («module».new.held ≡ None) }
 {
     let Some(held) = module.take(alloc) else {
         return MISUSE;
@@ -44,7 +46,8 @@ pub fn unload(alloc: Global, module: &mut Handle) -> u32
 
 /// What a finished session becomes where its module is kept.
 fn unloaded(held: HandleContent) -> (HandleContent, u32)
-    ensures kept { IfSome (finished_in held) (λ e. (result.1 ≡ 0) × (loaded_in result.0 ≡ Some (module_of e.loaded))
+    ensures kept { IfSome (finished_in held)
+        (λ e. (result.1 ≡ 0) × (loaded_in result.0 ≡ Some (module_of e.loaded))
         × (prepared_in result.0 ≡ prepared_in held)) }
     ensures other { is_none (finished_in held) ≡ true → (result.1 ≡ 100) × (result.0 ≡ held) }
     ensures bytes { bytes_in result.0 ≡ bytes_in held }
@@ -70,10 +73,12 @@ fn unloaded(held: HandleContent) -> (HandleContent, u32)
 
 /// Discards a finished session, whose module becomes a loaded one.
 pub fn close_loaded(alloc: Global, session: &mut Handle, module: &mut Handle) -> u32
-    ensures misuse { (is_none (finished session.old.held) ≡ true) ⊎ (is_none «module».old.held ≡ false)
-        → (result ≡ MISUSE) × (session.new.held ≡ session.old.held) × («module».new.held ≡ «module».old.held) }
-    ensures closed { IfSome (finished session.old.held) (λ e. is_none «module».old.held ≡ true
-        → (result ≡ OK) × (session.new.held ≡ None) × (loaded «module».new.held ≡ Some (module_of e.loaded))
+    ensures misuse { (is_none (finished session.old.held) ≡ true)
+        ⊎ (is_none «module».old.held ≡ false) → (result ≡ MISUSE)
+        × (session.new.held ≡ session.old.held) × («module».new.held ≡ «module».old.held) }
+    ensures closed { IfSome (finished session.old.held)
+        (λ e. is_none «module».old.held ≡ true → (result ≡ OK) × (session.new.held ≡ None)
+        × (loaded «module».new.held ≡ Some (module_of e.loaded))
         × (prepared «module».new.held ≡ prepared session.old.held)) }
     ensures bytes { result ≡ 0 → bytes_of «module».new.held ≡ bytes_of session.old.held }
 {

@@ -56,7 +56,8 @@ fn offset_of(
     own: usize,
     instruction: usize,
 ) -> u32
-    ensures told { (p : ProfileValue) → SpellsWith p bytes.old «module».now → IfSome (slice_get «module».now.bodies own) (IsOffset bytes.old own instruction result) }
+    ensures told { (p : ProfileValue) → SpellsWith p bytes.old «module».now
+        → IfSome (slice_get «module».now.bodies own) (IsOffset bytes.old own instruction result) }
     ensures kept { bytes.new ≡ bytes.old }
 {
     let Some(body) = module.module().bodies.as_slice().get(own) else {
@@ -98,7 +99,8 @@ fn frame_of(
     told: &mut FunctionFrame,
 ) -> u32
     ensures none { frame ≡ None → (result ≡ 101) × (told.new ≡ told.old) }
-    ensures told { IfSome frame (λ frame. (result ≡ 0) × TellsFrame bytes.old «module».now number frame told.new) }
+    ensures told { IfSome frame (λ frame. (result ≡ 0)
+        × TellsFrame bytes.old «module».now number frame told.new) }
     ensures kept { bytes.new ≡ bytes.old }
 {
     match frame {
@@ -113,9 +115,11 @@ fn frame_of(
 /// Tells the function at work of a session or an instance that isn't finished.
 fn frame_in(alloc: Global, held: &mut HandleContent, number: usize, told: &mut FunctionFrame) -> u32
     ensures misuse { is_none (machine_in held.old) ≡ true → (result ≡ 100) × (told.new ≡ told.old) }
-    ensures none { IfSome (machine_in held.old) (λ m. slice_get (frames_of m) number ≡ None → (result ≡ 101) × (told.new ≡ told.old)) }
-    ensures told { IfSome (machine_in held.old) (λ m. IfSome (slice_get (frames_of m) number) (λ frame. (result ≡ 0)
-        × TellsFrame (bytes_in held.old) m.valid number frame told.new)) }
+    ensures none { IfSome (machine_in held.old)
+        (λ m. slice_get (frames_of m) number ≡ None → (result ≡ 101) × (told.new ≡ told.old)) }
+    ensures told { IfSome (machine_in held.old)
+        (λ m. IfSome (slice_get (frames_of m) number)
+        (λ frame. (result ≡ 0) × TellsFrame (bytes_in held.old) m.valid number frame told.new)) }
     ensures kept { held.new ≡ held.old }
 {
     match held {
@@ -137,11 +141,14 @@ fn frame_in(alloc: Global, held: &mut HandleContent, number: usize, told: &mut F
 /// at the instruction that comes next, or at its call. While a session or an instance runs they are those of the run then; of a trap,
 /// and out of memory, those that were at work.
 pub fn frame_at(alloc: Global, session: &mut Handle, number: usize, told: &mut FunctionFrame) -> u32
-    ensures misuse { is_none (machine_of session.old.held) ≡ true → (result ≡ MISUSE) × (told.new ≡ told.old) }
+    ensures misuse { is_none (machine_of session.old.held) ≡ true → (result ≡ MISUSE)
+        × (told.new ≡ told.old) }
     ensures none { IfSome (machine_of session.old.held) (λ m. slice_get (frames_of m) number ≡ None
         → (result ≡ NO_FRAME) × (told.new ≡ told.old)) }
-    ensures told { IfSome (machine_of session.old.held) (λ m. IfSome (slice_get (frames_of m) number) (λ frame. (result ≡ OK)
-        × TellsFrame (bytes_of session.old.held) m.valid number frame told.new)) }
+    ensures told { IfSome (machine_of session.old.held)
+        (λ m. IfSome (slice_get (frames_of m) number)
+        (λ frame. (result ≡ OK) × TellsFrame (bytes_of session.old.held) m.valid number frame
+        told.new)) }
     ensures kept { session.new.held ≡ session.old.held }
 {
     let Some(mut held) = session.take(alloc) else {

@@ -47,8 +47,10 @@ fn read(memory: &[u8], address: u32, room: &mut [u8]) -> u32
 
 /// Reads bytes of memory, at any time.
 pub fn memory_read(alloc: Global, instance: &mut Handle, address: u32, room: &mut [u8]) -> u32
-    ensures misuse { is_none (living instance.old.held) ≡ true → (result ≡ MISUSE) × (room.new ≡ room.old) }
-    ensures read { IfSome (living instance.old.held) (λ s. IsRead s.machine.memory address room.old room.new result) }
+    ensures misuse { is_none (living instance.old.held) ≡ true → (result ≡ MISUSE)
+        × (room.new ≡ room.old) }
+    ensures read { IfSome (living instance.old.held)
+        (λ s. IsRead s.machine.memory address room.old room.new result) }
     ensures kept { instance.new.held ≡ instance.old.held }
 {
     let Some(held) = instance.take(alloc) else {
@@ -65,7 +67,8 @@ pub fn memory_read(alloc: Global, instance: &mut Handle, address: u32, room: &mu
 /// Writes bytes into an instance's memory, where it may be written.
 fn store(instance: &mut HostInstance<'_>, address: u32, bytes: &[u8]) -> u32
     ensures { Answered result instance.old instance.new
-        (Does known instance.old (acts.wrote (written instance.old.machine.memory address bytes.now)) instance.new)
+        (Does known instance.old (acts.wrote
+        (written instance.old.machine.memory address bytes.now)) instance.new)
         (NoWrite instance.old address bytes.now) }
 {
     number_of(instance.write(address, bytes))
@@ -75,8 +78,10 @@ fn store(instance: &mut HostInstance<'_>, address: u32, bytes: &[u8]) -> u32
 pub fn memory_write(alloc: Global, instance: &mut Handle, address: u32, bytes: &[u8]) -> u32
     ensures misuse { is_none (living instance.old.held) ≡ true
         → (result ≡ MISUSE) × (instance.new.held ≡ instance.old.held) }
-    ensures written { IfSome (living instance.old.held) (λ old. IsSomeAnd (living instance.new.held) (λ new.
-        Answered result old new (Does known old (acts.wrote (written old.machine.memory address bytes.now)) new)
+    ensures written { IfSome (living instance.old.held)
+        (λ old. IsSomeAnd (living instance.new.held)
+        (λ new. Answered result old new (Does known old
+        (acts.wrote (written old.machine.memory address bytes.now)) new)
         (NoWrite old address bytes.now))) }
     ensures bytes { bytes_of instance.new.held ≡ bytes_of instance.old.held }
 {

@@ -66,9 +66,11 @@ fn open_into(
     origin: Origin<'_>,
 ) -> u32
     requires { is_none handle.old.held ≡ true }
-    ensures opened { result ≡ 0 → IsSomeAnd (living handle.new.held) (BeginsInstance plugin.now.valid supplies.now origin.entry)
+    ensures opened { result ≡ 0 → IsSomeAnd (living handle.new.held)
+        (BeginsInstance plugin.now.valid supplies.now origin.entry)
         × (bytes_of handle.new.held ≡ bytes.now) }
-    ensures refused { result ≢ 0 → (handle.new.held ≡ None) × NotBegunInstance plugin.now supplies.now origin.entry result }
+    ensures refused { result ≢ 0 → (handle.new.held ≡ None)
+        × NotBegunInstance plugin.now supplies.now origin.entry result }
 {
     match begin_instance(alloc, plugin, supplies, origin) {
         Ok(instance) => {
@@ -92,8 +94,9 @@ pub fn open_instance(
     supplies: &Supplies<'static>,
     volume: &VolumeSource<'_>,
 ) -> u32
-    ensures misuse { ((is_none instance.old.held ≡ false) ⊎ (is_none (origin_of volume.now) ≡ true)) ⊎ (is_none (plugin_of plugin.old.held) ≡ true)
-        → (result ≡ MISUSE) × (instance.new.held ≡ instance.old.held) }
+    ensures misuse { ((is_none instance.old.held ≡ false) ⊎ (is_none (origin_of volume.now) ≡ true))
+        ⊎ (is_none (plugin_of plugin.old.held) ≡ true) → (result ≡ MISUSE)
+        × (instance.new.held ≡ instance.old.held) }
     ensures opened { is_none instance.old.held ≡ true → IfSome (origin_of volume.now) (λ origin.
         IfSome (plugin_of plugin.old.held) (λ ready. result ≡ 0
         → IsSomeAnd (living instance.new.held) (BeginsInstance ready.valid supplies.now origin))) }
@@ -148,7 +151,8 @@ fn end_instance(living: Living) -> (SessionLeft, u32)
 
 /// What an instance becomes where it is finished.
 fn ended_instance(held: HandleContent) -> (HandleContent, u32)
-    ensures finished { IfSome (living_in held) (λ s. IsSomeAnd (left_in result.0) (λ e. FinishesInstance s e result.1)) }
+    ensures finished { IfSome (living_in held)
+        (λ s. IsSomeAnd (left_in result.0) (λ e. FinishesInstance s e result.1)) }
     ensures other { is_none (living_in held) ≡ true → (result.1 ≡ 100) × (result.0 ≡ held) }
     ensures bytes { bytes_in result.0 ≡ bytes_in held }
 {

@@ -70,11 +70,13 @@ impl Write for KeptOutput {
 
     fn write(&mut self, buf: &[u8]) -> io::Result<usize>
         ensures bound { WritesAtMost result buf.now }
-        ensures bytes { WriteAppends (Some self.old.bytes.items) (Some self.new.bytes.items) result buf.now }
+        ensures bytes { WriteAppends (Some self.old.bytes.items) (Some self.new.bytes.items) result
+            buf.now }
         ensures most { self.new.most ≡ self.old.most }
 
         // All that there is room for is taken.
-        ensures takes { IfOk result (λ n. n ≡ min (length buf.now) (self.old.most - length self.old.bytes.items)) }
+        ensures takes { IfOk result (λ n. n ≡ min (length buf.now)
+            (self.old.most - length self.old.bytes.items)) }
 
         // It is full exactly where a write was refused for want of room, then and ever after.
         ensures refused { length self.old.bytes.items ≡ self.old.most → 0 < length buf.now

@@ -108,7 +108,8 @@ fn begin_shared<'a>(
     origin: Origin<'_>,
 ) -> Result<SharedHostSession<'a>, u32>
     ensures begins { IfOk result (Begins ready.now.valid supplies.now origin.entry) }
-    ensures refused { IfErr result (NotBegunOf (Some ready.now) ready.now.valid supplies.now origin.entry) }
+    ensures refused { IfErr result (NotBegunOf (Some ready.now) ready.now.valid supplies.now
+        origin.entry) }
     ensures some { IfErr result (λ number. number ≢ 0) }
 {
     if !supplies.limits.is_known() {
@@ -227,10 +228,13 @@ pub fn open(
 ) -> u32
     ensures misuse { (is_none session.old.held ≡ false) ⊎ (is_none (origin_of volume.now) ≡ true)
         → (result ≡ MISUSE) × (session.new ≡ session.old) × (why.new ≡ why.old) }
-    ensures opened { is_none session.old.held ≡ true → IfSome (origin_of volume.now) (λ origin. result ≡ 0
-        → IsSomeAnd (running session.new.held) (BeginsFrom «module».now supplies.now origin) × (why.new ≡ why.old)) }
-    ensures refused { is_none session.old.held ≡ true → IfSome (origin_of volume.now) (λ origin. result ≢ 0
-        → (session.new.held ≡ None) × NotOpened «module».now supplies.now origin result why.old why.new) }
+    ensures opened { is_none session.old.held ≡ true
+        → IfSome (origin_of volume.now) (λ origin. result ≡ 0
+        → IsSomeAnd (running session.new.held) (BeginsFrom «module».now supplies.now origin)
+        × (why.new ≡ why.old)) }
+    ensures refused { is_none session.old.held ≡ true
+        → IfSome (origin_of volume.now) (λ origin. result ≢ 0 → (session.new.held ≡ None)
+        × NotOpened «module».now supplies.now origin result why.old why.new) }
     ensures bytes { result ≡ 0 → bytes_of session.new.held ≡ «module».now }
 {
     let Some(origin) = volume.origin() else {
@@ -247,9 +251,11 @@ pub fn load_module(alloc: Global, module: &mut Handle, bytes: &'static [u8], why
     ensures misuse { is_none «module».old.held ≡ false
         → (result ≡ MISUSE) × («module».new ≡ «module».old) × (why.new ≡ why.old) }
     ensures loaded { is_none «module».old.held ≡ true → result ≡ 0
-        → IsSomeAnd (loaded «module».new.held) (IsLoaded bytes.now) × (prepared «module».new.held ≡ None) × (why.new ≡ why.old) }
+        → IsSomeAnd (loaded «module».new.held) (IsLoaded bytes.now)
+        × (prepared «module».new.held ≡ None) × (why.new ≡ why.old) }
     ensures refused { is_none «module».old.held ≡ true → result ≢ 0 → («module».new.held ≡ None)
-        × (((result ≡ why.new.fault) × NotLoaded bytes.now why.new) ⊎ ((result ≡ 40) × (why.new ≡ why.old))) }
+        × (((result ≡ why.new.fault) × NotLoaded bytes.now why.new)
+        ⊎ ((result ≡ 40) × (why.new ≡ why.old))) }
     ensures bytes { result ≡ 0 → bytes_of «module».new.held ≡ bytes.now }
 {
     load_module_with(alloc, module, bytes, 0, why)
@@ -266,9 +272,11 @@ pub fn load_module_with(
     ensures misuse { is_none «module».old.held ≡ false
         → (result ≡ MISUSE) × («module».new ≡ «module».old) × (why.new ≡ why.old) }
     ensures loaded { is_none «module».old.held ≡ true → result ≡ 0
-        → IsSomeAnd (loaded «module».new.held) (IsLoadedWith (profile_of floats) bytes.now) × (prepared «module».new.held ≡ None) × (why.new ≡ why.old) }
+        → IsSomeAnd (loaded «module».new.held) (IsLoadedWith (profile_of floats) bytes.now)
+        × (prepared «module».new.held ≡ None) × (why.new ≡ why.old) }
     ensures refused { is_none «module».old.held ≡ true → result ≢ 0 → («module».new.held ≡ None)
-        × (((result ≡ why.new.fault) × NotLoadedWith (profile_of floats) bytes.now why.new) ⊎ ((result ≡ 40) × (why.new ≡ why.old))) }
+        × (((result ≡ why.new.fault) × NotLoadedWith (profile_of floats) bytes.now why.new)
+        ⊎ ((result ≡ 40) × (why.new ≡ why.old))) }
     ensures bytes { result ≡ 0 → bytes_of «module».new.held ≡ bytes.now }
 {
     if !module.is_closed() {
@@ -297,9 +305,10 @@ fn begin_of(
     supplies: &Supplies<'static>,
     origin: Origin<'_>,
 ) -> Result<HostSession, (LoadedModule, u32)>
-    ensures begins { IfOk result (λ s. Begins (module_of loaded) supplies.now origin.entry (state_of s)
-        × (ready_with s ≡ ready_of loaded)) }
-    ensures refused { IfErr result (λ r. NotBegunOf (ready_of loaded) (module_of loaded) supplies.now origin.entry r.1) }
+    ensures begins { IfOk result (λ s. Begins (module_of loaded) supplies.now origin.entry
+        (state_of s) × (ready_with s ≡ ready_of loaded)) }
+    ensures refused { IfErr result (λ r. NotBegunOf (ready_of loaded) (module_of loaded)
+        supplies.now origin.entry r.1) }
     ensures module { IfErr result (λ r. r.0 ≡ loaded) }
     ensures some { IfErr result (λ r. r.1 ≢ 0) }
 {
@@ -322,8 +331,9 @@ fn begun(
     supplies: &Supplies<'static>,
     origin: Origin<'_>,
 ) -> (HandleContent, u32)
-    ensures begins { IfSome (loaded_in held) (λ m. result.1 ≡ 0
-        → IsSomeAnd (running_in result.0) (Begins m supplies.now origin.entry) × (prepared_in result.0 ≡ prepared_in held)) }
+    ensures begins { IfSome (loaded_in held)
+        (λ m. result.1 ≡ 0 → IsSomeAnd (running_in result.0) (Begins m supplies.now origin.entry)
+        × (prepared_in result.0 ≡ prepared_in held)) }
     ensures refused { IfSome (loaded_in held) (λ m. result.1 ≢ 0
         → (result.0 ≡ held) × NotBegunOf (prepared_in held) m supplies.now origin.entry result.1) }
     ensures other { is_none (loaded_in held) ≡ true → (result.1 ≡ 100) × (result.0 ≡ held) }
@@ -347,15 +357,18 @@ pub fn open_loaded(
     supplies: &Supplies<'static>,
     volume: &VolumeSource<'_>,
 ) -> u32
-    ensures misuse { ((is_none session.old.held ≡ false) ⊎ (is_none (origin_of volume.now) ≡ true)) ⊎ (is_none (loaded «module».old.held) ≡ true)
-        → (result ≡ MISUSE) × (session.new.held ≡ session.old.held) × («module».new.held ≡ «module».old.held) }
-    ensures opened { is_none session.old.held ≡ true → IfSome (origin_of volume.now) (λ origin.
-        IfSome (loaded «module».old.held) (λ m. result ≡ 0
-        → IsSomeAnd (running session.new.held) (Begins m supplies.now origin) × («module».new.held ≡ None)
-        × (prepared session.new.held ≡ prepared «module».old.held))) }
-    ensures refused { is_none session.old.held ≡ true → IfSome (origin_of volume.now) (λ origin.
-        IfSome (loaded «module».old.held) (λ m. result ≢ 0 → (session.new.held ≡ session.old.held)
-        × («module».new.held ≡ «module».old.held) × NotBegunOf (prepared «module».old.held) m supplies.now origin result)) }
+    ensures misuse { ((is_none session.old.held ≡ false) ⊎ (is_none (origin_of volume.now) ≡ true))
+        ⊎ (is_none (loaded «module».old.held) ≡ true) → (result ≡ MISUSE)
+        × (session.new.held ≡ session.old.held) × («module».new.held ≡ «module».old.held) }
+    ensures opened { is_none session.old.held ≡ true
+        → IfSome (origin_of volume.now) (λ origin. IfSome (loaded «module».old.held)
+        (λ m. result ≡ 0 → IsSomeAnd (running session.new.held) (Begins m supplies.now origin)
+        × («module».new.held ≡ None) × (prepared session.new.held ≡ prepared «module».old.held))) }
+    ensures refused { is_none session.old.held ≡ true
+        → IfSome (origin_of volume.now) (λ origin. IfSome (loaded «module».old.held)
+        (λ m. result ≢ 0 → (session.new.held ≡ session.old.held)
+        × («module».new.held ≡ «module».old.held) × NotBegunOf (prepared «module».old.held) m
+        supplies.now origin result)) }
     ensures bytes { result ≡ 0 → bytes_of session.new.held ≡ bytes_of «module».old.held }
 {
     let Some(origin) = volume.origin() else {

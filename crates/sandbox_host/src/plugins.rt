@@ -57,8 +57,9 @@ pub fn load_plugin(
     ensures misuse { is_none plugin.old.held ≡ false
         → (result ≡ MISUSE) × (plugin.new ≡ plugin.old) × (why.new ≡ why.old) }
     ensures loaded { is_none plugin.old.held ≡ true → result ≡ 0
-        → IsSomeAnd (plugin_of plugin.new.held) (λ ready. IsLoadedWith (profile_of floats) bytes.now ready.valid × (ready.pages ≡ most_pages limits.now))
-        × (why.new ≡ why.old) }
+        → IsSomeAnd (plugin_of plugin.new.held)
+        (λ ready. IsLoadedWith (profile_of floats) bytes.now ready.valid
+        × (ready.pages ≡ most_pages limits.now)) × (why.new ≡ why.old) }
     ensures refused { is_none plugin.old.held ≡ true → result ≢ 0 → (plugin.new.held ≡ None)
         × NotPluggedWith (profile_of floats) bytes.now limits.now result why.old why.new }
     ensures bytes { result ≡ 0 → bytes_of plugin.new.held ≡ bytes.now }
@@ -91,7 +92,8 @@ fn share_into(
     bytes: &'static [u8],
 ) -> u32
     requires { is_none other.old.held ≡ true }
-    ensures shared { result ≡ 0 → (plugin_of other.new.held ≡ Some ready.now) × (bytes_of other.new.held ≡ bytes.now) }
+    ensures shared { result ≡ 0 → (plugin_of other.new.held ≡ Some ready.now)
+        × (bytes_of other.new.held ≡ bytes.now) }
     ensures refused { result ≢ 0 → (result ≡ 40) × (other.new.held ≡ None) }
 {
     match ready.share() {
@@ -108,10 +110,11 @@ fn share_into(
 pub fn share_plugin(alloc: Global, other: &mut Handle, plugin: &mut Handle) -> u32
     ensures misuse { (is_none other.old.held ≡ false) ⊎ (is_none (plugin_of plugin.old.held) ≡ true)
         → (result ≡ MISUSE) × (other.new.held ≡ other.old.held) }
-    ensures shared { is_none other.old.held ≡ true → IfSome (plugin_of plugin.old.held) (λ ready. result ≡ 0
-        → plugin_of other.new.held ≡ Some ready) }
-    ensures refused { is_none other.old.held ≡ true → IfSome (plugin_of plugin.old.held) (λ ready. result ≢ 0
-        → (result ≡ OUT_OF_MEMORY) × (other.new.held ≡ None)) }
+    ensures shared { is_none other.old.held ≡ true → IfSome (plugin_of plugin.old.held)
+        (λ ready. result ≡ 0 → plugin_of other.new.held ≡ Some ready) }
+    ensures refused { is_none other.old.held ≡ true
+        → IfSome (plugin_of plugin.old.held)
+        (λ ready. result ≢ 0 → (result ≡ OUT_OF_MEMORY) × (other.new.held ≡ None)) }
     ensures bytes { result ≡ 0 → bytes_of other.new.held ≡ bytes_of plugin.old.held }
     ensures kept { plugin.new.held ≡ plugin.old.held }
 {
@@ -173,8 +176,10 @@ pub fn plugin_name(
     index: usize,
     room: &mut [u8],
 ) -> usize
-    ensures named { IfSome (plugin_of plugin.old.held) (λ ready. IsNamed ready.valid part index room.old room.new result) }
-    ensures misuse { is_none (plugin_of plugin.old.held) ≡ true → (result ≡ 2 ^ 64 - 1) × (room.new ≡ room.old) }
+    ensures named { IfSome (plugin_of plugin.old.held)
+        (λ ready. IsNamed ready.valid part index room.old room.new result) }
+    ensures misuse { is_none (plugin_of plugin.old.held) ≡ true → (result ≡ 2 ^ 64 - 1)
+        × (room.new ≡ room.old) }
     ensures kept { plugin.new.held ≡ plugin.old.held }
 {
     let Some(held) = plugin.take(alloc) else {

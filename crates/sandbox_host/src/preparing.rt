@@ -77,7 +77,8 @@ pub fn prepare_with(
     ensures misuse { is_none «module».old.held ≡ false
         → (result ≡ MISUSE) × («module».new ≡ «module».old) × (why.new ≡ why.old) }
     ensures loaded { is_none «module».old.held ≡ true → result ≡ 0
-        → IsSomeAnd (loaded «module».new.held) (IsLoadedWith (profile_of floats) bytes.now) × (why.new ≡ why.old) }
+        → IsSomeAnd (loaded «module».new.held) (IsLoadedWith (profile_of floats) bytes.now)
+        × (why.new ≡ why.old) }
     ensures prepared { is_none «module».old.held ≡ true → result ≡ 0
         → IsSomeAnd (prepared «module».new.held) (λ ready. ready.pages ≡ most_pages limits.now) }
     ensures refused { is_none «module».old.held ≡ true → result ≢ 0 → («module».new.held ≡ None)
@@ -115,8 +116,8 @@ fn share_into(
     bytes: &'static [u8],
 ) -> u32
     requires { is_none other.old.held ≡ true }
-    ensures shared { result ≡ 0 → (loaded other.new.held ≡ Some ready.now.valid) × (prepared other.new.held ≡ Some ready.now)
-        × (bytes_of other.new.held ≡ bytes.now) }
+    ensures shared { result ≡ 0 → (loaded other.new.held ≡ Some ready.now.valid)
+        × (prepared other.new.held ≡ Some ready.now) × (bytes_of other.new.held ≡ bytes.now) }
     ensures refused { result ≢ 0 → (result ≡ 40) × (other.new.held ≡ None) }
 {
     match ready.share() {
@@ -134,12 +135,16 @@ fn share_into(
 
 /// Gives a closed handle the same prepared module: sessions of both are of what was made once. The other may go to another thread.
 pub fn share(alloc: Global, other: &mut Handle, module: &mut Handle) -> u32
-    ensures misuse { ((is_none other.old.held ≡ false) ⊎ (has_module «module».old.held ≡ false)) ⊎ (is_none (prepared «module».old.held) ≡ true)
-        → (result ≡ MISUSE) × (other.new.held ≡ other.old.held) }
-    ensures shared { is_none other.old.held ≡ true → has_module «module».old.held ≡ true → IfSome (prepared «module».old.held) (λ ready. result ≡ 0
-        → (loaded other.new.held ≡ Some ready.valid) × (prepared other.new.held ≡ Some ready)) }
-    ensures refused { is_none other.old.held ≡ true → has_module «module».old.held ≡ true → IfSome (prepared «module».old.held) (λ ready. result ≢ 0
-        → (result ≡ OUT_OF_MEMORY) × (other.new.held ≡ None)) }
+    ensures misuse { ((is_none other.old.held ≡ false) ⊎ (has_module «module».old.held ≡ false))
+        ⊎ (is_none (prepared «module».old.held) ≡ true) → (result ≡ MISUSE)
+        × (other.new.held ≡ other.old.held) }
+    ensures shared { is_none other.old.held ≡ true → has_module «module».old.held ≡ true
+        → IfSome (prepared «module».old.held)
+        (λ ready. result ≡ 0 → (loaded other.new.held ≡ Some ready.valid)
+        × (prepared other.new.held ≡ Some ready)) }
+    ensures refused { is_none other.old.held ≡ true → has_module «module».old.held ≡ true
+        → IfSome (prepared «module».old.held)
+        (λ ready. result ≢ 0 → (result ≡ OUT_OF_MEMORY) × (other.new.held ≡ None)) }
     ensures bytes { result ≡ 0 → bytes_of other.new.held ≡ bytes_of «module».old.held }
     ensures kept { «module».new.held ≡ «module».old.held }
 {

@@ -39,8 +39,10 @@ fn tell(operation: Option<&Operation>, told: &mut VolumeOperation)
 
 /// Tells the operation of a device with this number.
 fn tell_of(device: &RecordedDevice, number: usize, told: &mut VolumeOperation) -> u32
-    ensures misuse { is_none (recorded_on device.now) ≡ true → (result ≡ 100) × (told.new ≡ told.old) }
-    ensures lost { IfSome (recorded_on device.now) (λ d. d.is_whole ≡ false → (result ≡ 40) × (told.new ≡ told.old)) }
+    ensures misuse { is_none (recorded_on device.now) ≡ true → (result ≡ 100)
+        × (told.new ≡ told.old) }
+    ensures lost { IfSome (recorded_on device.now)
+        (λ d. d.is_whole ≡ false → (result ≡ 40) × (told.new ≡ told.old)) }
     ensures told { IfSome (recorded_on device.now) (λ d. d.is_whole ≡ true
         → (result ≡ 0) × (told.new ≡ told_operation (operation_of d number) told.old)) }
 {
@@ -62,8 +64,10 @@ pub fn operation_at(
     number: usize,
     told: &mut VolumeOperation,
 ) -> u32
-    ensures misuse { is_none (recorded session.old.held) ≡ true → (result ≡ MISUSE) × (told.new ≡ told.old) }
-    ensures lost { IfSome (recorded session.old.held) (λ d. d.is_whole ≡ false → (result ≡ OUT_OF_MEMORY) × (told.new ≡ told.old)) }
+    ensures misuse { is_none (recorded session.old.held) ≡ true → (result ≡ MISUSE)
+        × (told.new ≡ told.old) }
+    ensures lost { IfSome (recorded session.old.held)
+        (λ d. d.is_whole ≡ false → (result ≡ OUT_OF_MEMORY) × (told.new ≡ told.old)) }
     ensures told { IfSome (recorded session.old.held) (λ d. d.is_whole ≡ true
         → (result ≡ OK) × (told.new ≡ told_operation (operation_of d number) told.old)) }
     ensures kept { session.new.held ≡ session.old.held }

@@ -144,7 +144,8 @@ fn end(session: HostSession, bytes: ModuleBytes<'static>) -> (Ended, u32)
 
 /// What a session becomes where it is finished.
 fn ended(held: HandleContent) -> (HandleContent, u32)
-    ensures finished { IfSome (running_in held) (λ s. IsSomeAnd (finished_in result.0) (λ e. Finishes s e result.1)) }
+    ensures finished { IfSome (running_in held)
+        (λ s. IsSomeAnd (finished_in result.0) (λ e. Finishes s e result.1)) }
     ensures other { is_none (running_in held) ≡ true → (result.1 ≡ 100) × (result.0 ≡ held) }
     ensures prepared { prepared_in result.0 ≡ prepared_in held }
     ensures bytes { bytes_in result.0 ≡ bytes_in held }

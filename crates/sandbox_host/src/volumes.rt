@@ -78,7 +78,8 @@ fn open_sectors(
     is_huge: bool,
 ) -> Result<Volume<RecordedDevice>, VolumeFault>
     ensures opens { IfOk result (IsVolume (Origin.Sectors sectors.entry is_recorded is_huge)) }
-    ensures refused { IfErr result (RefusesVolume (Origin.Sectors sectors.entry is_recorded is_huge)) }
+    ensures refused { IfErr result (RefusesVolume
+        (Origin.Sectors sectors.entry is_recorded is_huge)) }
 {
     let most = most_sectors(is_huge);
     if sectors.len() > most {

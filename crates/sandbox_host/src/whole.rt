@@ -23,7 +23,8 @@ use vol_sector::Refused;
 
 /// Decodes and validates a module.
 pub fn check(alloc: Global, module: &[u8], why: &mut Why) -> u32
-    ensures valid { result ≡ 0 → ((m : ModuleValue) × IsLoaded «module».now m) × (why.new ≡ why.old) }
+    ensures valid { result ≡ 0 → ((m : ModuleValue) × IsLoaded «module».now m)
+        × (why.new ≡ why.old) }
     ensures refused { result ≢ 0 → (result ≡ why.new.fault) × NotLoaded «module».now why.new }
 {
     match load(alloc, module) {
@@ -50,9 +51,11 @@ pub fn run(
     ended: &mut Told,
     why: &mut Why,
 ) -> u32
-    ensures ran { result ≡ 0 → Ran «module».now supplies.now fuel ended.new out_length.new out.old out.new × (why.new ≡ why.old) }
-    ensures refused { result ≢ 0 → NotOpened «module».now supplies.now Origin.Fresh result why.old why.new
-        × (out.new ≡ out.old) × (out_length.new ≡ out_length.old) × (ended.new ≡ ended.old) }
+    ensures ran { result ≡ 0 → Ran «module».now supplies.now fuel ended.new out_length.new out.old
+        out.new × (why.new ≡ why.old) }
+    ensures refused { result ≢ 0 → NotOpened «module».now supplies.now Origin.Fresh result why.old
+        why.new × (out.new ≡ out.old) × (out_length.new ≡ out_length.old)
+        × (ended.new ≡ ended.old) }
 {
     let session = match begin_from(alloc, module, supplies, Origin::Fresh, why) {
         Ok(session) => session,
@@ -69,8 +72,10 @@ pub fn run(
 
 /// Makes sectors an empty volume, in place: of version 1, with at most 65,536 sectors.
 pub fn format(alloc: Global, sectors: &mut [[u8; 512]], slots: u32) -> u32
-    ensures formatted { result ≡ 0 → StandsAs (image_of sectors.new) (fresh (length sectors.old) slots) (empty_tree slots) }
-    ensures refused { result ≢ 0 → IsUnformatted (fresh (length sectors.old) slots) result × (sectors.new ≡ sectors.old) }
+    ensures formatted { result ≡ 0 → StandsAs (image_of sectors.new)
+        (fresh (length sectors.old) slots) (empty_tree slots) }
+    ensures refused { result ≢ 0 → IsUnformatted (fresh (length sectors.old) slots) result
+        × (sectors.new ≡ sectors.old) }
     ensures kept { length sectors.new ≡ length sectors.old }
 {
     if sectors.len() > most_sectors(false) {
@@ -81,8 +86,10 @@ pub fn format(alloc: Global, sectors: &mut [[u8; 512]], slots: u32) -> u32
 
 /// Makes sectors an empty volume of version 4, in place: with at most 16,777,216 sectors.
 pub fn format_huge(alloc: Global, sectors: &mut [[u8; 512]], slots: u32) -> u32
-    ensures formatted { result ≡ 0 → StandsAs (image_of sectors.new) (fresh_as Version.Four (length sectors.old) slots) (empty_tree slots) }
-    ensures refused { result ≢ 0 → IsUnformatted (fresh_as Version.Four (length sectors.old) slots) result × (sectors.new ≡ sectors.old) }
+    ensures formatted { result ≡ 0 → StandsAs (image_of sectors.new)
+        (fresh_as Version.Four (length sectors.old) slots) (empty_tree slots) }
+    ensures refused { result ≢ 0 → IsUnformatted (fresh_as Version.Four (length sectors.old) slots)
+        result × (sectors.new ≡ sectors.old) }
     ensures kept { length sectors.new ≡ length sectors.old }
 {
     format_as(alloc, sectors, Version::Four, slots)
@@ -90,8 +97,10 @@ pub fn format_huge(alloc: Global, sectors: &mut [[u8; 512]], slots: u32) -> u32
 
 /// Makes sectors an empty volume of this version, in place.
 fn format_as(alloc: Global, sectors: &mut [[u8; 512]], version: Version, slots: u32) -> u32
-    ensures formatted { result ≡ 0 → StandsAs (image_of sectors.new) (fresh_as version (length sectors.old) slots) (empty_tree slots) }
-    ensures refused { result ≢ 0 → IsUnformatted (fresh_as version (length sectors.old) slots) result × (sectors.new ≡ sectors.old) }
+    ensures formatted { result ≡ 0 → StandsAs (image_of sectors.new)
+        (fresh_as version (length sectors.old) slots) (empty_tree slots) }
+    ensures refused { result ≢ 0 → IsUnformatted (fresh_as version (length sectors.old) slots)
+        result × (sectors.new ≡ sectors.old) }
     ensures kept { length sectors.new ≡ length sectors.old }
 {
     if sectors.len() > most_sectors(true) {

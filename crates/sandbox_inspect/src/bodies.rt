@@ -17,7 +17,8 @@ pub(crate) fn instruction_places(
     start: usize,
     count: usize,
 ) -> Result<Vec<usize>, AllocError>
-    ensures { IfOk result (λ places. places.items ≡ places_from (length bytes.now) count (after_locals (drop start bytes.now))) }
+    ensures { IfOk result (λ places. places.items ≡ places_from (length bytes.now) count
+        (after_locals (drop start bytes.now))) }
 {
     let mut places = Vec::with_capacity(alloc, count)?;
     let mut rest = after_locals(bytes.get(start..).unwrap_or(&[]));
@@ -30,7 +31,8 @@ pub(crate) fn instruction_places(
 
 /// So many tables that have nothing.
 pub(crate) fn no_places(alloc: Global, count: usize) -> Result<Vec<Vec<usize>>, AllocError>
-    ensures { IfOk result (λ tables. (own : ℕ) → IfSome (slice_get tables.items own) (λ places. places.items ≡ [])) }
+    ensures { IfOk result (λ tables. (own : ℕ) → IfSome (slice_get tables.items own)
+        (λ places. places.items ≡ [])) }
 {
     let mut tables = Vec::with_capacity(alloc, count)?;
     for _ in 0..count {

@@ -35,8 +35,9 @@ pub fn add_function_at(
     profile: Profile,
     offset: u32,
 ) -> io::Result<bool>
-    ensures { IfOk result (λ found. (f : Option ℕ) × IsFunctionAt profile bytes.now offset f × (found ≡ is_some f)
-        × (text.new.items ≡ text.old.items ++ option_map_or (function_text bytes.now) f [])) }
+    ensures { IfOk result (λ found. (f : Option ℕ) × IsFunctionAt profile bytes.now offset f
+        × (found ≡ is_some f) × (text.new.items ≡ text.old.items ++ option_map_or
+        (function_text bytes.now) f [])) }
 {
     match function_at(alloc, bytes, profile, offset)? {
         Some(index) => {
@@ -93,7 +94,8 @@ pub fn add_refused_import<L: Links>(
     links: &L,
     module: &Module<'_>,
 ) -> io::Result<bool>
-    ensures { IfOk result (λ found. let refused = refused_import L.links «module».now.types «module».now.imports in (found ≡ is_some refused)
+    ensures { IfOk result (λ found. let refused = refused_import L.links «module».now.types
+        «module».now.imports in (found ≡ is_some refused)
         × (text.new.items ≡ text.old.items ++ option_map_or import_name_text refused [])) }
 {
     match refused_import(links, module.types.as_slice(), module.imports.as_slice()) {

@@ -54,7 +54,8 @@ fn add_import<L: Links>(
     types: &[FuncType],
     import: &Import<'_>,
 ) -> io::Result<()>
-    ensures { OnOk result (text.new.items ≡ text.old.items ++ import_text L.links types.now import.now) }
+    ensures { OnOk result (text.new.items ≡ text.old.items ++ import_text L.links types.now
+        import.now) }
 {
     text.write_all(b"import:")?;
     add_name(text, import.module_name.as_str().as_bytes())?;
@@ -69,7 +70,8 @@ fn add_imports<L: Links>(
     types: &[FuncType],
     imports: &[Import<'_>],
 ) -> io::Result<()>
-    ensures { OnOk result (text.new.items ≡ text.old.items ++ flat_map (import_text L.links types.now) imports.now) }
+    ensures { OnOk result (text.new.items ≡ text.old.items ++ flat_map
+        (import_text L.links types.now) imports.now) }
 {
     for import in imports {
         add_import(text, links, types, import)?;
@@ -188,7 +190,8 @@ fn add_counts(
     start: Option<u32>,
     entry: &str,
 ) -> io::Result<()>
-    ensures { OnOk result (text.new.items ≡ text.old.items ++ counts_text functions globals start entry.now) }
+    ensures { OnOk result (text.new.items ≡ text.old.items ++ counts_text functions globals start
+        entry.now) }
 {
     write!(
         text,

@@ -69,7 +69,8 @@ fn exported_name(bytes: &[u8], index: u64) -> Option<&[u8]>
 
 /// A name, but for an empty one.
 fn named(name: Option<&[u8]>) -> Option<&[u8]>
-    ensures { option_map (λ name. name.now) result ≡ named (option_map (λ name. name.now) name.entry) }
+    ensures { option_map (λ name. name.now) result ≡ named
+        (option_map (λ name. name.now) name.entry) }
 {
     match name {
         Some(name) if !name.is_empty() => Some(name),
@@ -90,7 +91,8 @@ pub fn called(bytes: &[u8], index: u64) -> Option<&[u8]>
 
 /// Adds what a function is called, without blanks and line breaks, or `function[3]` where it has no name.
 pub fn add_called(text: &mut Vec<u8>, bytes: &[u8], index: u64) -> io::Result<()>
-    ensures { OnOk result (text.new.items ≡ text.old.items ++ called_text index (called bytes.now index)) }
+    ensures { OnOk result (text.new.items ≡ text.old.items ++ called_text index
+        (called bytes.now index)) }
 {
     match called(bytes, index) {
         Some(name) => add_name(text, name),

@@ -56,7 +56,8 @@ fn nth_entry(before: usize, entries: &[u8]) -> Option<(&[u8], &[u8])>
 
 /// The content of the entry of the module's own function, and how many bytes of the module stand behind it.
 pub(crate) fn own_entry(bytes: &[u8], own: usize) -> Option<(&[u8], usize)>
-    ensures { option_map {U = List ℕ × ℕ} (λ e. (e.0.now, e.1)) result ≡ option_map {U = List ℕ × ℕ} (λ e. (e.0, length e.1)) (own_entry bytes.now own) }
+    ensures { option_map {U = List ℕ × ℕ} (λ e. (e.0.now, e.1)) result ≡ option_map {U = List ℕ × ℕ}
+        (λ e. (e.0, length e.1)) (own_entry bytes.now own) }
 {
     let section = module_section(Wanted::Code, bytes)?;
     let (count, entries) = number(section.content)?;
@@ -71,7 +72,8 @@ pub(crate) fn own_entry(bytes: &[u8], own: usize) -> Option<(&[u8], usize)>
 /// the module's own of this index, counted from 0; none where its entry in the code section isn't this body.
 pub fn instruction_offset(bytes: &[u8], own: usize, body: &Body<'_>, index: usize) -> Option<usize>
     ensures found { IfSome result (λ offset. IsInstructionAt bytes.now own body.now index offset) }
-    ensures missing { IfNone result ((behind : List ℕ) → own_entry bytes.now own ≡ Some (body.now.bytes, behind) → ⊥) }
+    ensures missing { IfNone result ((behind : List ℕ)
+        → own_entry bytes.now own ≡ Some (body.now.bytes, behind) → ⊥) }
 {
     let (content, behind) = own_entry(bytes, own)?;
     if content != body.bytes.as_slice() {
@@ -84,8 +86,10 @@ pub fn instruction_offset(bytes: &[u8], own: usize, body: &Body<'_>, index: usiz
 /// A law: in the bytes of a module the body of each of its own functions stands in the entry of that function, and each of
 /// its instructions behind the locals and the instructions before it.
 pub fn instructions_stand_in_the_bytes()
-    ensures { (p : ProfileValue) (bytes : List ℕ) (m : ModuleValue) (own : ℕ) (b : BodyValue) (index : ℕ) → SpellsWith p bytes m → slice_get m.bodies own ≡ Some b
-        → (behind : List ℕ) × (own_entry bytes own ≡ Some (b.bytes, behind)) × (before : List ℕ) × StandsBehind p b index before }
+    ensures { (p : ProfileValue) (bytes : List ℕ) (m : ModuleValue) (own : ℕ) (b : BodyValue)
+        (index : ℕ) → SpellsWith p bytes m → slice_get m.bodies own ≡ Some b → (behind : List ℕ)
+        × (own_entry bytes own ≡ Some (b.bytes, behind)) × (before : List ℕ)
+        × StandsBehind p b index before }
 {}
 
 /// The bytes up to the end of the imports.

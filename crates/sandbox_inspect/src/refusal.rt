@@ -56,7 +56,8 @@ fn add_lines(
     offset: Option<u64>,
     function: Option<u64>,
 ) -> io::Result<()>
-    ensures { OnOk result (text.new.items ≡ text.old.items ++ lines_of number reason.now offset function) }
+    ensures { OnOk result (text.new.items ≡ text.old.items ++ lines_of number reason.now offset
+        function) }
 {
     write!(
         text,

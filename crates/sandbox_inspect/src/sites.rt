@@ -16,9 +16,11 @@ use wasm_module::Module;
 /// Where the instruction of this index of the module's own function begins, in bytes from the first of the module. There is
 /// such a place wherever these bytes spell the module by some profile and the function is there.
 fn own_offset(bytes: &[u8], module: &Module<'_>, own: usize, index: usize) -> Option<usize>
-    ensures stands { IfSome result (λ offset. (body : BodyValue) × (slice_get «module».now.bodies own ≡ Some body)
+    ensures stands { IfSome result (λ offset. (body : BodyValue)
+        × (slice_get «module».now.bodies own ≡ Some body)
         × IsInstructionAt bytes.now own body index offset) }
-    ensures told { (p : ProfileValue) → SpellsWith p bytes.now «module».now → own < length «module».now.bodies → IsSome result }
+    ensures told { (p : ProfileValue) → SpellsWith p bytes.now «module».now
+        → own < length «module».now.bodies → IsSome result }
 {
     let body = module.bodies.as_slice().get(own)?;
     instruction_offset(bytes, own, body, index)
@@ -43,8 +45,8 @@ fn add_offset_and_function(
     own: usize,
     offset: Option<usize>,
 ) -> io::Result<()>
-    ensures { OnOk result (text.new.items ≡ text.old.items
-        ++ site_text offset (function_of «module».now own) (called bytes.now (function_of «module».now own))) }
+    ensures { OnOk result (text.new.items ≡ text.old.items ++ site_text offset
+        (function_of «module».now own) (called bytes.now (function_of «module».now own))) }
 {
     let imported = module.imports.as_slice().len() as u64;
     let function = imported.saturating_add(own as u64);
@@ -62,7 +64,8 @@ pub fn add_site(
     own: usize,
     index: usize,
 ) -> io::Result<()>
-    ensures { OnOk result ((site : List ℕ) × IsSite bytes.now «module».now own index site × (text.new.items ≡ text.old.items ++ site)) }
+    ensures { OnOk result ((site : List ℕ) × IsSite bytes.now «module».now own index site
+        × (text.new.items ≡ text.old.items ++ site)) }
 {
     let offset = own_offset(bytes, module, own, index);
     add_offset_and_function(text, bytes, module, own, offset)

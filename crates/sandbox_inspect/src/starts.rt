@@ -24,7 +24,8 @@ fn add_starts(
     count: u32,
     entries: &[u8],
 ) -> Result<(), AllocError>
-    ensures { OnOk result (starts.new.items ≡ starts.old.items ++ starts_from end count entries.now) }
+    ensures { OnOk result (starts.new.items ≡ starts.old.items ++ starts_from end count
+        entries.now) }
 {
     let mut rest = entries;
     for _ in 0..count {
@@ -161,7 +162,8 @@ impl<'a> ModuleBytes<'a> {
 
     /// Where the instruction of this index begins, by the table of its function, whose body this is.
     fn placed(&self, own: usize, body: &Body<'_>, index: usize) -> Option<usize>
-        ensures found { (place : ℕ) (behind : List ℕ) → result ≡ Some place → own_entry self.now own ≡ Some (body.now.bytes, behind)
+        ensures found { (place : ℕ) (behind : List ℕ) → result ≡ Some place
+            → own_entry self.now own ≡ Some (body.now.bytes, behind)
             → IsInstructionAt self.now own body.now index place }
     {
         if index >= body.code.as_slice().len() {
@@ -174,7 +176,8 @@ impl<'a> ModuleBytes<'a> {
 
     /// Where the content of this function's entry begins, by the table.
     fn tabled(&self, own: usize) -> Option<usize>
-        ensures found { (start : ℕ) (content behind : List ℕ) → result ≡ Some start → own_entry self.now own ≡ Some (content, behind)
+        ensures found { (start : ℕ) (content behind : List ℕ) → result ≡ Some start
+            → own_entry self.now own ≡ Some (content, behind)
             → start ≡ length self.now - length behind - length content }
         ensures fits { length self.now < 2 ^ 64 }
     {
@@ -205,7 +208,8 @@ impl<'a> ModuleBytes<'a> {
         index: usize,
     ) -> Option<usize>
         ensures found { (behind : List ℕ) → own_entry self.old own ≡ Some (body.now.bytes, behind)
-            → (offset : ℕ) × (result ≡ Some offset) × IsInstructionAt self.old own body.now index offset }
+            → (offset : ℕ) × (result ≡ Some offset)
+            × IsInstructionAt self.old own body.now index offset }
         ensures kept { self.new ≡ self.old }
     {
         if let Some(place) = self.placed(own, body, index) {

@@ -86,9 +86,12 @@ pub fn survey<L: Links, W: Outlet>(
     profile: Profile,
     out: &mut W,
 ) -> io::Result<Result<(), LoadFault>>
-    ensures tells { IfOk result (Tells L.links profile bytes.now (W.contents out.old) (W.contents out.new)) }
-    ensures begins { IfErr result (λ e. PrintsBeginning L.links profile bytes.now (W.contents out.old) (W.contents out.new) (error_kind e)) }
-    ensures heard { HearsPrinting error_kind (Moves W.took) (Refuses W.took W.refused) result out.old out.new }
+    ensures tells { IfOk result (Tells L.links profile bytes.now (W.contents out.old)
+        (W.contents out.new)) }
+    ensures begins { IfErr result (λ e. PrintsBeginning L.links profile bytes.now
+        (W.contents out.old) (W.contents out.new) (error_kind e)) }
+    ensures heard { HearsPrinting error_kind (Moves W.took) (Refuses W.took W.refused) result
+        out.old out.new }
 {
     match text_in_memory(alloc, links, bytes, profile) {
         Ok((text, outcome)) => match print_all(out, text.as_slice()) {

@@ -25,7 +25,14 @@ pub struct Counted<S> {
 impl<S> Counted<S> {
     /// A stream that is counted from here on, and takes so many bytes at most.
     pub fn new(stream: S, most: u64) -> Counted<S>
-        ensures { result ≡ record { stream = stream; count = 0; most = most; full = false; failed = false } }
+        ensures { result ≡ record {
+          stream = stream;
+          count = 0;
+          most = most;
+          full = false;
+          failed =
+              false;
+        } }
     {
         Counted {
             stream,
@@ -41,7 +48,8 @@ impl<S> Counted<S> {
         ensures result { result ≡ moved }
         ensures count { Counts self.old.count self.new.count moved }
         ensures failed { self.new.failed ≡ failed_after self.old.failed moved }
-        ensures rest { (self.new.stream ≡ self.old.stream) × (self.new.most ≡ self.old.most) × (self.new.full ≡ self.old.full) }
+        ensures rest { (self.new.stream ≡ self.old.stream) × (self.new.most ≡ self.old.most)
+            × (self.new.full ≡ self.old.full) }
     {
         match &moved {
             Ok(count) => self.count = self.count.saturating_add(*count as u64),
@@ -66,7 +74,8 @@ impl<R: Read> Read for Counted<R> {
 
     fn read(&mut self, buf: &mut [u8]) -> io::Result<usize>
         ensures bound { ReadsAtMost result buf.new }
-        ensures bytes { ReadConsumes (R.remaining self.old.stream) (R.remaining self.new.stream) result buf.new }
+        ensures bytes { ReadConsumes (R.remaining self.old.stream) (R.remaining self.new.stream)
+            result buf.new }
         ensures count { Counts self.old.count self.new.count result }
         ensures failed { self.new.failed ≡ failed_after self.old.failed result }
         ensures bounds { (self.new.most ≡ self.old.most) × (self.new.full ≡ self.old.full) }
@@ -81,12 +90,16 @@ impl<W: Write> Write for Counted<W> {
 
     fn write(&mut self, buf: &[u8]) -> io::Result<usize>
         ensures bound { WritesAtMost result buf.now }
-        ensures bytes { WriteAppends (W.contents self.old.stream) (W.contents self.new.stream) result buf.now }
+        ensures bytes { WriteAppends (W.contents self.old.stream) (W.contents self.new.stream)
+            result buf.now }
         ensures count { Counts self.old.count self.new.count result }
         ensures within { self.new.count ≤ max self.old.count self.old.most }
-        ensures refused { self.old.most ≤ self.old.count → 0 < length buf.now → IsErr result × (self.new.stream ≡ self.old.stream) }
-        ensures full { self.new.full ≡ is_full_after self.old.full (self.old.most - self.old.count) (length buf.now) }
-        ensures failed { self.new.failed ≡ failed_after_write self.old.failed (self.old.most - self.old.count) (length buf.now) result }
+        ensures refused { self.old.most ≤ self.old.count → 0 < length buf.now → IsErr result
+            × (self.new.stream ≡ self.old.stream) }
+        ensures full { self.new.full ≡ is_full_after self.old.full (self.old.most - self.old.count)
+            (length buf.now) }
+        ensures failed { self.new.failed ≡ failed_after_write self.old.failed
+            (self.old.most - self.old.count) (length buf.now) result }
         ensures most { self.new.most ≡ self.old.most }
     {
         let room = self.most.saturating_sub(self.count);
@@ -100,7 +113,8 @@ impl<W: Write> Write for Counted<W> {
 
     fn flush(&mut self) -> io::Result<()>
         ensures bytes { Keeps (W.contents self.old.stream) (W.contents self.new.stream) }
-        ensures rest { (self.new.count ≡ self.old.count) × (self.new.most ≡ self.old.most) × (self.new.full ≡ self.old.full) × (self.new.failed ≡ self.old.failed) }
+        ensures rest { (self.new.count ≡ self.old.count) × (self.new.most ≡ self.old.most)
+            × (self.new.full ≡ self.old.full) × (self.new.failed ≡ self.old.failed) }
     {
         self.stream.flush()
     }

@@ -40,9 +40,11 @@ where
     W1: Outlet + Drop,
     W2: Outlet + Drop,
     // as `Volume::open` leaves it
-    requires { D.honest volume.device → (c : Image) → (D.disk volume.device).may_leave c → StandsAs c volume.numbers volume.tree }
-    ensures { D.honest volume.device → IfOk result (λ t.
-        StoppedAnywhere (devices D.Device R.Read W1.Write W2.Write R.gave R.refused W1.took W1.refused W2.took W2.refused) volume t.session t.first t.second) }
+    requires { D.honest volume.device → (c : Image) → (D.disk volume.device).may_leave c
+        → StandsAs c volume.numbers volume.tree }
+    ensures { D.honest volume.device → IfOk result
+        (λ t. StoppedAnywhere (devices D.Device R.Read W1.Write W2.Write R.gave R.refused W1.took
+        W1.refused W2.took W2.refused) volume t.session t.first t.second) }
 {
     turns_are_safe::<D, R, W1, W2>(); // a law for the contract
     volume.is_a_tree(); // another: the device has room for the volume
@@ -76,9 +78,10 @@ where
     R: Inlet + Drop,
     W1: Outlet + Drop,
     W2: Outlet + Drop,
-    ensures { D.honest device → IfSome result (λ t. (volume : Opened D)
-        × StandsOn (D.size device) (D.disk device).seen volume.numbers volume.tree
-        × StoppedAnywhere (devices D.Device R.Read W1.Write W2.Write R.gave R.refused W1.took W1.refused W2.took W2.refused) volume t.session t.first t.second) }
+    ensures { D.honest device → IfSome result
+        (λ t. (volume : Opened D) × StandsOn (D.size device) (D.disk device).seen volume.numbers
+        volume.tree × StoppedAnywhere (devices D.Device R.Read W1.Write W2.Write R.gave R.refused
+        W1.took W1.refused W2.took W2.refused) volume t.session t.first t.second) }
 {
     let volume = match Volume::open(alloc, device) {
         Ok(volume) => volume,

@@ -25,6 +25,7 @@ pub trait Inlet: Read {
     /// The stream's own, an interruption among them.
     fn try_read(&mut self, buf: &mut [u8]) -> io::Result<usize>
         ensures bound { ReadsAtMost result buf.new }
-        ensures bytes { ReadConsumes (Self.remaining self.old) (Self.remaining self.new) result buf.new }
+        ensures bytes { ReadConsumes (Self.remaining self.old) (Self.remaining self.new) result
+            buf.new }
         ensures told { MatchResult result (λ n. gave self.old (take n buf.new) self.new) (λ _. refused self.old self.new) };
 }

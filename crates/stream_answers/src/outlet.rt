@@ -31,7 +31,8 @@ pub trait Outlet: Write {
     /// The stream's own, an interruption among them.
     fn try_write(&mut self, buf: &[u8]) -> io::Result<usize>
         ensures bound { WritesAtMost result buf.now }
-        ensures bytes { WriteAppends (Self.contents self.old) (Self.contents self.new) result buf.now }
+        ensures bytes { WriteAppends (Self.contents self.old) (Self.contents self.new) result
+            buf.now }
         ensures told { MatchResult result (λ n. took self.old (take n buf.now) self.new) (λ _. refused self.old self.new) };
 
     /// Flushes it: whether it could be. Bytes that are known stay.

@@ -198,14 +198,14 @@ fn free_double_indirect_blocks<D: Device>(
         → slice_index double_indirect_blocks.now m < log_sectors log.old }
     requires working { has_failed log.old ≡ false }
     requires data { 0 < first_of sectors.old }
-    ensures frees { D.honest (device_of log.old)
-        → held.now.top.image ≡ block_bytes (view log.old) held.now.top.number
-        → held.now.above.image ≡ block_bytes (view log.old) held.now.above.number
-        → ((m i : ℕ) → m < NUMBERS → i < NUMBERS
+    ensures frees { D.honest (device_of log.old) → held.now.top.image ≡ block_bytes (view log.old)
+        held.now.top.number → held.now.above.image ≡ block_bytes (view log.old)
+        held.now.above.number → ((m i : ℕ) → m < NUMBERS → i < NUMBERS
         → number_in (view log.old) (slice_index double_indirect_blocks.now m) i ≢ 0
-        → number_in (view log.old) (slice_index double_indirect_blocks.now m) i < end_of sectors.old)
-        → OnOk result (Frees (taken_of sectors.old) (taken_of sectors.new)
-        (IsFreedWithDoubles (view log.old) (slice_index double_indirect_blocks.now) count NUMBERS)) }
+        → number_in (view log.old) (slice_index double_indirect_blocks.now m) i < end_of
+        sectors.old) → OnOk result (Frees (taken_of sectors.old) (taken_of sectors.new)
+        (IsFreedWithDoubles (view log.old) (slice_index double_indirect_blocks.now) count
+        NUMBERS)) }
     ensures range { (first_of sectors.new ≡ first_of sectors.old)
         × (end_of sectors.new ≡ end_of sectors.old) }
     ensures reads { OnlyReads log.old log.new }

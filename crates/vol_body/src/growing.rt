@@ -26,10 +26,12 @@ pub fn grow<D: Device>(
     requires there { inode_sector < log_sectors log.old }
     requires room { 0 < room_of log.old }
     requires sizes { (entry.old.size ≤ size) × (size ≤ LARGEST_SIZE) }
-    ensures bytes { IsBody (view log.old) entry.old → NamesOthers (view log.old) entry.old inode_sector
-        → OnOk result (bytes_of (view log.new) entry.new
-        ≡ bytes_of (view log.old) entry.old ++ replicate (size - entry.old.size) 0) }
-    ensures rules { IsBody (view log.old) entry.old → NamesOthers (view log.old) entry.old inode_sector
+    ensures bytes { IsBody (view log.old) entry.old
+        → NamesOthers (view log.old) entry.old inode_sector
+        → OnOk result (bytes_of (view log.new) entry.new ≡ bytes_of (view log.old) entry.old
+        ++ replicate (size - entry.old.size) 0) }
+    ensures rules { IsBody (view log.old) entry.old
+        → NamesOthers (view log.old) entry.old inode_sector
         → OnOk result (IsBody (view log.new) entry.new) }
     ensures entry { OnOk result (entry.new ≡ record entry.old { size = size }) }
     ensures staged { OnOk result

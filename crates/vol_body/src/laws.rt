@@ -17,8 +17,8 @@ ghost use Rattle.vol_inode.specs.declared.version.TheConstants.{LARGEST_SIZE};
 pub fn other_files_stay()
     ensures file { (one other : Image) (e : Entry) → SameSectors one other e
         → IsSameFile one other e }
-    ensures bytes { (one other : Image) (e : Entry) → SameSectors one other e → e.size ≤ LARGEST_SIZE
-        → bytes_of other e ≡ bytes_of one e }
+    ensures bytes { (one other : Image) (e : Entry) → SameSectors one other e
+        → e.size ≤ LARGEST_SIZE → bytes_of other e ≡ bytes_of one e }
     ensures rules { (one other : Image) (e : Entry) → SameSectors one other e → IsBody one e
         → IsBody other e }
 {}
@@ -27,14 +27,14 @@ pub fn other_files_stay()
 /// stand in a list of that length.
 pub fn names_at_most_what_it_needs()
     ensures length { (size : ℕ) → length (positions_of size) ≡ need_of size }
-    ensures places { (content : Image) (e : Entry) (p : BlockPosition) → IsBody content e → IsPosition p
-        → named content e p ≢ 0 → Contains (positions_of e.size) p }
+    ensures places { (content : Image) (e : Entry) (p : BlockPosition) → IsBody content e
+        → IsPosition p → named content e p ≢ 0 → Contains (positions_of e.size) p }
 {}
 
 /// A law: a survey has the number of each sector that the file names, and no others.
 pub fn survey_has_what_is_named()
-    ensures each { (content : Image) (e : Entry) (p : BlockPosition) → IsPosition p → named content e p ≢ 0
-        → Contains (sectors_named content e) (named content e p) }
+    ensures each { (content : Image) (e : Entry) (p : BlockPosition) → IsPosition p
+        → named content e p ≢ 0 → Contains (sectors_named content e) (named content e p) }
     ensures only { (content : Image) (e : Entry) (n : ℕ) → Contains (sectors_named content e) n
         → NamesSector content e n }
 {}

@@ -111,19 +111,21 @@ fn load_late<D: Device>(
     requires group { group < INNER_BLOCKS + 1 }
     requires there { end_of sectors.now ≤ log_sectors log.old }
     requires working { has_failed log.old ≡ false }
-    ensures next { D.honest (device_of log.old)
-        → NamesTaken (taken_of sectors.now) (view log.old) entry.now
-        → (TWICE_LISTED ≤ last → Mirrors (view log.old) entry.now triple_indirect_block triple.now.number triple.now.image)
-        → double_of (group + 1) ≢ double_of group → LISTED + SERVED * double_of (group + 1) ≤ last
-        → IfOk result (λ both. Mirrors (view log.old) entry.now (double_indirect_block (double_of (group + 1))) both.0.number both.0.image) }
-    ensures late { D.honest (device_of log.old)
-        → NamesTaken (taken_of sectors.now) (view log.old) entry.now
-        → (TWICE_LISTED ≤ last → Mirrors (view log.old) entry.now triple_indirect_block triple.now.number triple.now.image)
-        → (LISTED + SERVED * double_of group ≤ last
-        → Mirrors (view log.old) entry.now (double_indirect_block (double_of group)) double.now.number double.now.image)
-        → DIRECT + NUMBERS * (group + 1) ≤ last
-        → IfOk result (λ both. Mirrors (view log.old) entry.now (segment (group + 1)) both.1.number both.1.image) }
-    ensures known { IfOk result (λ both. IsKnown sectors.now both.0.number × IsKnown sectors.now both.1.number) }
+    ensures next { D.honest (device_of log.old) → NamesTaken (taken_of sectors.now) (view log.old)
+        entry.now → (TWICE_LISTED ≤ last → Mirrors (view log.old) entry.now triple_indirect_block
+        triple.now.number triple.now.image) → double_of (group + 1) ≢ double_of group
+        → LISTED + SERVED * double_of (group + 1) ≤ last
+        → IfOk result (λ both. Mirrors (view log.old) entry.now
+        (double_indirect_block (double_of (group + 1))) both.0.number both.0.image) }
+    ensures late { D.honest (device_of log.old) → NamesTaken (taken_of sectors.now) (view log.old)
+        entry.now → (TWICE_LISTED ≤ last → Mirrors (view log.old) entry.now triple_indirect_block
+        triple.now.number triple.now.image) → (LISTED + SERVED * double_of group ≤ last
+        → Mirrors (view log.old) entry.now (double_indirect_block (double_of group))
+        double.now.number double.now.image) → DIRECT + NUMBERS * (group + 1) ≤ last
+        → IfOk result (λ both. Mirrors (view log.old) entry.now (segment (group + 1)) both.1.number
+        both.1.image) }
+    ensures known { IfOk result (λ both. IsKnown sectors.now both.0.number
+        × IsKnown sectors.now both.1.number) }
     ensures reads { OnlyReads log.old log.new }
     ensures failed { has_failed log.new ≡ is_err result }
 {
@@ -172,9 +174,9 @@ pub fn load_triple<D: Device>(
 ) -> Result<PointerSector, DeviceFault>
     requires there { end_of sectors.now ≤ log_sectors log.old }
     requires working { has_failed log.old ≡ false }
-    ensures right { D.honest (device_of log.old)
-        → NamesTaken (taken_of sectors.now) (view log.old) entry.now → TWICE_LISTED ≤ last
-        → IfOk result (λ s. Mirrors (view log.old) entry.now triple_indirect_block s.number s.image) }
+    ensures right { D.honest (device_of log.old) → NamesTaken (taken_of sectors.now) (view log.old)
+        entry.now → TWICE_LISTED ≤ last → IfOk result
+        (λ s. Mirrors (view log.old) entry.now triple_indirect_block s.number s.image) }
     ensures known { IfOk result (λ s. s.number ≢ 0 → taken_of sectors.now s.number ≡ true) }
     ensures reads { OnlyReads log.old log.new }
     ensures failed { has_failed log.new ≡ is_err result }
@@ -198,10 +200,11 @@ pub fn load_double<D: Device>(
     requires small { last < MOST_BLOCKS }
     requires there { end_of sectors.now ≤ log_sectors log.old }
     requires working { has_failed log.old ≡ false }
-    ensures right { D.honest (device_of log.old)
-        → NamesTaken (taken_of sectors.now) (view log.old) entry.now → LISTED + SERVED * d ≤ last
-        → (TWICE_LISTED ≤ last → Mirrors (view log.old) entry.now triple_indirect_block triple.now.number triple.now.image)
-        → IfOk result (λ s. Mirrors (view log.old) entry.now (double_indirect_block d) s.number s.image) }
+    ensures right { D.honest (device_of log.old) → NamesTaken (taken_of sectors.now) (view log.old)
+        entry.now → LISTED + SERVED * d ≤ last
+        → (TWICE_LISTED ≤ last → Mirrors (view log.old) entry.now triple_indirect_block
+        triple.now.number triple.now.image) → IfOk result
+        (λ s. Mirrors (view log.old) entry.now (double_indirect_block d) s.number s.image) }
     ensures known { IfOk result (λ s. s.number ≢ 0 → taken_of sectors.now s.number ≡ true) }
     ensures reads { OnlyReads log.old log.new }
     ensures failed { has_failed log.new ≡ is_err result }
@@ -230,11 +233,12 @@ pub fn load_segment<D: Device>(
     requires small { last < MOST_BLOCKS }
     requires there { end_of sectors.now ≤ log_sectors log.old }
     requires working { has_failed log.old ≡ false }
-    ensures right { D.honest (device_of log.old)
-        → NamesTaken (taken_of sectors.now) (view log.old) entry.now → DIRECT + NUMBERS * group ≤ last
+    ensures right { D.honest (device_of log.old) → NamesTaken (taken_of sectors.now) (view log.old)
+        entry.now → DIRECT + NUMBERS * group ≤ last
         → (LISTED + SERVED * double_of group ≤ last
-        → Mirrors (view log.old) entry.now (double_indirect_block (double_of group)) above.now.number above.now.image)
-        → IfOk result (λ s. Mirrors (view log.old) entry.now (segment group) s.number s.image) }
+        → Mirrors (view log.old) entry.now (double_indirect_block (double_of group))
+        above.now.number above.now.image) → IfOk result
+        (λ s. Mirrors (view log.old) entry.now (segment group) s.number s.image) }
     ensures known { IfOk result (λ s. s.number ≢ 0 → taken_of sectors.now s.number ≡ true) }
     ensures reads { OnlyReads log.old log.new }
     ensures failed { has_failed log.new ≡ is_err result }
@@ -255,7 +259,8 @@ pub fn load_segment<D: Device>(
 pub fn listed_sector(sectors: &Alloc, above: &PointerSector, i: u32) -> u32
     requires { i < NUMBERS }
     ensures number { (content : Image) (e : Entry) (q : BlockPosition) (j : ℕ)
-        → ListedAt q i (data_block j) → j < MOST_BLOCKS → NamesTaken (taken_of sectors.now) content e
+        → ListedAt q i (data_block j) → j < MOST_BLOCKS
+        → NamesTaken (taken_of sectors.now) content e
         → Mirrors content e q above.now.number above.now.image
         → result ≡ named content e (data_block j) }
     ensures taken { result ≢ 0 → taken_of sectors.now result ≡ true }

@@ -54,7 +54,8 @@ pub fn shrink<D: Device>(
     ensures none_lost { IfSound log.old sectors.old entry.old (OnOk result
         (LosesNoSector sectors.old sectors.new (view log.old) (view log.new) entry.old
         entry.new)) }
-    ensures entry { OnOk result (EntryBecomes inode_sector size (view log.new) entry.old entry.new) }
+    ensures entry { OnOk result (EntryBecomes inode_sector size (view log.new) entry.old
+        entry.new) }
     ensures steps { StagesAtMost 5 log.old log.new sectors.old sectors.new (is_err result) }
     ensures refused { OnErr result ((OnlyReads log.old log.new) × (entry.new ≡ entry.old)) }
     ensures idle { has_failed log.old ≡ true → (log.new ≡ log.old) × IsErr result }

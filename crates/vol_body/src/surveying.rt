@@ -256,7 +256,8 @@ fn survey_triple_indirect_block<D: Device>(
     requires working { has_failed log.old ≡ false }
     requires inside { AreInside first end named.old.items }
     ensures { Surveys first end log.old log.new named.old.items named.new.items
-        (triple_indirect_block ∷ all_with_all_listed (view log.old) (listed (view log.old) triple_indirect_block))
+        (triple_indirect_block ∷ all_with_all_listed (view log.old)
+        (listed (view log.old) triple_indirect_block))
         (TripleNone (view log.old) triple_indirect_block count) result }
 {
     if triple_indirect_block == 0 {

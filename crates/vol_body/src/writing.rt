@@ -85,10 +85,10 @@ fn write_some<D: Device>(
     requires few { length bytes.now ≤ PIECE }
     requires some { 0 < length bytes.now }
     ensures done { IfSound log.old sectors.old entry.old
-        (need_of (max entry.old.size (offset + length bytes.now))
-        ≤ free_of sectors.old + used_of (view log.old) entry.old
-        → OnOk result (WriteLeaves inode_sector sectors.old sectors.new (view log.old) (view log.new)
-        entry.old entry.new offset bytes.now)) }
+        (need_of (max entry.old.size (offset + length bytes.now)) ≤ free_of sectors.old + used_of
+        (view log.old) entry.old → OnOk result
+        (WriteLeaves inode_sector sectors.old sectors.new (view log.old) (view log.new) entry.old
+        entry.new offset bytes.now)) }
     ensures entry { OnOk result (EntryBecomes inode_sector
         (max entry.old.size (offset + length bytes.now)) (view log.new) entry.old entry.new) }
     ensures widths { OnOk result (HasWidths entry.new) }
@@ -133,12 +133,11 @@ fn read_edges<D: Device>(
         → (offset ≤ 512 * (offset / 512) → 512 * (offset / 512) + 512 ≤ end → ⊥)
         → IfOk result (λ images. images.0
         ≡ block_bytes (view log.old) (named (view log.old) entry.now (data_block (offset / 512)))) }
-    ensures last { D.honest (device_of log.old)
-        → NamesTaken (taken_of sectors.now) (view log.old) entry.now
-        → MirrorsAll (view log.old) entry.now all.now (offset / 512) ((end - 1) / 512)
+    ensures last { D.honest (device_of log.old) → NamesTaken (taken_of sectors.now) (view log.old)
+        entry.now → MirrorsAll (view log.old) entry.now all.now (offset / 512) ((end - 1) / 512)
         → (offset ≤ 512 * ((end - 1) / 512) → 512 * ((end - 1) / 512) + 512 ≤ end → ⊥)
-        → IfOk result (λ images. images.1
-        ≡ block_bytes (view log.old) (named (view log.old) entry.now (data_block ((end - 1) / 512)))) }
+        → IfOk result (λ images. images.1 ≡ block_bytes (view log.old)
+        (named (view log.old) entry.now (data_block ((end - 1) / 512)))) }
     ensures reads { OnlyReads log.old log.new }
     ensures failed { has_failed log.new ≡ is_err result }
 {

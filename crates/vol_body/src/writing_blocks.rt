@@ -98,9 +98,9 @@ pub fn write_direct_block<D: Device>(
     requires direct { j < DIRECT }
     requires can { CanStage log.old sectors.old }
     requires room { 0 < room_of log.old }
-    ensures written { IsReady sectors.old (view log.old) entry.old → j < blocks_for_size entry.old.size
-        → ChangesPositions sectors.old sectors.new (view log.old) (view log.new) entry.old entry.new
-        (λ q. q ≡ data_block j)
+    ensures written { IsReady sectors.old (view log.old) entry.old
+        → j < blocks_for_size entry.old.size → ChangesPositions sectors.old sectors.new
+        (view log.old) (view log.new) entry.old entry.new (λ q. q ≡ data_block j)
         × (block_bytes (view log.new) (named (view log.new) entry.new (data_block j)) ≡ image.now) }
     ensures keeps { (n : ℕ) → taken_of sectors.old n ≡ true → taken_of sectors.new n ≡ true }
     ensures entry { entry.new ≡ record entry.old { pointers = entry.new.pointers } }
@@ -128,12 +128,12 @@ pub fn write_listed_block<D: Device>(
     requires can { CanStage log.old sectors.old }
     requires known { taken_of sectors.old above.old.number ≡ true }
     requires room { 1 < room_of log.old }
-    ensures written { (e : Entry) (q : BlockPosition) (j : ℕ) → ListedAt q i (data_block j) → IsPosition q
-        → j < MOST_BLOCKS → j < blocks_for_size e.size → IsReady sectors.old (view log.old) e
-        → Mirrors (view log.old) e q above.old.number above.old.image
-        → ChangesPositions sectors.old sectors.new (view log.old) (view log.new) e e
-        (λ x. (x ≡ data_block j) ⊎ (x ≡ q))
-        × (block_bytes (view log.new) (named (view log.new) e (data_block j)) ≡ image.now)
+    ensures written { (e : Entry) (q : BlockPosition) (j : ℕ) → ListedAt q i (data_block j)
+        → IsPosition q → j < MOST_BLOCKS → j < blocks_for_size e.size
+        → IsReady sectors.old (view log.old) e → Mirrors (view log.old) e q above.old.number
+        above.old.image → ChangesPositions sectors.old sectors.new (view log.old) (view log.new) e e
+        (λ x. (x ≡ data_block j) ⊎ (x ≡ q)) × (block_bytes (view log.new)
+        (named (view log.new) e (data_block j)) ≡ image.now)
         × Mirrors (view log.new) e q above.new.number above.new.image }
     ensures keeps { (n : ℕ) → taken_of sectors.old n ≡ true → taken_of sectors.new n ≡ true }
     ensures number { above.new.number ≡ above.old.number }

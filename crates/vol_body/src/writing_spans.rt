@@ -39,10 +39,10 @@ pub fn write_blocks<D: Device>(
     requires last { last < MOST_BLOCKS }
     requires touched { AreTouched piece.now.offset (length bytes.now) first (last + 1) }
     requires known { KnowsAll sectors.old all.old }
-    ensures written { IsReady sectors.old (view log.old) entry.old → last < blocks_for_size entry.old.size
-        → MirrorsAll (view log.old) entry.old all.old first last
-        → ChangesPositions sectors.old sectors.new (view log.old) (view log.new) entry.old entry.new
-        (λ p. IsBlockIn first (last + 1) p ⊎ IsPointer p)
+    ensures written { IsReady sectors.old (view log.old) entry.old
+        → last < blocks_for_size entry.old.size → MirrorsAll (view log.old) entry.old all.old first
+        last → ChangesPositions sectors.old sectors.new (view log.old) (view log.new) entry.old
+        entry.new (λ p. IsBlockIn first (last + 1) p ⊎ IsPointer p)
         × HasBlocks (view log.new) entry.new first (last + 1)
         (image_of piece.now.offset bytes.now piece.now.first piece.now.last) }
     ensures entry { entry.new ≡ record entry.old { pointers = entry.new.pointers } }
@@ -119,9 +119,9 @@ fn write_direct<D: Device>(
     requires can { CanStage log.old sectors.old }
     requires room { to - from ≤ room_of log.old }
     requires touched { AreTouched piece.now.offset (length bytes.now) from to }
-    ensures written { IsReady sectors.old (view log.old) entry.old → to ≤ blocks_for_size entry.old.size
-        → ChangesPositions sectors.old sectors.new (view log.old) (view log.new) entry.old entry.new
-        (IsBlockIn from to)
+    ensures written { IsReady sectors.old (view log.old) entry.old
+        → to ≤ blocks_for_size entry.old.size → ChangesPositions sectors.old sectors.new
+        (view log.old) (view log.new) entry.old entry.new (IsBlockIn from to)
         × HasBlocks (view log.new) entry.new from to
         (image_of piece.now.offset bytes.now piece.now.first piece.now.last) }
     ensures keeps { (n : ℕ) → taken_of sectors.old n ≡ true → taken_of sectors.new n ≡ true }
@@ -158,20 +158,23 @@ fn write_segment<D: Device>(
     requires touched { AreTouched piece.now.offset (length bytes.now) from to }
     requires known { IsKnown sectors.old above.old.number × IsKnown sectors.old double.old.number
         × IsKnown sectors.old triple.old.number }
-    ensures written { IsReady sectors.old (view log.old) entry.old → to ≤ blocks_for_size entry.old.size
-        → (from < to → Mirrors (view log.old) entry.old (segment group) above.old.number above.old.image)
-        → (from < to → 1 ≤ group → Mirrors (view log.old) entry.old (double_indirect_block (double_of group))
-        double.old.number double.old.image)
+    ensures written { IsReady sectors.old (view log.old) entry.old
+        → to ≤ blocks_for_size entry.old.size
+        → (from < to → Mirrors (view log.old) entry.old (segment group) above.old.number
+        above.old.image) → (from < to → 1 ≤ group → Mirrors (view log.old) entry.old
+        (double_indirect_block (double_of group)) double.old.number double.old.image)
         → (from < to → 1 ≤ double_of group → Mirrors (view log.old) entry.old triple_indirect_block
-        triple.old.number triple.old.image)
-        → ChangesPositions sectors.old sectors.new (view log.old) (view log.new) entry.old entry.new
+        triple.old.number triple.old.image) → ChangesPositions sectors.old sectors.new
+        (view log.old) (view log.new) entry.old entry.new
         (λ p. IsBlockIn from to p ⊎ IsAbove group p)
         × HasBlocks (view log.new) entry.new from to
         (image_of piece.now.offset bytes.now piece.now.first piece.now.last)
-        × (Mirrors (view log.old) entry.old (double_indirect_block (double_of group)) double.old.number double.old.image
-        → Mirrors (view log.new) entry.new (double_indirect_block (double_of group)) double.new.number double.new.image)
+        × (Mirrors (view log.old) entry.old (double_indirect_block (double_of group))
+        double.old.number double.old.image → Mirrors (view log.new) entry.new
+        (double_indirect_block (double_of group)) double.new.number double.new.image)
         × (Mirrors (view log.old) entry.old triple_indirect_block triple.old.number triple.old.image
-        → Mirrors (view log.new) entry.new triple_indirect_block triple.new.number triple.new.image) }
+        → Mirrors (view log.new) entry.new triple_indirect_block triple.new.number
+        triple.new.image) }
     ensures keeps { (n : ℕ) → taken_of sectors.old n ≡ true → taken_of sectors.new n ≡ true }
     ensures known { IsKnown sectors.new double.new.number × IsKnown sectors.new triple.new.number }
     ensures entry { entry.new ≡ record entry.old { pointers = entry.new.pointers } }
@@ -217,8 +220,8 @@ fn write_listed<D: Device>(
     requires room { to - from + 2 ≤ room_of log.old + staged_count log.old above.old.number }
     requires listed { AreListed start from to }
     requires touched { AreTouched piece.now.offset (length bytes.now) from to }
-    ensures written { (e : Entry) (g : ℕ) → start ≡ DIRECT + NUMBERS * g → to ≤ blocks_for_size e.size
-        → IsReady sectors.old (view log.old) e
+    ensures written { (e : Entry) (g : ℕ) → start ≡ DIRECT + NUMBERS * g
+        → to ≤ blocks_for_size e.size → IsReady sectors.old (view log.old) e
         → Mirrors (view log.old) e (segment g) above.old.number above.old.image
         → ChangesPositions sectors.old sectors.new (view log.old) (view log.new) e e
         (λ p. IsBlockIn from to p ⊎ (p ≡ segment g))
@@ -256,14 +259,17 @@ fn open_segment<D: Device>(
     ensures opened { IsReady sectors.old (view log.old) entry.old
         → DIRECT + NUMBERS * group < blocks_for_size entry.old.size
         → Mirrors (view log.old) entry.old (segment group) above.old.number above.old.image
-        → (1 ≤ group → Mirrors (view log.old) entry.old (double_indirect_block (double_of group)) double.old.number double.old.image)
-        → (1 ≤ double_of group → Mirrors (view log.old) entry.old triple_indirect_block triple.old.number triple.old.image)
+        → (1 ≤ group → Mirrors (view log.old) entry.old (double_indirect_block (double_of group))
+        double.old.number double.old.image) → (1 ≤ double_of group
+        → Mirrors (view log.old) entry.old triple_indirect_block triple.old.number triple.old.image)
         → AddsSector sectors.old sectors.new (view log.old) (view log.new) entry.old entry.new
         (IsAbove group) (segment group) above.new.number above.new.image
-        × (Mirrors (view log.old) entry.old (double_indirect_block (double_of group)) double.old.number double.old.image
-        → Mirrors (view log.new) entry.new (double_indirect_block (double_of group)) double.new.number double.new.image)
+        × (Mirrors (view log.old) entry.old (double_indirect_block (double_of group))
+        double.old.number double.old.image → Mirrors (view log.new) entry.new
+        (double_indirect_block (double_of group)) double.new.number double.new.image)
         × (Mirrors (view log.old) entry.old triple_indirect_block triple.old.number triple.old.image
-        → Mirrors (view log.new) entry.new triple_indirect_block triple.new.number triple.new.image) }
+        → Mirrors (view log.new) entry.new triple_indirect_block triple.new.number
+        triple.new.image) }
     ensures known { IsKnown sectors.new above.new.number × IsKnown sectors.new double.new.number
         × IsKnown sectors.new triple.new.number }
     ensures keeps { (n : ℕ) → taken_of sectors.old n ≡ true → taken_of sectors.new n ≡ true }
@@ -301,12 +307,14 @@ fn open_double<D: Device>(
     requires known { IsKnown sectors.old double.old.number × IsKnown sectors.old triple.old.number }
     ensures opened { IsReady sectors.old (view log.old) entry.old
         → LISTED + SERVED * d < blocks_for_size entry.old.size
-        → Mirrors (view log.old) entry.old (double_indirect_block d) double.old.number double.old.image
-        → (1 ≤ d → Mirrors (view log.old) entry.old triple_indirect_block triple.old.number triple.old.image)
-        → AddsSector sectors.old sectors.new (view log.old) (view log.new) entry.old entry.new
-        (λ p. (p ≡ double_indirect_block d) ⊎ (p ≡ triple_indirect_block)) (double_indirect_block d) double.new.number double.new.image
+        → Mirrors (view log.old) entry.old (double_indirect_block d) double.old.number
+        double.old.image → (1 ≤ d → Mirrors (view log.old) entry.old triple_indirect_block
+        triple.old.number triple.old.image) → AddsSector sectors.old sectors.new (view log.old)
+        (view log.new) entry.old entry.new (λ p. (p ≡ double_indirect_block d)
+        ⊎ (p ≡ triple_indirect_block)) (double_indirect_block d) double.new.number double.new.image
         × (Mirrors (view log.old) entry.old triple_indirect_block triple.old.number triple.old.image
-        → Mirrors (view log.new) entry.new triple_indirect_block triple.new.number triple.new.image) }
+        → Mirrors (view log.new) entry.new triple_indirect_block triple.new.number
+        triple.new.image) }
     ensures known { IsKnown sectors.new double.new.number }
     ensures known_triple { IsKnown sectors.new triple.new.number }
     ensures keeps { (n : ℕ) → taken_of sectors.old n ≡ true → taken_of sectors.new n ≡ true }
@@ -341,7 +349,8 @@ fn open_pointer<D: Device>(
     requires room { 0 < room_of log.old }
     requires known { IsKnown sectors.old above.old.number }
     ensures opened { (p : BlockPosition) → PointedAt slot p → INDIRECT ≤ slot
-        → IsReady sectors.old (view log.old) entry.old → first_served p < blocks_for_size entry.old.size
+        → IsReady sectors.old (view log.old) entry.old
+        → first_served p < blocks_for_size entry.old.size
         → Mirrors (view log.old) entry.old p above.old.number above.old.image
         → AddsSector sectors.old sectors.new (view log.old) (view log.new) entry.old entry.new
         (λ q. q ≡ p) p above.new.number above.new.image }

@@ -79,7 +79,8 @@ fn move_onto<D: Device>(volume: &mut Volume<D>, source: Serial, target: Serial) 
     requires source { IsEntryOf D.honest volume.old source }
     requires target { IsEntryOf D.honest volume.old target }
     ensures { Changed D.honest D.disk D.size D.failures D.goes_on
-        (λ T. renamed T source (parent_at T target) (name_at T target)) volume.old volume.new result }
+        (λ T. renamed T source (parent_at T target) (name_at T target)) volume.old volume.new
+        result }
 {
     if target == Serial::ROOT {
         return replace_root(volume, source);
@@ -141,8 +142,8 @@ fn move_to<D: Device>(
 /// be there.
 fn move_entry<D: Device>(volume: &mut Volume<D>, from: &str, to: &str) -> Result<(), Errno>
     requires { IsWorking volume.old }
-    ensures { Changed D.honest D.disk D.size D.failures D.goes_on (λ T. entry_moved T from.now to.now)
-        volume.old volume.new result }
+    ensures { Changed D.honest D.disk D.size D.failures D.goes_on
+        (λ T. entry_moved T from.now to.now) volume.old volume.new result }
 {
     let (source, _) = reached(volume, from)?;
     let (target, wants_dir) = reached(volume, to)?;

@@ -54,7 +54,8 @@ fn print_directory<D: Device, W: Outlet>(
         (blames_export result) }
     ensures prints { D.honest volume.old.device → PrintsDirectory volume.old.tree path.now
         (W.contents out.old) (W.contents out.new) result }
-    ensures heard { Hears (Moves W.took) (Refuses W.took W.refused) (blames_output result) out.old out.new }
+    ensures heard { Hears (Moves W.took) (Refuses W.took W.refused) (blames_output result) out.old
+        out.new }
 {
     let directory = directory_named(volume, path)?;
     export(alloc, volume, directory, out)?;
@@ -73,7 +74,8 @@ pub fn export_from<D: Device, W: Outlet>(
     ensures performs { PerformsExport D.honest D.disk D.size D.failures path.now device
         (W.contents out.old) (W.contents out.new) result.1 result.0 }
     ensures goes_on { KeepsWithin D.honest D.disk D.size D.goes_on device result.1 }
-    ensures heard { Hears (Moves W.took) (Refuses W.took W.refused) (blames_output result.0) out.old out.new }
+    ensures heard { Hears (Moves W.took) (Refuses W.took W.refused) (blames_output result.0) out.old
+        out.new }
 {
     match Volume::open(alloc, device) {
         Ok(mut volume) => {

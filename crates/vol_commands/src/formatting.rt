@@ -21,7 +21,8 @@ pub fn format_as<D: Device>(
     sectors: u32,
     slots: u32,
 ) -> (Result<(), Failure>, D)
-    ensures formats { Formats version D.honest D.disk D.size D.failures device sectors slots result.1 result.0 }
+    ensures formats { Formats version D.honest D.disk D.size D.failures device sectors slots
+        result.1 result.0 }
     ensures goes_on { FormatsWithin D.honest D.size D.goes_on sectors device result.1 }
 {
     match Volume::format_as(device, version, sectors, slots) {
@@ -32,10 +33,11 @@ pub fn format_as<D: Device>(
 
 /// Whether a device begins as a volume does, of whatever version; one without a sector doesn't.
 fn begins_as_volume<D: Device>(device: &mut D) -> Result<bool, DeviceFault>
-    ensures looks { LooksAt D.honest D.disk D.size D.failures device.old device.new (is_err result) }
+    ensures looks { LooksAt D.honest D.disk D.size D.failures device.old device.new
+        (is_err result) }
     ensures goes_on { (end : ℕ) → StillGoesOn (D.goes_on end) device.old device.new }
-    ensures begins { D.honest device.old
-        → IfOk result (λ b. IsTrue b ↔ BeginsAsVolume (D.size device.old) (D.disk device.old).seen) }
+    ensures begins { D.honest device.old → IfOk result
+        (λ b. IsTrue b ↔ BeginsAsVolume (D.size device.old) (D.disk device.old).seen) }
 {
     if device.sectors() == 0 {
         return Ok(false);

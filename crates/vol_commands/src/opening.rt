@@ -36,7 +36,8 @@ pub fn open_for_run<D: Device>(
     device: D,
 ) -> Result<Volume<D>, Refused<D>>
     ensures opens { IfOk result (IsOpenFor D.honest D.disk D.size D.failures file.entry device) }
-    ensures refused { IfErr result (IsRefusedFor D.honest D.disk D.size D.failures file.entry device) }
+    ensures refused { IfErr result (IsRefusedFor D.honest D.disk D.size D.failures file.entry
+        device) }
     ensures goes_on { OpensWithin D.honest D.disk D.size D.goes_on FRESH_SECTORS file.entry device
         (device_of_opening result) }
 {

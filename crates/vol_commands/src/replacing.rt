@@ -56,7 +56,8 @@ fn ask_place<D: Device>(volume: &mut Volume<D>, path: &str) -> Result<(), Errno>
 fn take_back<D: Device>(volume: &mut Volume<D>, beside: &str, failure: Failure) -> Failure
     requires working { IsWorking volume.old }
     requires blameless { blames_device (Err failure) ≡ false }
-    ensures kept { Keeps D.honest D.size D.failures volume.old volume.new (blames_device (Err result)) }
+    ensures kept { Keeps D.honest D.size D.failures volume.old volume.new
+        (blames_device (Err result)) }
     ensures goes_on { GoesOn D.goes_on volume.old volume.new }
     ensures unblamed { is_stream result ≡ true → is_stream failure ≡ true }
     ensures back { D.honest volume.old.device

@@ -92,8 +92,9 @@ pub fn perform<D: Device, R: Inlet, W: Outlet>(
     input: &mut R,
     out: &mut W,
 ) -> (Result<(), Failure>, D)
-    ensures performs { Performs D.honest D.disk D.size D.failures task.entry device (R.remaining input.old)
-        (R.remaining input.new) (W.contents out.old) (W.contents out.new) result.1 result.0 }
+    ensures performs { Performs D.honest D.disk D.size D.failures task.entry device
+        (R.remaining input.old) (R.remaining input.new) (W.contents out.old) (W.contents out.new)
+        result.1 result.0 }
     ensures goes_on { KeepsWithin D.honest D.disk D.size D.goes_on device result.1 }
     ensures heard { reads_input task.entry ≡ true
         → IsCause (Moves R.gave) R.refused result.0 input.old input.new }

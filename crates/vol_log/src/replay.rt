@@ -57,7 +57,8 @@ pub fn replay<D: Device>(
         → StillGoesOn (D.goes_on end) device.old device.new }
     ensures named { IfErr result (λ fault. IsDamage fault
         ⊎ (fault ≡ VolumeFault.Device)) }
-    ensures failures { D.failures device.new ≡ counted (device_failed result) (D.failures device.old) }
+    ensures failures { D.failures device.new ≡ counted (device_failed result)
+        (D.failures device.old) }
     ensures emptied { OnOk result (batch.new.items ≡ []) }
     ensures room_kept { OnOk result (120 ≤ vec_capacity batch.new) }
 {

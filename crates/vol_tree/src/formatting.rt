@@ -37,7 +37,8 @@ impl<D: Device> Volume<D> {
         ensures otherwise { HasRanges (fresh sectors slots) → sectors ≤ D.size device
             → IfErr result (λ r. r.fault ≡ VolumeFault.Device) }
         // A crash now leaves what reads give, and that is the empty volume.
-        ensures durable { D.honest device → IfOk result (λ d. Only (D.disk d).seen (D.disk d).may_leave) }
+        ensures durable { D.honest device → IfOk result
+            (λ d. Only (D.disk d).seen (D.disk d).may_leave) }
         ensures empty { D.honest device
             → IfOk result (λ d. StandsAs (D.disk d).seen (fresh sectors slots) (empty_tree slots)) }
         // At any moment a crash leaves what it could leave before, or no volume, or the empty one.
@@ -88,9 +89,10 @@ impl<D: Device> Volume<D> {
         ensures otherwise { HasRanges (fresh_as version sectors slots) → sectors ≤ D.size device
             → IfErr result (λ r. r.fault ≡ VolumeFault.Device) }
         // A crash now leaves what reads give, and that is the empty volume.
-        ensures durable { D.honest device → IfOk result (λ d. Only (D.disk d).seen (D.disk d).may_leave) }
-        ensures empty { D.honest device
-            → IfOk result (λ d. StandsAs (D.disk d).seen (fresh_as version sectors slots) (empty_tree slots)) }
+        ensures durable { D.honest device → IfOk result
+            (λ d. Only (D.disk d).seen (D.disk d).may_leave) }
+        ensures empty { D.honest device → IfOk result
+            (λ d. StandsAs (D.disk d).seen (fresh_as version sectors slots) (empty_tree slots)) }
         // At any moment a crash leaves what it could leave before, or no volume, or the empty one.
         ensures crash_ok { D.honest device → IfOk result (λ d. Leaves (D.disk device) (D.disk d)
             (IsNoneOrEmpty (fresh_as version sectors slots))) }

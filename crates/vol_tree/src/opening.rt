@@ -41,7 +41,8 @@ pub(crate) fn read_front<D: Device>(device: &mut D) -> Result<Superblock, Volume
     ensures honest { D.honest device.old ↔ D.honest device.new }
     ensures size { D.size device.new ≡ D.size device.old }
     ensures goes_on { (end : ℕ) → StillGoesOn (D.goes_on end) device.old device.new }
-    ensures failures { D.failures device.new ≡ counted (device_failed result) (D.failures device.old) }
+    ensures failures { D.failures device.new ≡ counted (device_failed result)
+        (D.failures device.old) }
 {
     if device.sectors() < LEAST_SECTORS {
         return Err(VolumeFault::NotAVolume);

@@ -220,7 +220,8 @@ impl<D: Device> Volume<D> {
             → Leaves (D.disk self.old.device) (D.disk self.new.device) (λ c. ⊥) }
         ensures kept { Keeps D.honest D.size D.failures self.old self.new (is_io result) }
         ensures goes_on { GoesOn D.goes_on self.old self.new }
-        ensures range { IfOk result (λ found. MatchOption found ⊤ (λ s. IsSerial self.old.numbers s)) }
+        ensures range { IfOk result (λ found. MatchOption found ⊤
+            (λ s. IsSerial self.old.numbers s)) }
     {
         let parts = &self.parts;
         let found = parts.dirs.lookup(&parts.log, directory, name)?;

@@ -33,7 +33,8 @@ pub(crate) enum DescriptorKinds {
 /// A check that answers this errno where it fails.
 #[tactic(auto, using(crate::proofs::checks::Chains::guard_passes, crate::proofs::checks::Chains::guard_fails))]
 pub(crate) fn check_that(holds: bool, errno: Errno) -> Result<(), Errno>
-    ensures meaning { MatchResult result (λ u. guard holds errno.0 ≡ Ok u) (λ e. guard holds errno.0 ≡ Err e.0) }
+    ensures meaning { MatchResult result (λ u. guard holds errno.0 ≡ Ok u)
+        (λ e. guard holds errno.0 ≡ Err e.0) }
     ensures passed { OnOk result (holds ≡ true) }
 {
     if holds { Ok(()) } else { Err(errno) }

@@ -26,7 +26,9 @@ use wasm_store::{Errno, Memory};
 #[tactic(auto, using(crate::proofs::checks::Chains::goes_on, crate::proofs::checks::Chains::stops, crate::proofs::bodies::PlainCalls::no_more, crate::proofs::bodies::PlainCalls::no_more_closed))]
 pub(crate) fn fd_close(descriptors: &mut Descriptors<'_>, fd: Fd) -> Result<(), Errno>
     ensures entries { NoMoreEntries (table_of descriptors.old) (table_of descriptors.new) }
-    ensures answers { (w : World) (m : _) → w.table ≡ table_of descriptors.old → Answers (close w fd) w m (record w { table = table_of descriptors.new }) m (errno_of result) }
+    ensures answers { (w : World) (m : _) → w.table ≡ table_of descriptors.old
+        → Answers (close w fd) w m (record w { table = table_of descriptors.new }) m
+        (errno_of result) }
 {
     described(descriptors, fd)?;
     match descriptors.close(fd) {
@@ -79,7 +81,8 @@ pub(crate) fn fd_fdstat_get(
     fd: Fd,
     result_at: u32,
 ) -> Result<(), Errno>
-    ensures { (w : World) → w.table ≡ table_of descriptors.now → w.interactive ≡ interactive → Answers (stat w memory.old fd result_at) w memory.old w memory.new (errno_of result) }
+    ensures { (w : World) → w.table ≡ table_of descriptors.now → w.interactive ≡ interactive
+        → Answers (stat w memory.old fd result_at) w memory.old w memory.new (errno_of result) }
 {
     let descriptor = described(descriptors, fd)?;
     check_range(memory, result_at, 24)?;
@@ -118,7 +121,8 @@ pub(crate) fn fd_prestat_get(
     fd: Fd,
     result_at: u32,
 ) -> Result<(), Errno>
-    ensures { (w : World) → w.table ≡ table_of descriptors.now → Answers (prestat w memory.old fd result_at) w memory.old w memory.new (errno_of result) }
+    ensures { (w : World) → w.table ≡ table_of descriptors.now
+        → Answers (prestat w memory.old fd result_at) w memory.old w memory.new (errno_of result) }
 {
     let descriptor = described(descriptors, fd)?;
     let name = guest_name(&descriptor)?;
@@ -136,7 +140,8 @@ pub(crate) fn fd_prestat_dir_name(
     path: u32,
     len: u32,
 ) -> Result<(), Errno>
-    ensures { (w : World) → w.table ≡ table_of descriptors.now → Answers (dir_name w memory.old fd path len) w memory.old w memory.new (errno_of result) }
+    ensures { (w : World) → w.table ≡ table_of descriptors.now
+        → Answers (dir_name w memory.old fd path len) w memory.old w memory.new (errno_of result) }
 {
     let descriptor = described(descriptors, fd)?;
     let name = guest_name(&descriptor)?;

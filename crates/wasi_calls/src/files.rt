@@ -32,9 +32,10 @@ pub(crate) fn sync<D: Device>(
 ) -> Result<(), Errno>
     ensures step { VolumeStep D.honest D.disk D.size D.failures D.goes_on volume.old volume.new }
     ensures io { errno_of result ≡ 29 → volume.new.failed ≡ true }
-    ensures answered { D.honest volume.old.device → (w : World) (m : _) → w.table ≡ table_of descriptors.now
-        → w ≡ with_volume volume.old w
-        → Answered (λ v. sync_row v fd (bits_of right)) w m (with_volume volume.new w) m (errno_of result) }
+    ensures answered { D.honest volume.old.device → (w : World) (m : _)
+        → w.table ≡ table_of descriptors.now → w ≡ with_volume volume.old w
+        → Answered (λ v. sync_row v fd (bits_of right)) w m (with_volume volume.new w) m
+        (errno_of result) }
     ensures durable { D.honest volume.old.device → errno_of result ≡ 0 → (c : Image)
         → (D.disk volume.new.device).may_leave c → StandsAs c volume.new.numbers volume.new.tree }
 {
@@ -57,9 +58,10 @@ pub(crate) fn set_size<D: Device>(
     requires { KnowsEntries D.honest volume.old (table_of descriptors.now) }
     ensures step { VolumeStep D.honest D.disk D.size D.failures D.goes_on volume.old volume.new }
     ensures io { errno_of result ≡ 29 → volume.new.failed ≡ true }
-    ensures answered { D.honest volume.old.device → (w : World) (m : _) → w.table ≡ table_of descriptors.now
-        → w ≡ with_volume volume.old w
-        → Answered (λ v. set_size_row v fd size) w m (with_volume volume.new w) m (errno_of result) }
+    ensures answered { D.honest volume.old.device → (w : World) (m : _)
+        → w.table ≡ table_of descriptors.now → w ≡ with_volume volume.old w
+        → Answered (λ v. set_size_row v fd size) w m (with_volume volume.new w) m
+        (errno_of result) }
 {
     match entry_at(
         descriptors,

@@ -43,11 +43,14 @@ pub(crate) fn reach<'p, D: Device>(
     text: &'p [u8],
 ) -> Result<Reached<'p>, vol_tree::Errno>
     requires { IsEntryOf D.honest volume.old directory }
-    ensures reaches { D.honest volume.old.device → (w : World) (o : _) (path : _) → o.serial ≡ directory → text.now ≡ path → w ≡ with_volume volume.old w
+    ensures reaches { D.honest volume.old.device → (w : World) (o : _) (path : _)
+        → o.serial ≡ directory → text.now ≡ path → w ≡ with_volume volume.old w
         → ReachesFrom volume.new w o path result }
-    ensures kept { (volume.new ≡ volume.old) ⊎ Keeps D.honest D.size D.failures volume.old volume.new (is_io result) }
+    ensures kept { (volume.new ≡ volume.old) ⊎ Keeps D.honest D.size D.failures volume.old
+        volume.new (is_io result) }
     ensures place { D.honest volume.old.device → Places volume.old.tree result }
-    ensures works { IfOk result (λ r. StillWorks D.honest D.disk D.size D.failures D.goes_on volume.old volume.new) }
+    ensures works { IfOk result (λ r. StillWorks D.honest D.disk D.size D.failures D.goes_on
+        volume.old volume.new) }
     ensures reached { IfOk result (IsReached D.honest volume.new) }
     ensures step { VolumeStep D.honest D.disk D.size D.failures D.goes_on volume.old volume.new }
     ensures io { is_io result ≡ true → volume.new.failed ≡ true }
@@ -95,12 +98,15 @@ pub(crate) fn reach_from<'m, D: Device>(
     requires { KnowsEntries D.honest volume.old (table_of descriptors.now) }
     ensures step { VolumeStep D.honest D.disk D.size D.failures D.goes_on volume.old volume.new }
     ensures io { errno_of result ≡ 29 → volume.new.failed ≡ true }
-    ensures works { IfOk result (λ r. StillWorks D.honest D.disk D.size D.failures D.goes_on volume.old volume.new) }
+    ensures works { IfOk result (λ r. StillWorks D.honest D.disk D.size D.failures D.goes_on
+        volume.old volume.new) }
     ensures reached { IfOk result (IsReached D.honest volume.new) }
     ensures place { D.honest volume.old.device → IfOk result (λ r. Places volume.old.tree (Ok r)) }
-    ensures asks { D.honest volume.old.device → (w : World) → w.table ≡ table_of descriptors.now → w ≡ with_volume volume.old w → MatchResult result
-        (λ r. Passes (λ v. reached_from v memory.now fd (bits_of rights) path len) w volume.new (reached_as r))
-        (λ e. Stops (λ v. reached_from v memory.now fd (bits_of rights) path len) w volume.new e.0) }
+    ensures asks { D.honest volume.old.device → (w : World) → w.table ≡ table_of descriptors.now
+        → w ≡ with_volume volume.old w → MatchResult result
+        (λ r. Passes (λ v. reached_from v memory.now fd (bits_of rights) path len) w volume.new
+        (reached_as r)) (λ e. Stops (λ v. reached_from v memory.now fd (bits_of rights) path len) w
+        volume.new e.0) }
 {
     let (directory, text) = match enter(descriptors, memory, fd, path, len, rights) {
         Ok(entered) => entered,
@@ -126,8 +132,10 @@ fn stat_path<D: Device>(
     ensures step { VolumeStep D.honest D.disk D.size D.failures D.goes_on volume.old volume.new }
     ensures io { errno_of result ≡ 29 → volume.new.failed ≡ true }
     ensures inside { OnOk result (result_at + 64 ≤ length memory.now) }
-    ensures finds { D.honest volume.old.device → (w : World) → w.table ≡ table_of descriptors.now → w ≡ with_volume volume.old w
-        → FindsBytes (λ v. stat_row v memory.now fd path len result_at) w memory.now volume.new result_at result }
+    ensures finds { D.honest volume.old.device → (w : World) → w.table ≡ table_of descriptors.now
+        → w ≡ with_volume volume.old w → FindsBytes
+        (λ v. stat_row v memory.now fd path len result_at) w memory.now volume.new result_at
+        result }
 {
     let (directory, text) = match enter(
         descriptors,
@@ -166,8 +174,9 @@ pub(crate) fn path_filestat_get<D: Device>(
     requires { KnowsEntries D.honest volume.old (table_of descriptors.now) }
     ensures step { VolumeStep D.honest D.disk D.size D.failures D.goes_on volume.old volume.new }
     ensures io { errno_of result ≡ 29 → volume.new.failed ≡ true }
-    ensures answered { D.honest volume.old.device → (w : World) → w.table ≡ table_of descriptors.now → w ≡ with_volume volume.old w
-        → Answered (λ v. stat_row v memory.old fd path len result_at) w memory.old (with_volume volume.new w) memory.new (errno_of result) }
+    ensures answered { D.honest volume.old.device → (w : World) → w.table ≡ table_of descriptors.now
+        → w ≡ with_volume volume.old w → Answered (λ v. stat_row v memory.old fd path len result_at)
+        w memory.old (with_volume volume.new w) memory.new (errno_of result) }
 {
     match stat_path(volume, descriptors, memory, fd, path, len, result_at) {
         Ok(bytes) => {
@@ -190,8 +199,9 @@ pub(crate) fn path_create_directory<D: Device>(
     requires { KnowsEntries D.honest volume.old (table_of descriptors.now) }
     ensures step { VolumeStep D.honest D.disk D.size D.failures D.goes_on volume.old volume.new }
     ensures io { errno_of result ≡ 29 → volume.new.failed ≡ true }
-    ensures answered { D.honest volume.old.device → (w : World) → w.table ≡ table_of descriptors.now → w ≡ with_volume volume.old w
-        → Answered (λ v. create_row v memory.now fd path len) w memory.now (with_volume volume.new w) memory.now (errno_of result) }
+    ensures answered { D.honest volume.old.device → (w : World) → w.table ≡ table_of descriptors.now
+        → w ≡ with_volume volume.old w → Answered (λ v. create_row v memory.now fd path len) w
+        memory.now (with_volume volume.new w) memory.now (errno_of result) }
 {
     let right = Rights::PATH_CREATE_DIRECTORY;
     match reach_from(volume, descriptors, memory, fd, path, len, right) {

@@ -26,7 +26,8 @@ pub struct Frame {
 /// that trapped they are those of the configuration whose next step takes the last unit, and out of memory of one at most a
 /// unit before, or none where no function was at work. Each function but the innermost goes on behind a call of the one inside it.
 pub fn frames_are_the_configurations()
-    ensures { (s : Snapshot) (i : Instance) (c : Configuration) → Represents s i c → Tells (outcome_of s) s.valid i c (frames_of s) }
+    ensures { (s : Snapshot) (i : Instance) (c : Configuration) → Represents s i c
+        → Tells (outcome_of s) s.valid i c (frames_of s) }
 {}
 
 impl State {
@@ -58,7 +59,8 @@ impl State {
 
     /// The function at work with so many inside it, or as it was when the run trapped or memory was refused.
     pub fn frame(&self, index: usize) -> Option<Frame>
-        ensures { (r : PreparedValue) → result ≡ slice_get (frames_of (snapshot_of r self.now)) index }
+        ensures { (r : PreparedValue) → result ≡ slice_get (frames_of (snapshot_of r self.now))
+            index }
     {
         if !self.is_inside() {
             return None;

@@ -54,7 +54,8 @@ impl<'a> Machine<'a> {
     ) -> Result<Machine<'a>, RefusedInstance<'a>>
         ensures starts { IfOk result (λ m. Starts (H.links host.now) pages valid.entry m) }
         ensures most { IfOk result (λ m. m.most_values ≡ 134217728) }
-        ensures refused { IfErr result (λ r. (r.valid ≡ valid.entry) × RefusedFor (H.links host.now) pages valid.entry r.fault) }
+        ensures refused { IfErr result (λ r. (r.valid ≡ valid.entry)
+            × RefusedFor (H.links host.now) pages valid.entry r.fault) }
     {
         match begin(alloc, &valid, pages, host) {
             Ok(begun) => Ok(Machine {

@@ -28,7 +28,11 @@ impl Pending {
 
     /// None of the two has been entered.
     pub fn new(start: Option<u32>, main: Option<u32>) -> Pending
-        ensures { result ≡ record { functions = option_to_list start ++ option_to_list main; invoked = None } }
+        ensures { result ≡ record {
+          functions = option_to_list start ++ option_to_list main;
+          invoked
+              = None;
+        } }
     {
         Pending {
             start,

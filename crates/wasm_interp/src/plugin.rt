@@ -52,8 +52,11 @@ impl<'a> PreparedPlugin<'a> {
         reserved: &str,
     ) -> Result<PreparedPlugin<'a>, RefusedInstance<'a>>
         ensures module { IfOk result (λ m. (m.valid ≡ valid.entry) × (m.pages ≡ pages)) }
-        ensures linked { IfOk result (λ m. AreLinksOf (with_embedder (H.links host.now) reserved.now) m.valid m.calls) }
-        ensures refused { IfErr result (λ r. (r.valid ≡ valid.entry) × NotAllocated (with_embedder (H.links host.now) reserved.now) pages valid.entry r.fault) }
+        ensures linked { IfOk result (λ m. AreLinksOf
+            (with_embedder (H.links host.now) reserved.now) m.valid m.calls) }
+        ensures refused { IfErr result (λ r. (r.valid ≡ valid.entry)
+            × NotAllocated (with_embedder (H.links host.now) reserved.now) pages valid.entry
+            r.fault) }
     {
         let tables = match open(alloc, &valid, pages, host, reserved) {
             Ok(begun) => begun.tables,
@@ -104,9 +107,12 @@ impl<'a> PreparedPlugin<'a> {
         host: &H,
         reserved: &str,
     ) -> Result<InvokedMachine<'a>, InstanceFault>
-        requires { AreLinksOf (with_embedder (H.links host.now) reserved.now) self.now.valid self.now.calls }
-        ensures opens { IfOk result (λ m. Opens (with_embedder (H.links host.now) reserved.now) self.now.pages self.now.valid m) }
-        ensures refused { IfErr result (λ e. NotAllocated (with_embedder (H.links host.now) reserved.now) self.now.pages self.now.valid e) }
+        requires { AreLinksOf (with_embedder (H.links host.now) reserved.now) self.now.valid
+            self.now.calls }
+        ensures opens { IfOk result (λ m. Opens (with_embedder (H.links host.now) reserved.now)
+            self.now.pages self.now.valid m) }
+        ensures refused { IfErr result (λ e. NotAllocated
+            (with_embedder (H.links host.now) reserved.now) self.now.pages self.now.valid e) }
     {
         let state = match open_again(alloc, &*self.prepared, self.pages, host, reserved) {
             Ok(state) => state,

@@ -56,7 +56,8 @@ impl<'a> PreparedModule<'a> {
     ) -> Result<PreparedModule<'a>, RefusedInstance<'a>>
         ensures module { IfOk result (λ m. (m.valid ≡ valid.entry) × (m.pages ≡ pages)) }
         ensures linked { IfOk result (λ m. AreCallsOf (H.links host.now) m.valid m.calls) }
-        ensures refused { IfErr result (λ r. (r.valid ≡ valid.entry) × RefusedFor (H.links host.now) pages valid.entry r.fault) }
+        ensures refused { IfErr result (λ r. (r.valid ≡ valid.entry)
+            × RefusedFor (H.links host.now) pages valid.entry r.fault) }
     {
         let tables = match begin(alloc, &valid, pages, host) {
             Ok(begun) => begun.tables,
@@ -127,9 +128,11 @@ impl<'a> SharedMachine<'a> {
         host: &H,
     ) -> Result<SharedMachine<'a>, InstanceFault>
         requires { AreCallsOf (H.links host.now) ready.now.valid ready.now.calls }
-        ensures starts { IfOk result (λ m. Starts (H.links host.now) ready.now.pages ready.now.valid m) }
+        ensures starts { IfOk result (λ m. Starts (H.links host.now) ready.now.pages ready.now.valid
+            m) }
         ensures most { IfOk result (λ m. m.most_values ≡ 134217728) }
-        ensures refused { IfErr result (λ e. RefusedFor (H.links host.now) ready.now.pages ready.now.valid e) }
+        ensures refused { IfErr result (λ e. RefusedFor (H.links host.now) ready.now.pages
+            ready.now.valid e) }
     {
         let state = match begin_again(alloc, &*ready.prepared, ready.pages, host) {
             Ok(state) => state,

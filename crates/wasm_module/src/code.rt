@@ -4,17 +4,17 @@ ghost use Rattle.std.specs.Prelude.{◌≡◌};
 ghost use Rattle.wasm_syntax.specs.internal.CodeReading.{binary_operator_of, block_with, branch_table_at, branch_with, bulk_after, bulk_at, call_indirect_at, compared, comparison_of, control_after, float_after, floats_at, load_after, load_of, numeric_of, only_table_at, operated, operator_after, saturated, size_after, store_after, store_of, unary_instruction, variable_after, variable_with};
 ghost use Rattle.wasm_syntax.specs.Reading.{Gives};
 
-use wasm_syntax::accesses::{LoadOperator, StoreOperator};
 use crate::cursor::{Cursor, Decode};
-use wasm_syntax::fault::LoadFault;
 use crate::floats::{float, is_float, saturation};
+use std::alloc::Global;
+use wasm_syntax::accesses::{LoadOperator, StoreOperator};
+use wasm_syntax::fault::LoadFault;
 use wasm_syntax::instruction::{
     BinaryOperator, BlockType, BranchTable, Comparison, Instruction, IntegerType, MemArg,
     UnaryOperator,
 };
 use wasm_syntax::items::Items;
 use wasm_syntax::profile::Profile;
-use std::alloc::Global;
 
 /// Why this byte is no opcode: the loads and stores of floats are known, and may be refused.
 fn unknown(byte: u8, offset: u32) -> LoadFault {
@@ -389,7 +389,8 @@ fn floats(
     byte: u8,
     offset: u32,
 ) -> Result<Instruction, LoadFault>
-    ensures { Gives (λ x. (x, cursor.new)) result (floats_at profile (float_after byte) cursor.old) }
+    ensures { Gives (λ x. (x, cursor.new)) result
+        (floats_at profile (float_after byte) cursor.old) }
 {
     match profile {
         Profile::Integers => Err(LoadFault::Float { offset }),

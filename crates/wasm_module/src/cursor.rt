@@ -5,14 +5,14 @@ ghost use Rattle.wasm_syntax.specs.internal.CodeReading.{s32_at, s64_at, one_mor
 ghost use Rattle.wasm_syntax.specs.declared.profile.Profile.{Profile as ProfileValue};
 ghost use Rattle.wasm_syntax.specs.Reading.{Gives, Reader, byte_at, number_at, u32_at, next_at, begins, many_at, vector_at, piece_at, whole, sized_at, raw_of, utf8_text_of, name_at, custom_of, customs_at, section_at};
 
+use std::alloc::Global;
+use std::marker::Model;
 use wasm_syntax::fault::LoadFault;
 use wasm_syntax::instruction::Instruction;
 use wasm_syntax::items::{Bytes, Items, Name};
 use wasm_syntax::number::{NumberSpan, Sign, last, number};
 use wasm_syntax::open_blocks::OpenBlocks;
 use wasm_syntax::profile::Profile;
-use std::alloc::Global;
-use std::marker::Model;
 
 /// The bytes that are left, and where in the input they end.
 #[derive(Drop)]
@@ -394,7 +394,8 @@ impl<'a> Cursor<'a> {
         profile: Profile,
         id: u8,
     ) -> Result<Option<T>, LoadFault>
-        ensures { Gives (λ x. (x, self.new)) result (section_at id (whole (T.at profile)) self.old) }
+        ensures { Gives (λ x. (x, self.new)) result
+            (section_at id (whole (T.at profile)) self.old) }
     {
         if !self.begins(id) {
             return Ok(None);
@@ -415,7 +416,8 @@ impl<'a> Cursor<'a> {
         code: &mut Vec<Instruction>,
         blocks: &mut OpenBlocks,
     ) -> Result<(), LoadFault>
-        ensures { Gives (λ _. ((code.new.items, blocks.new), self.new)) result (one_more_at profile code.old.items blocks.old self.old) }
+        ensures { Gives (λ _. ((code.new.items, blocks.new), self.new)) result
+            (one_more_at profile code.old.items blocks.old self.old) }
     {
         let offset = self.offset();
         let instruction = Instruction::decode(alloc, self, profile)?;

@@ -9,15 +9,15 @@ ghost use Rattle.wasm_syntax.specs.declared.module.Module.{Module as ModuleValue
 ghost use Rattle.wasm_syntax.specs.declared.profile.Profile.{Profile as ProfileValue};
 
 use crate::cursor::{Cursor, Decode};
+use crate::limits;
+use crate::parts::Tables;
+use std::alloc::Global;
 use wasm_syntax::fault::LoadFault;
 use wasm_syntax::items::Items;
-use crate::limits;
 use wasm_syntax::module::{
     Body, DataSegment, ElementSegment, Export, FuncType, GlobalEntry, Import, Limits, Module,
 };
-use crate::parts::Tables;
 use wasm_syntax::profile::Profile;
-use std::alloc::Global;
 
 /// How many bytes a module has at most.
 const MOST_BYTES: u32 = 67_108_864;
@@ -28,7 +28,8 @@ const LAST_SECTION: u8 = 12;
 /// Four bytes, which have to be these.
 #[tactic(auto, unfolding(crate::specs::internal::ModuleReading::word_at))]
 fn word(cursor: &mut Cursor<'_>, bytes: (u8, u8, u8, u8), fault: LoadFault) -> Result<(), LoadFault>
-    ensures { Gives (λ x. (x, cursor.new)) result (word_at bytes.0 bytes.1 bytes.2 bytes.3 cursor.old) }
+    ensures { Gives (λ x. (x, cursor.new)) result
+        (word_at bytes.0 bytes.1 bytes.2 bytes.3 cursor.old) }
 {
     cursor.expect(bytes.0, fault)?;
     cursor.expect(bytes.1, fault)?;
@@ -78,7 +79,8 @@ fn two_lists<'a, A: Decode<'a>, B: Decode<'a>>(
     profile: Profile,
     ids: (u8, u8),
 ) -> Result<(Items<A>, Items<B>), LoadFault>
-    ensures { Gives (λ x. (x, cursor.new)) result (then_at (list_at ids.0 (A.at profile)) (list_at ids.1 (B.at profile)) cursor.old) }
+    ensures { Gives (λ x. (x, cursor.new)) result
+        (then_at (list_at ids.0 (A.at profile)) (list_at ids.1 (B.at profile)) cursor.old) }
 {
     let first = list(alloc, cursor, profile, ids.0)?;
     let second = list(alloc, cursor, profile, ids.1)?;
@@ -140,7 +142,8 @@ fn code_parts<'a>(
     cursor: &mut Cursor<'a>,
     profile: Profile,
 ) -> Result<CodeParts<'a>, LoadFault>
-    ensures { Gives (λ x. ((x.data_count, (x.bodies, x.data_segments)), cursor.new)) result (code_parts_at profile cursor.old) }
+    ensures { Gives (λ x. ((x.data_count, (x.bodies, x.data_segments)), cursor.new)) result
+        (code_parts_at profile cursor.old) }
 {
     let data_count = cursor.section(alloc, profile, 12)?;
     let (bodies, data_segments) = two_lists(alloc, cursor, profile, (10, 11))?;
@@ -156,7 +159,17 @@ fn start_parts<'a>(
     cursor: &mut Cursor<'a>,
     profile: Profile,
 ) -> Result<StartParts<'a>, LoadFault>
-    ensures { Gives (λ x. ((x.start, (x.element_segments, (x.code.data_count, (x.code.bodies, x.code.data_segments)))), cursor.new)) result (start_parts_at profile cursor.old) }
+    ensures { Gives (λ x. (
+      (
+        x.start,
+        (
+          x.element_segments,
+          (x.code.data_count, (x.code.bodies, x.code.data_segments)),
+        ),
+      ),
+      cursor.new,
+    )) result
+        (start_parts_at profile cursor.old) }
 {
     let start = cursor.section(alloc, profile, 8)?;
     let element_segments = list(alloc, cursor, profile, 9)?;
@@ -173,7 +186,23 @@ fn link_parts<'a>(
     cursor: &mut Cursor<'a>,
     profile: Profile,
 ) -> Result<LinkParts<'a>, LoadFault>
-    ensures { Gives (λ x. ((x.exports, (x.rest.start, (x.rest.element_segments, (x.rest.code.data_count, (x.rest.code.bodies, x.rest.code.data_segments))))), cursor.new)) result (link_parts_at profile cursor.old) }
+    ensures { Gives (λ x. (
+      (
+        x.exports,
+        (
+          x.rest.start,
+          (
+            x.rest.element_segments,
+            (
+              x.rest.code.data_count,
+              (x.rest.code.bodies, x.rest.code.data_segments),
+            ),
+          ),
+        ),
+      ),
+      cursor.new,
+    )) result
+        (link_parts_at profile cursor.old) }
 {
     let exports = list(alloc, cursor, profile, 7)?;
     let rest = start_parts(alloc, cursor, profile)?;
@@ -185,7 +214,32 @@ fn storage_parts<'a>(
     cursor: &mut Cursor<'a>,
     profile: Profile,
 ) -> Result<StorageParts<'a>, LoadFault>
-    ensures { Gives (λ x. ((x.tables, (x.memories, (x.globals, (x.link.exports, (x.link.rest.start, (x.link.rest.element_segments, (x.link.rest.code.data_count, (x.link.rest.code.bodies, x.link.rest.code.data_segments)))))))), cursor.new)) result (storage_parts_at profile cursor.old) }
+    ensures { Gives (λ x. (
+      (
+        x.tables,
+        (
+          x.memories,
+          (
+            x.globals,
+            (
+              x.link.exports,
+              (
+                x.link.rest.start,
+                (
+                  x.link.rest.element_segments,
+                  (
+                    x.link.rest.code.data_count,
+                    (x.link.rest.code.bodies, x.link.rest.code.data_segments),
+                  ),
+                ),
+              ),
+            ),
+          ),
+        ),
+      ),
+      cursor.new,
+    )) result
+        (storage_parts_at profile cursor.old) }
 {
     let tables = tables(alloc, cursor, profile)?;
     let (memories, globals) = two_lists(alloc, cursor, profile, (5, 6))?;
@@ -205,7 +259,43 @@ fn assembled<'a>(
     functions: Items<u32>,
     storage: StorageParts<'a>,
 ) -> (Module<'a>, Option<u32>)
-    ensures { result ≡ decoded_of (tt, (types, (imports.entry, (functions, (storage.entry.tables, (storage.entry.memories, (storage.entry.globals, (storage.entry.link.exports, (storage.entry.link.rest.start, (storage.entry.link.rest.element_segments, (storage.entry.link.rest.code.data_count, (storage.entry.link.rest.code.bodies, storage.entry.link.rest.code.data_segments)))))))))))) }
+    ensures { result ≡ decoded_of (
+      tt,
+      (
+        types,
+        (
+          imports.entry,
+          (
+            functions,
+            (
+              storage.entry.tables,
+              (
+                storage.entry.memories,
+                (
+                  storage.entry.globals,
+                  (
+                    storage.entry.link.exports,
+                    (
+                      storage.entry.link.rest.start,
+                      (
+                        storage.entry.link.rest.element_segments,
+                        (
+                          storage.entry.link.rest.code.data_count,
+                          (
+                            storage.entry.link.rest.code.bodies,
+                            storage.entry.link.rest.code.data_segments,
+                          ),
+                        ),
+                      ),
+                    ),
+                  ),
+                ),
+              ),
+            ),
+          ),
+        ),
+      ),
+    ) }
 {
     let link = storage.link;
     let rest = link.rest;
@@ -232,7 +322,8 @@ fn sections<'a>(
     cursor: &mut Cursor<'a>,
     profile: Profile,
 ) -> Result<(Module<'a>, Option<u32>), LoadFault>
-    ensures { Gives (λ x. (x, cursor.new)) result (map_at module_and_count (sections_at profile) cursor.old) }
+    ensures { Gives (λ x. (x, cursor.new)) result
+        (map_at module_and_count (sections_at profile) cursor.old) }
 {
     cursor.customs()?;
     let types = list(alloc, cursor, profile, 1)?;
@@ -312,7 +403,8 @@ fn module<'a>(alloc: Global, bytes: &'a [u8], profile: Profile) -> Result<Module
 /// `Memory` where memory was refused, else what is wrong with the bytes, and where.
 pub fn decode(alloc: Global, bytes: &[u8]) -> Result<Module<'_>, LoadFault>
     ensures found { IfOk result (λ m. Spells bytes.now m) }
-    ensures refused { IfErr result (λ e. (e ≢ LoadFault.Memory) → (m : ModuleValue) → Spells bytes.now m → ⊥) }
+    ensures refused { IfErr result (λ e. (e ≢ LoadFault.Memory) → (m : ModuleValue)
+        → Spells bytes.now m → ⊥) }
 {
     decode_with(alloc, bytes, Profile::Integers)
 }
@@ -324,7 +416,8 @@ pub fn decode(alloc: Global, bytes: &[u8]) -> Result<Module<'_>, LoadFault>
 /// `Memory` where memory was refused, else what is wrong with the bytes, and where.
 pub fn decode_with(alloc: Global, bytes: &[u8], profile: Profile) -> Result<Module<'_>, LoadFault>
     ensures found { IfOk result (λ m. SpellsWith profile bytes.now m) }
-    ensures refused { IfErr result (λ e. (e ≢ LoadFault.Memory) → (m : ModuleValue) → SpellsWith profile bytes.now m → ⊥) }
+    ensures refused { IfErr result (λ e. (e ≢ LoadFault.Memory) → (m : ModuleValue)
+        → SpellsWith profile bytes.now m → ⊥) }
 {
     module(alloc, bytes, profile)
 }
@@ -336,5 +429,6 @@ pub fn one_module()
 
 /// With floats, too, bytes spell at most one module.
 pub fn one_module_with()
-    ensures { (p : ProfileValue) (bytes : List ℕ) (m n : ModuleValue) → SpellsWith p bytes m → SpellsWith p bytes n → m ≡ n }
+    ensures { (p : ProfileValue) (bytes : List ℕ) (m n : ModuleValue) → SpellsWith p bytes m
+        → SpellsWith p bytes n → m ≡ n }
 {}

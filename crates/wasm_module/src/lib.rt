@@ -8,8 +8,8 @@ mod floats;
 mod limits;
 mod parts;
 
-pub use wasm_syntax::accesses::{Access, LoadOperator, StoreOperator};
 pub use decoding::{decode, decode_with, one_module, one_module_with};
+pub use wasm_syntax::accesses::{Access, LoadOperator, StoreOperator};
 pub use wasm_syntax::fault::LoadFault;
 pub use wasm_syntax::instruction::{
     BinaryOperator, BlockType, BranchTable, Comparison, FloatBinaryOperator, FloatComparison,

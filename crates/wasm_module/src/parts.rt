@@ -6,6 +6,8 @@ ghost use Rattle.wasm_syntax.specs.Reading.{Gives, many_at};
 ghost use Rattle.wasm_syntax.specs.internal.TypesReading.{value_type_of, with_floats, table_at, mutability_at};
 
 use crate::cursor::{Cursor, Decode};
+use std::alloc::Global;
+use std::marker::Model;
 use wasm_syntax::fault::LoadFault;
 use wasm_syntax::instruction::{BlockType, Instruction, ValueType};
 use wasm_syntax::items::{Bytes, Items};
@@ -14,8 +16,6 @@ use wasm_syntax::module::{
     Import, ImportKind, Limits, Locals,
 };
 use wasm_syntax::profile::Profile;
-use std::alloc::Global;
-use std::marker::Model;
 
 /// How many elements a table has at most at the beginning.
 const MOST_ELEMENTS: u32 = 1_000_000;

@@ -51,7 +51,8 @@ impl Globals {
 
     /// Sets the value of a global, if there is one of this index.
     pub fn set(&mut self, index: u32, value: u64) -> bool
-        ensures inside { OnTrue result ((index < length self.old) × (self.new ≡ slice_set self.old index value)) }
+        ensures inside { OnTrue result ((index < length self.old)
+            × (self.new ≡ slice_set self.old index value)) }
         ensures outside { OnFalse result ((length self.old ≤ index) × (self.new ≡ self.old)) }
     {
         match self.values.get_mut(index as usize) {

@@ -101,10 +101,12 @@ pub fn allocate<H: Host>(
     host: &H,
     reserved: &str,
 ) -> Result<Allocated, InstanceFault>
-    ensures allocated { IfOk result (λ r. IsAllocated (with_embedder (H.links host.now) reserved.now) pages valid.now r) }
+    ensures allocated { IfOk result (λ r. IsAllocated
+        (with_embedder (H.links host.now) reserved.now) pages valid.now r) }
 
     // Of several reasons the first is named, in the order 13, 22, 21, 20.
-    ensures refused { IfErr result (λ e. NotAllocated (with_embedder (H.links host.now) reserved.now) pages valid.now e) }
+    ensures refused { IfErr result (λ e. NotAllocated
+        (with_embedder (H.links host.now) reserved.now) pages valid.now e) }
 {
     let guest = valid.module();
     let calls = link(alloc, guest, host, Some(reserved))?;
@@ -127,8 +129,10 @@ pub fn allocate<H: Host>(
 
 /// Whether a function is an import that the embedder answers.
 fn is_embedders(calls: &[Linked], function: Option<u32>) -> bool
-    ensures yes { OnTrue result ((x : ℕ) × (k : ℕ) × (function ≡ Some x) × (slice_get calls.now x ≡ Some (Linked.Embedder k))) }
-    ensures no { OnFalse result ((x k : ℕ) → function ≡ Some x → slice_get calls.now x ≡ Some (Linked.Embedder k) → ⊥) }
+    ensures yes { OnTrue result ((x : ℕ) × (k : ℕ) × (function ≡ Some x)
+        × (slice_get calls.now x ≡ Some (Linked.Embedder k))) }
+    ensures no { OnFalse result ((x k : ℕ) → function ≡ Some x
+        → slice_get calls.now x ≡ Some (Linked.Embedder k) → ⊥) }
 {
     let Some(function) = function else {
         return false;
@@ -138,8 +142,10 @@ fn is_embedders(calls: &[Linked], function: Option<u32>) -> bool
 
 /// Whether the start function or the initializer is an import that the embedder answers.
 fn enters_embedders(calls: &[Linked], start: Option<u32>, initializer: Option<u32>) -> bool
-    ensures yes { OnTrue result ((x : ℕ) × (k : ℕ) × ((start ≡ Some x) ⊎ (initializer ≡ Some x)) × (slice_get calls.now x ≡ Some (Linked.Embedder k))) }
-    ensures no { OnFalse result ((x k : ℕ) → (start ≡ Some x) ⊎ (initializer ≡ Some x) → slice_get calls.now x ≡ Some (Linked.Embedder k) → ⊥) }
+    ensures yes { OnTrue result ((x : ℕ) × (k : ℕ) × ((start ≡ Some x) ⊎ (initializer ≡ Some x))
+        × (slice_get calls.now x ≡ Some (Linked.Embedder k))) }
+    ensures no { OnFalse result ((x k : ℕ) → (start ≡ Some x) ⊎ (initializer ≡ Some x)
+        → slice_get calls.now x ≡ Some (Linked.Embedder k) → ⊥) }
 {
     is_embedders(calls, start) || is_embedders(calls, initializer)
 }
@@ -147,7 +153,8 @@ fn enters_embedders(calls: &[Linked], start: Option<u32>, initializer: Option<u3
 /// How many pages memory begins with, where that is at most so many.
 fn first_pages(guest: &Module, pages: u32) -> Result<u32, InstanceFault>
     ensures within { IfOk result (λ n. (n ≡ minimum guest.now.memories) × (n ≤ pages)) }
-    ensures refused { IfErr result (λ e. (e ≡ InstanceFault.PageLimit) × (pages < minimum guest.now.memories)) }
+    ensures refused { IfErr result (λ e. (e ≡ InstanceFault.PageLimit)
+        × (pages < minimum guest.now.memories)) }
 {
     let initial_pages = minimum(guest.memories.as_slice());
     if pages < initial_pages {
@@ -205,7 +212,8 @@ fn linked<H: Host>(
     import: &Import,
     func_type: &FuncType,
 ) -> Option<Linked>
-    ensures { result ≡ links_with (H.links host.now) (option_map (λ s. s.now) embedder.entry) index import.now.module_name import.now.name func_type.now }
+    ensures { result ≡ links_with (H.links host.now) (option_map (λ s. s.now) embedder.entry) index
+        import.now.module_name import.now.name func_type.now }
 {
     let module_name = import.module_name.as_str();
     if let Some(call) = host.link(module_name, import.name.as_str(), func_type) {
@@ -226,8 +234,11 @@ fn link<H: Host>(
     embedder: Option<&str>,
 ) -> Result<Vec<Linked>, InstanceFault>
     requires { IsValid guest.now }
-    ensures found { IfOk result (λ calls. AreFound (links_with (H.links host.now) (option_map (λ s. s.now) embedder.entry)) guest.now calls.items) }
-    ensures missing { IfErr result (λ e. NotFound (links_with (H.links host.now) (option_map (λ s. s.now) embedder.entry)) guest.now e) }
+    ensures found { IfOk result (λ calls. AreFound
+        (links_with (H.links host.now) (option_map (λ s. s.now) embedder.entry)) guest.now
+        calls.items) }
+    ensures missing { IfErr result (λ e. NotFound
+        (links_with (H.links host.now) (option_map (λ s. s.now) embedder.entry)) guest.now e) }
 {
     let mut calls = Vec::new(alloc);
     for import in guest.imports.as_slice() {
@@ -343,7 +354,8 @@ fn first_globals(alloc: Global, guest: &Module) -> Result<Globals, AllocError>
 
 /// The value of a constant expression (section 4.4.8) over these globals; 0 where it has none.
 fn constant(globals: &[u64], code: &[Instruction]) -> u64
-    ensures value { (vs : List Val) → numbers vs ≡ globals.now → result ≡ segment_start vs code.now }
+    ensures value { (vs : List Val) → numbers vs ≡ globals.now
+        → result ≡ segment_start vs code.now }
     ensures small { IsNarrow code.now → result < 2 ^ 32 }
 {
     match code.first() {
@@ -366,8 +378,10 @@ fn is_inside(start: u64, len: usize, size: usize) -> bool
 
 /// Whether each element segment stands inside a table of this size.
 fn elements_fit(guest: &Module, globals: &[u64], size: usize) -> bool
-    ensures inside { OnTrue result ((vs : List Val) → numbers vs ≡ globals.now → ElementsInside vs size guest.now.element_segments) }
-    ensures outside { OnFalse result ((vs : List Val) → numbers vs ≡ globals.now → ElementsOutside vs size guest.now.element_segments) }
+    ensures inside { OnTrue result ((vs : List Val) → numbers vs ≡ globals.now
+        → ElementsInside vs size guest.now.element_segments) }
+    ensures outside { OnFalse result ((vs : List Val) → numbers vs ≡ globals.now
+        → ElementsOutside vs size guest.now.element_segments) }
 {
     for segment in guest.element_segments.as_slice() {
         let start = constant(globals, segment.offset.as_slice());
@@ -380,8 +394,10 @@ fn elements_fit(guest: &Module, globals: &[u64], size: usize) -> bool
 
 /// Whether each data segment stands inside a memory of this size.
 fn data_fits(guest: &Module, globals: &[u64], size: usize) -> bool
-    ensures inside { OnTrue result ((vs : List Val) → numbers vs ≡ globals.now → DataInside vs size guest.now.data_segments) }
-    ensures outside { OnFalse result ((vs : List Val) → numbers vs ≡ globals.now → DataOutside vs size guest.now.data_segments) }
+    ensures inside { OnTrue result ((vs : List Val) → numbers vs ≡ globals.now
+        → DataInside vs size guest.now.data_segments) }
+    ensures outside { OnFalse result ((vs : List Val) → numbers vs ≡ globals.now
+        → DataOutside vs size guest.now.data_segments) }
 {
     for segment in guest.data_segments.as_slice() {
         let start = constant(globals, segment.offset.as_slice());
@@ -399,8 +415,10 @@ fn first_table(
     globals: &[u64],
     size: u32,
 ) -> Result<Table, AllocError>
-    requires inside { (vs : List Val) → numbers vs ≡ globals.now → ElementsInside vs size guest.now.element_segments }
-    ensures { IfOk result (λ t. (vs : List Val) → numbers vs ≡ globals.now → t ≡ with_elements vs (replicate size None) guest.now.element_segments) }
+    requires inside { (vs : List Val) → numbers vs ≡ globals.now
+        → ElementsInside vs size guest.now.element_segments }
+    ensures { IfOk result (λ t. (vs : List Val) → numbers vs ≡ globals.now
+        → t ≡ with_elements vs (replicate size None) guest.now.element_segments) }
 {
     let mut table = Table::new(alloc, size)?;
     for segment in guest.element_segments.as_slice() {
@@ -417,8 +435,10 @@ fn first_memory(
     globals: &[u64],
     pages: u32,
 ) -> Result<Memory, AllocError>
-    requires inside { (vs : List Val) → numbers vs ≡ globals.now → DataInside vs (pages * 65536) guest.now.data_segments }
-    ensures { IfOk result (λ m. (vs : List Val) → numbers vs ≡ globals.now → m ≡ with_data vs (replicate (pages * 65536) 0) guest.now.data_segments) }
+    requires inside { (vs : List Val) → numbers vs ≡ globals.now
+        → DataInside vs (pages * 65536) guest.now.data_segments }
+    ensures { IfOk result (λ m. (vs : List Val) → numbers vs ≡ globals.now
+        → m ≡ with_data vs (replicate (pages * 65536) 0) guest.now.data_segments) }
 {
     let mut memory = Memory::new(alloc, pages)?;
     for segment in guest.data_segments.as_slice() {

@@ -53,7 +53,8 @@ fn copy_down(bytes: &mut [u8], source: usize, target: usize, len: usize)
 fn copy_bytes(bytes: &mut Vec<u8>, source: usize, target: usize, len: usize)
     requires read { source + len ≤ vec_len bytes.old }
     requires put { target + len ≤ vec_len bytes.old }
-    ensures items { bytes.new.items ≡ written bytes.old.items target (bytes_at bytes.old.items source len) }
+    ensures items { bytes.new.items ≡ written bytes.old.items target
+        (bytes_at bytes.old.items source len) }
     ensures len { vec_len bytes.new ≡ vec_len bytes.old }
 {
     if source + len <= target {
@@ -104,7 +105,8 @@ impl Memory {
 
     /// This many bytes from an address, where they are in memory.
     pub fn slice(&self, address: u32, len: u32) -> Option<&[u8]>
-        ensures inside { IfSome result (λ s. (address + len ≤ length self.now) × (s.now ≡ bytes_at self.now address len)) }
+        ensures inside { IfSome result (λ s. (address + len ≤ length self.now)
+            × (s.now ≡ bytes_at self.now address len)) }
         ensures outside { IfNone result (length self.now < address + len) }
     {
         self.access(address, 0, len)
@@ -113,7 +115,8 @@ impl Memory {
     /// This many bytes from an address, to be written, where they are in memory.
     pub fn slice_mut(&mut self, address: u32, len: u32) -> Option<&mut [u8]>
         ensures* writes_back { sem 𝓛 (LendsPartIf self.entry address result) }
-        ensures inside { IfSome result (λ s. (address + len ≤ length self.old) × (s.now ≡ bytes_at self.old address len)) }
+        ensures inside { IfSome result (λ s. (address + len ≤ length self.old)
+            × (s.now ≡ bytes_at self.old address len)) }
         ensures outside { IfNone result (length self.old < address + len) }
     {
         if self.has_range(address, len) {
@@ -150,16 +153,20 @@ impl Memory {
 
     /// Writes these bytes from an address on, or nothing where they would pass the end.
     pub fn write(&mut self, address: u32, bytes: &[u8]) -> bool
-        ensures inside { OnTrue result ((address + length bytes.now ≤ length self.old) × (self.new ≡ written self.old address bytes.now)) }
-        ensures outside { OnFalse result ((length self.old < address + length bytes.now) × (self.new ≡ self.old)) }
+        ensures inside { OnTrue result ((address + length bytes.now ≤ length self.old)
+            × (self.new ≡ written self.old address bytes.now)) }
+        ensures outside { OnFalse result ((length self.old < address + length bytes.now)
+            × (self.new ≡ self.old)) }
     {
         self.put(address as usize, bytes)
     }
 
     /// Writes these bytes from a place on, or nothing where they would pass the end.
     pub(crate) fn put(&mut self, start: usize, bytes: &[u8]) -> bool
-        ensures inside { OnTrue result ((start + length bytes.now ≤ length self.old) × (self.new ≡ written self.old start bytes.now)) }
-        ensures outside { OnFalse result ((length self.old < start + length bytes.now) × (self.new ≡ self.old)) }
+        ensures inside { OnTrue result ((start + length bytes.now ≤ length self.old)
+            × (self.new ≡ written self.old start bytes.now)) }
+        ensures outside { OnFalse result ((length self.old < start + length bytes.now)
+            × (self.new ≡ self.old)) }
     {
         let len = bytes.len();
         if self.bytes.len() < len || self.bytes.len() - len < start {
@@ -171,7 +178,8 @@ impl Memory {
 
     /// This many bytes from a base and an offset.
     fn access(&self, base: u32, offset: u32, len: u32) -> Option<&[u8]>
-        ensures inside { IfSome result (λ s. (base + offset + len ≤ length self.now) × (s.now ≡ bytes_at self.now (base + offset) len)) }
+        ensures inside { IfSome result (λ s. (base + offset + len ≤ length self.now)
+            × (s.now ≡ bytes_at self.now (base + offset) len)) }
         ensures outside { IfNone result (length self.now < base + offset + len) }
     {
         let start = base as usize + offset as usize;
@@ -180,7 +188,8 @@ impl Memory {
 
     /// The byte at a base and an offset (section 4.4.4), where it is in memory.
     pub fn load_u8(&self, base: u32, offset: u32) -> Option<u8>
-        ensures inside { IfSome result (λ x. (base + offset + 1 ≤ length self.now) × (x ≡ from_bytes (bytes_at self.now (base + offset) 1))) }
+        ensures inside { IfSome result (λ x. (base + offset + 1 ≤ length self.now)
+            × (x ≡ from_bytes (bytes_at self.now (base + offset) 1))) }
         ensures outside { IfNone result (length self.now < base + offset + 1) }
     {
         let bytes = self.access(base, offset, 1)?;
@@ -189,7 +198,8 @@ impl Memory {
 
     /// The number of 2 bytes from a base and an offset (section 4.4.4), where they are in memory.
     pub fn load_u16(&self, base: u32, offset: u32) -> Option<u16>
-        ensures inside { IfSome result (λ x. (base + offset + 2 ≤ length self.now) × (x ≡ from_bytes (bytes_at self.now (base + offset) 2))) }
+        ensures inside { IfSome result (λ x. (base + offset + 2 ≤ length self.now)
+            × (x ≡ from_bytes (bytes_at self.now (base + offset) 2))) }
         ensures outside { IfNone result (length self.now < base + offset + 2) }
     {
         let bytes = self.access(base, offset, 2)?;
@@ -198,7 +208,8 @@ impl Memory {
 
     /// The number of 4 bytes from a base and an offset (section 4.4.4), where they are in memory.
     pub fn load_u32(&self, base: u32, offset: u32) -> Option<u32>
-        ensures inside { IfSome result (λ x. (base + offset + 4 ≤ length self.now) × (x ≡ from_bytes (bytes_at self.now (base + offset) 4))) }
+        ensures inside { IfSome result (λ x. (base + offset + 4 ≤ length self.now)
+            × (x ≡ from_bytes (bytes_at self.now (base + offset) 4))) }
         ensures outside { IfNone result (length self.now < base + offset + 4) }
     {
         let bytes = self.access(base, offset, 4)?;
@@ -207,7 +218,8 @@ impl Memory {
 
     /// The number of 8 bytes from a base and an offset (section 4.4.4), where they are in memory.
     pub fn load_u64(&self, base: u32, offset: u32) -> Option<u64>
-        ensures inside { IfSome result (λ x. (base + offset + 8 ≤ length self.now) × (x ≡ from_bytes (bytes_at self.now (base + offset) 8))) }
+        ensures inside { IfSome result (λ x. (base + offset + 8 ≤ length self.now)
+            × (x ≡ from_bytes (bytes_at self.now (base + offset) 8))) }
         ensures outside { IfNone result (length self.now < base + offset + 8) }
     {
         let bytes = self.access(base, offset, 8)?;
@@ -216,32 +228,40 @@ impl Memory {
 
     /// Stores a byte at a base and an offset (section 4.4.4), or nothing where it would pass the end.
     pub fn store_u8(&mut self, base: u32, offset: u32, value: u8) -> bool
-        ensures inside { OnTrue result ((base + offset + 1 ≤ length self.old) × (self.new ≡ written self.old (base + offset) (to_bytes 1 value))) }
-        ensures outside { OnFalse result ((length self.old < base + offset + 1) × (self.new ≡ self.old)) }
+        ensures inside { OnTrue result ((base + offset + 1 ≤ length self.old)
+            × (self.new ≡ written self.old (base + offset) (to_bytes 1 value))) }
+        ensures outside { OnFalse result ((length self.old < base + offset + 1)
+            × (self.new ≡ self.old)) }
     {
         self.put(base as usize + offset as usize, &[value])
     }
 
     /// Stores 2 bytes from a base and an offset on (section 4.4.4), or nothing where they would pass the end.
     pub fn store_u16(&mut self, base: u32, offset: u32, value: u16) -> bool
-        ensures inside { OnTrue result ((base + offset + 2 ≤ length self.old) × (self.new ≡ written self.old (base + offset) (to_bytes 2 value))) }
-        ensures outside { OnFalse result ((length self.old < base + offset + 2) × (self.new ≡ self.old)) }
+        ensures inside { OnTrue result ((base + offset + 2 ≤ length self.old)
+            × (self.new ≡ written self.old (base + offset) (to_bytes 2 value))) }
+        ensures outside { OnFalse result ((length self.old < base + offset + 2)
+            × (self.new ≡ self.old)) }
     {
         self.put(base as usize + offset as usize, &u16::to_le_bytes(value))
     }
 
     /// Stores 4 bytes from a base and an offset on (section 4.4.4), or nothing where they would pass the end.
     pub fn store_u32(&mut self, base: u32, offset: u32, value: u32) -> bool
-        ensures inside { OnTrue result ((base + offset + 4 ≤ length self.old) × (self.new ≡ written self.old (base + offset) (to_bytes 4 value))) }
-        ensures outside { OnFalse result ((length self.old < base + offset + 4) × (self.new ≡ self.old)) }
+        ensures inside { OnTrue result ((base + offset + 4 ≤ length self.old)
+            × (self.new ≡ written self.old (base + offset) (to_bytes 4 value))) }
+        ensures outside { OnFalse result ((length self.old < base + offset + 4)
+            × (self.new ≡ self.old)) }
     {
         self.put(base as usize + offset as usize, &u32::to_le_bytes(value))
     }
 
     /// Stores 8 bytes from a base and an offset on (section 4.4.4), or nothing where they would pass the end.
     pub fn store_u64(&mut self, base: u32, offset: u32, value: u64) -> bool
-        ensures inside { OnTrue result ((base + offset + 8 ≤ length self.old) × (self.new ≡ written self.old (base + offset) (to_bytes 8 value))) }
-        ensures outside { OnFalse result ((length self.old < base + offset + 8) × (self.new ≡ self.old)) }
+        ensures inside { OnTrue result ((base + offset + 8 ≤ length self.old)
+            × (self.new ≡ written self.old (base + offset) (to_bytes 8 value))) }
+        ensures outside { OnFalse result ((length self.old < base + offset + 8)
+            × (self.new ≡ self.old)) }
     {
         self.put(base as usize + offset as usize, &u64::to_le_bytes(value))
     }
@@ -249,7 +269,8 @@ impl Memory {
     /// Grows by this many pages of zeros, to at most `limit` pages, and gives the pages before (section 4.4.4). Past the
     /// limit, or where memory is refused, nothing changes.
     pub fn grow(&mut self, pages: u32, limit: u32) -> Option<u32>
-        ensures grown { IfSome result (λ before. (before ≡ length self.old / 65536) × (before + pages ≤ limit) × (self.new ≡ self.old ++ replicate (pages * 65536) 0)) }
+        ensures grown { IfSome result (λ before. (before ≡ length self.old / 65536)
+            × (before + pages ≤ limit) × (self.new ≡ self.old ++ replicate (pages * 65536) 0)) }
         ensures refused { IfNone result (self.new ≡ self.old) }
 
         // To grow by nothing takes no memory.
@@ -270,8 +291,11 @@ impl Memory {
     /// Copies this many bytes from one address to another, as if all were read first (`memory.copy`), or nothing where
     /// either range passes the end.
     pub fn copy(&mut self, target: u32, source: u32, len: u32) -> bool
-        ensures inside { OnTrue result ((source + len ≤ length self.old) × (target + len ≤ length self.old) × (self.new ≡ written self.old target (bytes_at self.old source len))) }
-        ensures outside { OnFalse result (((length self.old < source + len) ⊎ (length self.old < target + len)) × (self.new ≡ self.old)) }
+        ensures inside { OnTrue result ((source + len ≤ length self.old)
+            × (target + len ≤ length self.old) × (self.new ≡ written self.old target
+            (bytes_at self.old source len))) }
+        ensures outside { OnFalse result (((length self.old < source + len)
+            ⊎ (length self.old < target + len)) × (self.new ≡ self.old)) }
     {
         let (target, source, len) = (target as usize, source as usize, len as usize);
         if self.bytes.len() < source + len || self.bytes.len() < target + len {
@@ -283,8 +307,10 @@ impl Memory {
 
     /// Writes a byte this many times from an address on (`memory.fill`), or nothing where they would pass the end.
     pub fn fill(&mut self, target: u32, value: u8, len: u32) -> bool
-        ensures inside { OnTrue result ((target + len ≤ length self.old) × (self.new ≡ written self.old target (replicate len value))) }
-        ensures outside { OnFalse result ((length self.old < target + len) × (self.new ≡ self.old)) }
+        ensures inside { OnTrue result ((target + len ≤ length self.old)
+            × (self.new ≡ written self.old target (replicate len value))) }
+        ensures outside { OnFalse result ((length self.old < target + len)
+            × (self.new ≡ self.old)) }
     {
         let (start, len) = (target as usize, len as usize);
         if self.bytes.len() < start + len {

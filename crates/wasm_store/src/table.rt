@@ -50,8 +50,10 @@ impl Table {
 
     /// Sets the elements from a place on to these functions, or none where they would pass the end.
     pub fn set(&mut self, start: usize, functions: &[u32]) -> bool
-        ensures inside { OnTrue result ((start + length functions.now ≤ length self.old) × (self.new ≡ with_functions self.old start functions.now)) }
-        ensures outside { OnFalse result ((length self.old < start + length functions.now) × (self.new ≡ self.old)) }
+        ensures inside { OnTrue result ((start + length functions.now ≤ length self.old)
+            × (self.new ≡ with_functions self.old start functions.now)) }
+        ensures outside { OnFalse result ((length self.old < start + length functions.now)
+            × (self.new ≡ self.old)) }
     {
         let len = functions.len();
         if self.elements.len() < len || self.elements.len() - len < start {

@@ -79,7 +79,8 @@ impl<'s, 'm> FunctionContext<'s, 'm> {
 
     /// The type of a global.
     fn global(&self, index: u32) -> Option<GlobalType>
-        ensures { (c : Context) → IsFunctionContext self.now c → result ≡ slice_get c.globals index }
+        ensures { (c : Context) → IsFunctionContext self.now c
+            → result ≡ slice_get c.globals index }
     {
         self.module_context.globals.get(index as usize).copied()
     }

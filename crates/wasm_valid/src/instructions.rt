@@ -50,7 +50,8 @@ fn does_keep(label: Option<BlockType>, kept: BlockType) -> bool
 
 /// What all labels of a table keep, if it is the same.
 fn kept_by_all(control_frames: &ControlFrames, table: &BranchTable) -> Option<BlockType>
-    ensures { option_map results_of result ≡ table_label (control_frame_labels control_frames.now) table.now.0 table.now.1 }
+    ensures { option_map results_of result ≡ table_label (control_frame_labels control_frames.now)
+        table.now.0 table.now.1 }
 {
     let kept = control_frames.label(table.default_label())?;
     table
@@ -63,9 +64,8 @@ fn kept_by_all(control_frames: &ControlFrames, table: &BranchTable) -> Option<Bl
 /// Changes the operands as `br` does; whether it may stand here.
 fn branch(control_frames: &ControlFrames, operands: &mut OperandStack, label: u32) -> bool
     ensures below { operands.new.below ≡ operands.old.below }
-    ensures stack { StepsTo result
-        (option_and_then (λ kept. left kept operands.old.stack) (slice_get (control_frame_labels control_frames.now) label))
-        operands.new.stack }
+    ensures stack { StepsTo result (option_and_then (λ kept. left kept operands.old.stack)
+        (slice_get (control_frame_labels control_frames.now) label)) operands.new.stack }
 {
     match control_frames.label(label) {
         Some(label) => operands.leave(kept(label)),
@@ -81,8 +81,8 @@ fn branch_if(
 ) -> Result<bool, AllocError>
     ensures below { operands.new.below ≡ operands.old.below }
     ensures stack { IfOk result (λ typed. StepsTo typed
-        (option_and_then (λ kept. moved (I32 ∷ kept) kept operands.old.stack) (slice_get (control_frame_labels control_frames.now) label))
-        operands.new.stack) }
+        (option_and_then (λ kept. moved (I32 ∷ kept) kept operands.old.stack)
+        (slice_get (control_frame_labels control_frames.now) label)) operands.new.stack) }
 {
     match control_frames.label(label) {
         Some(label) => operands.apply(Effect::new(asked(label), label)),
@@ -97,8 +97,8 @@ fn branch_table(
     table: &BranchTable,
 ) -> bool
     ensures below { operands.new.below ≡ operands.old.below }
-    ensures stack { StepsTo result
-        (option_and_then (λ kept. left (I32 ∷ kept) operands.old.stack) (table_label (control_frame_labels control_frames.now) table.now.0 table.now.1))
+    ensures stack { StepsTo result (option_and_then (λ kept. left (I32 ∷ kept) operands.old.stack)
+        (table_label (control_frame_labels control_frames.now) table.now.0 table.now.1))
         operands.new.stack }
 {
     match kept_by_all(control_frames, table) {
@@ -111,9 +111,9 @@ impl<'s, 'm> FunctionContext<'s, 'm> {
     /// Changes the operands as `call` does; whether it may stand here.
     fn call(&self, operands: &mut OperandStack, index: u32) -> Result<bool, AllocError>
         ensures below { operands.new.below ≡ operands.old.below }
-        ensures stack { IfOk result (λ typed. (c : Context) → IsFunctionContext self.now c → StepsTo typed
-            (option_and_then (λ f. called f operands.old.stack) (slice_get c.functions index))
-            operands.new.stack) }
+        ensures stack { IfOk result (λ typed. (c : Context) → IsFunctionContext self.now c
+            → StepsTo typed (option_and_then (λ f. called f operands.old.stack)
+            (slice_get c.functions index)) operands.new.stack) }
     {
         match self.module_context.function(index) {
             Some(callee) => operands.call(callee.params.as_slice(), result_type(callee)),
@@ -124,9 +124,9 @@ impl<'s, 'm> FunctionContext<'s, 'm> {
     /// Changes the operands as `call_indirect` does; whether it may stand here.
     fn call_indirect(&self, operands: &mut OperandStack, index: u32) -> Result<bool, AllocError>
         ensures below { operands.new.below ≡ operands.old.below }
-        ensures stack { IfOk result (λ typed. (c : Context) → IsFunctionContext self.now c → StepsTo typed
-            (option_and_then (λ f. called_indirect f operands.old.stack) (when c.has_table (slice_get c.types index)))
-            operands.new.stack) }
+        ensures stack { IfOk result (λ typed. (c : Context) → IsFunctionContext self.now c
+            → StepsTo typed (option_and_then (λ f. called_indirect f operands.old.stack)
+            (when c.has_table (slice_get c.types index))) operands.new.stack) }
     {
         if !self.module_context.has_table {
             return Ok(false);
@@ -147,8 +147,8 @@ impl<'s, 'm> FunctionContext<'s, 'm> {
         instruction: &Instruction,
     ) -> Result<bool, AllocError>
         ensures below { operands.new.below ≡ operands.old.below }
-        ensures stack { IfOk result (λ typed. (c : Context) → IsFunctionContext self.now c → StepsTo typed
-            (applied (variable_effect c instruction.now) operands.old.stack)
+        ensures stack { IfOk result (λ typed. (c : Context) → IsFunctionContext self.now c
+            → StepsTo typed (applied (variable_effect c instruction.now) operands.old.stack)
             operands.new.stack) }
     {
         match self.effect(instruction) {
@@ -166,9 +166,9 @@ impl<'s, 'm> FunctionContext<'s, 'm> {
         instruction: &Instruction,
     ) -> Result<bool, AllocError>
         ensures below { operands.new.below ≡ operands.old.below }
-        ensures stack { IfOk result (λ typed. (c : Context) → IsFunctionContext self.now c → StepsTo typed
-            (after c (control_frame_labels control_frames.now) instruction.now operands.old.stack)
-            operands.new.stack) }
+        ensures stack { IfOk result (λ typed. (c : Context) → IsFunctionContext self.now c
+            → StepsTo typed (after c (control_frame_labels control_frames.now) instruction.now
+            operands.old.stack) operands.new.stack) }
     {
         match instruction {
             Instruction::Unreachable => Ok(operands.leave(Takes::Nothing)),

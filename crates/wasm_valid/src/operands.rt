@@ -135,8 +135,8 @@ impl OperandStack {
     /// Changes the operands as an instruction of this type does; whether it may stand here.
     pub fn apply(&mut self, effect: Effect) -> Result<bool, AllocError>
         ensures below { self.new.below ≡ self.old.below }
-        ensures stack { IfOk result (λ typed.
-            StepsTo typed (moved (taken effect.takes) (results_of effect.gives) self.old.stack) self.new.stack) }
+        ensures stack { IfOk result (λ typed. StepsTo typed
+            (moved (taken effect.takes) (results_of effect.gives) self.old.stack) self.new.stack) }
     {
         if !self.take(effect.takes) {
             return Ok(false);
@@ -149,8 +149,8 @@ impl OperandStack {
     /// whether it may stand here.
     pub fn call(&mut self, params: &[ValueType], gives: BlockType) -> Result<bool, AllocError>
         ensures below { self.new.below ≡ self.old.below }
-        ensures stack { IfOk result (λ typed.
-            StepsTo typed (moved (reverse params.now) (results_of gives) self.old.stack) self.new.stack) }
+        ensures stack { IfOk result (λ typed. StepsTo typed
+            (moved (reverse params.now) (results_of gives) self.old.stack) self.new.stack) }
     {
         if !self.take_all(params) {
             return Ok(false);
@@ -184,7 +184,8 @@ impl OperandStack {
     /// Changes the operands as `select` does; whether it may stand here.
     pub fn select(&mut self) -> Result<bool, AllocError>
         ensures below { self.new.below ≡ self.old.below }
-        ensures stack { IfOk result (λ typed. StepsTo typed (selected self.old.stack) self.new.stack) }
+        ensures stack { IfOk result (λ typed. StepsTo typed (selected self.old.stack)
+            self.new.stack) }
     {
         if !self.pop(ValueType::I32) {
             return Ok(false);
@@ -222,7 +223,11 @@ impl OperandStack {
 
     /// What is to be kept of the innermost block while another is open in it.
     pub fn mark(&self) -> Mark
-        ensures { result ≡ record { height = length self.now.below; unreachable = self.now.stack.unreachable } }
+        ensures { result ≡ record {
+          height = length self.now.below;
+          unreachable =
+              self.now.stack.unreachable;
+        } }
     {
         Mark {
             height: self.height,

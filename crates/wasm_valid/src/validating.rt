@@ -136,7 +136,8 @@ fn module_context<'m>(
 ) -> Result<ModuleContext<'m>, LoadFault>
     requires table { has_table ≡ has_any (tables_of «module».now) }
     requires memory { has_memory ≡ has_any (memories_of «module».now) }
-    ensures module_context { IfOk result (λ module_context. IsModuleContextOf module_context «module».now) }
+    ensures module_context { IfOk result (λ module_context. IsModuleContextOf module_context
+        «module».now) }
     ensures types { Decides result (TypesFit «module».now) }
 {
     let types = module.types.as_slice();
@@ -186,7 +187,8 @@ fn check_lists(
 /// The start function has no parameters and no results (section 3.4.7).
 fn check_start(module: &Module<'_>, module_context: &ModuleContext<'_>) -> Result<(), LoadFault>
     requires { IsModuleContextOf module_context.now «module».now }
-    ensures { (c : Context) → IsModuleContext module_context.now c → Decides result (StartFits c «module».now) }
+    ensures { (c : Context) → IsModuleContext module_context.now c
+        → Decides result (StartFits c «module».now) }
 {
     match module.start {
         Some(index) => rule(module_context.can_start(index), 0),
@@ -201,7 +203,8 @@ fn check_bodies(
 ) -> Result<(), LoadFault>
     requires { IsModuleContextOf module_context.now «module».now }
     ensures { (c : Context) → IsModuleContext module_context.now c
-        → Decides result (FunctionsTyped c «module».now.types «module».now.functions «module».now.bodies) }
+        → Decides result (FunctionsTyped c «module».now.types «module».now.functions
+        «module».now.bodies) }
 {
     let functions = module.functions.as_slice();
     let bodies = module.bodies.as_slice();

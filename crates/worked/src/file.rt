@@ -84,7 +84,8 @@ pub fn found_after_a_crash(
 ) -> Result<Volume<MemoryDevice>, FileFault>
     requires name { IsName name.now }
     requires piece { length bytes.now ≤ 16384 }
-    ensures { IfOk result (λ v. (serial : ℕ) × Maps v.tree (name.now ∷ []) serial (File bytes.now)) }
+    ensures { IfOk result (λ v. (serial : ℕ) × Maps v.tree (name.now ∷ []) serial
+        (File bytes.now)) }
 {
     let Ok(device) = MemoryDevice::new(alloc, 1000, 1000) else {
         return Err(FileFault::Memory);

@@ -76,7 +76,8 @@ fn read_array(room: &mut Vec<MemorySpan>, memory: &Memory, iovs: u32, count: u32
     requires place { MOST_BUFFERS ≤ vec_capacity room.old }
     requires few { count ≤ MOST_BUFFERS }
     requires inside { iovs + 8 * count ≤ length memory.now }
-    ensures read { list_of room.new.items ≡ buffers_in count (bytes_at memory.now iovs (8 * count)) }
+    ensures read { list_of room.new.items ≡ buffers_in count
+        (bytes_at memory.now iovs (8 * count)) }
     ensures len { vec_len room.new ≡ count }
     ensures place { vec_capacity room.new ≡ vec_capacity room.old }
 {
@@ -90,8 +91,8 @@ fn read_array(room: &mut Vec<MemorySpan>, memory: &Memory, iovs: u32, count: u32
 #[tactic(auto, using(crate::proofs::checks::Chains::goes_on, crate::proofs::checks::Chains::stops))]
 fn check_buffers(buffers: &[MemorySpan], memory: &Memory) -> Result<(), Errno>
     requires { length buffers.now ≤ MOST_BUFFERS }
-    ensures fit { MatchResult result (λ _. fit memory.now (list_of buffers.now) ≡ Ok (list_of buffers.now))
-        (λ e. fit memory.now (list_of buffers.now) ≡ Err e.0) }
+    ensures fit { MatchResult result (λ _. fit memory.now (list_of buffers.now) ≡ Ok
+        (list_of buffers.now)) (λ e. fit memory.now (list_of buffers.now) ≡ Err e.0) }
     ensures small { OnOk result (total (list_of buffers.now) < 2 ^ 32) }
     ensures inside { OnOk result (list_all (is_inside memory.now) (list_of buffers.now) ≡ true) }
 {
@@ -135,10 +136,11 @@ impl Request {
     #[tactic(auto, using(crate::proofs::checks::Chains::goes_on, crate::proofs::checks::Chains::stops))]
     pub fn find_buffers(&self, room: &mut Vec<MemorySpan>, memory: &Memory) -> Result<(), Errno>
         requires { MOST_BUFFERS ≤ vec_capacity room.old }
-        ensures found { MatchResult result
-            (λ _. usable memory.now self.now.iovs self.now.count self.now.result_at ≡ Ok (list_of room.new.items))
+        ensures found { MatchResult result (λ _. usable memory.now self.now.iovs self.now.count
+            self.now.result_at ≡ Ok (list_of room.new.items))
             (λ e. usable memory.now self.now.iovs self.now.count self.now.result_at ≡ Err e.0) }
-        ensures usable { OnOk result (AreUsable memory.now (list_of room.new.items) self.now.result_at) }
+        ensures usable { OnOk result (AreUsable memory.now (list_of room.new.items)
+            self.now.result_at) }
         ensures few { OnOk result (vec_len room.new ≤ MOST_BUFFERS) }
         ensures place { MOST_BUFFERS ≤ vec_capacity room.new }
     {

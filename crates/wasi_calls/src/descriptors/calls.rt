@@ -18,7 +18,9 @@ impl<'s, 't, D: Device, R: Inlet, W1: Outlet, W2: Outlet> Inner<'s, 't, D, R, W1
     /// `fd_close(fd)`.
     pub fn fd_close(&mut self, arguments: &[u64]) -> Result<(), Errno>
         requires { IsSetUp R.remaining self.old }
-        ensures { (m : _) (used : _) → Serves D.honest D.disk D.size D.failures D.goes_on R.remaining W1.contents W2.contents (hearing R.gave R.refused W1.took W1.refused W2.took W2.refused) call.FdClose used arguments.now self.old m self.new m (errno_of result) }
+        ensures { (m : _) (used : _) → Serves D.honest D.disk D.size D.failures D.goes_on
+            R.remaining W1.contents W2.contents (hearing R.gave R.refused W1.took W1.refused W2.took
+            W2.refused) call.FdClose used arguments.now self.old m self.new m (errno_of result) }
     {
         descriptors::fd_close(&mut self.descriptors, descriptor(arguments, 0))
     }
@@ -26,7 +28,10 @@ impl<'s, 't, D: Device, R: Inlet, W1: Outlet, W2: Outlet> Inner<'s, 't, D, R, W1
     /// `fd_fdstat_get(fd, result)`.
     pub fn fd_fdstat_get(&self, memory: &mut Memory, arguments: &[u64]) -> Result<(), Errno>
         requires { IsSetUp R.remaining self.now }
-        ensures { (used : _) → Serves D.honest D.disk D.size D.failures D.goes_on R.remaining W1.contents W2.contents (hearing R.gave R.refused W1.took W1.refused W2.took W2.refused) call.FdFdstatGet used arguments.now self.now memory.old self.now memory.new (errno_of result) }
+        ensures { (used : _) → Serves D.honest D.disk D.size D.failures D.goes_on R.remaining
+            W1.contents W2.contents (hearing R.gave R.refused W1.took W1.refused W2.took W2.refused)
+            call.FdFdstatGet used arguments.now self.now memory.old self.now memory.new
+            (errno_of result) }
     {
         let (fd, result_at) = (descriptor(arguments, 0), word(arguments, 1));
         descriptors::fd_fdstat_get(&self.descriptors, self.interactive, memory, fd, result_at)
@@ -36,7 +41,10 @@ impl<'s, 't, D: Device, R: Inlet, W1: Outlet, W2: Outlet> Inner<'s, 't, D, R, W1
     pub fn fd_filestat_get(&mut self, memory: &mut Memory, arguments: &[u64]) -> Result<(), Errno>
         requires set_up { IsSetUp R.remaining self.old }
         requires known { KnowsEntries D.honest self.old.volume (table_of self.old.descriptors) }
-        ensures { (used : _) → Serves D.honest D.disk D.size D.failures D.goes_on R.remaining W1.contents W2.contents (hearing R.gave R.refused W1.took W1.refused W2.took W2.refused) call.FdFilestatGet used arguments.now self.old memory.old self.new memory.new (errno_of result) }
+        ensures { (used : _) → Serves D.honest D.disk D.size D.failures D.goes_on R.remaining
+            W1.contents W2.contents (hearing R.gave R.refused W1.took W1.refused W2.took W2.refused)
+            call.FdFilestatGet used arguments.now self.old memory.old self.new memory.new
+            (errno_of result) }
     {
         let (fd, result_at) = (descriptor(arguments, 0), word(arguments, 1));
         let (descriptors, interactive) = (&self.descriptors, self.interactive);
@@ -53,7 +61,10 @@ impl<'s, 't, D: Device, R: Inlet, W1: Outlet, W2: Outlet> Inner<'s, 't, D, R, W1
     /// `fd_prestat_get(fd, result)`.
     pub fn fd_prestat_get(&self, memory: &mut Memory, arguments: &[u64]) -> Result<(), Errno>
         requires { IsSetUp R.remaining self.now }
-        ensures { (used : _) → Serves D.honest D.disk D.size D.failures D.goes_on R.remaining W1.contents W2.contents (hearing R.gave R.refused W1.took W1.refused W2.took W2.refused) call.FdPrestatGet used arguments.now self.now memory.old self.now memory.new (errno_of result) }
+        ensures { (used : _) → Serves D.honest D.disk D.size D.failures D.goes_on R.remaining
+            W1.contents W2.contents (hearing R.gave R.refused W1.took W1.refused W2.took W2.refused)
+            call.FdPrestatGet used arguments.now self.now memory.old self.now memory.new
+            (errno_of result) }
     {
         let (fd, result_at) = (descriptor(arguments, 0), word(arguments, 1));
         descriptors::fd_prestat_get(&self.descriptors, memory, fd, result_at)
@@ -62,7 +73,10 @@ impl<'s, 't, D: Device, R: Inlet, W1: Outlet, W2: Outlet> Inner<'s, 't, D, R, W1
     /// `fd_prestat_dir_name(fd, path, length)`.
     pub fn fd_prestat_dir_name(&self, memory: &mut Memory, arguments: &[u64]) -> Result<(), Errno>
         requires { IsSetUp R.remaining self.now }
-        ensures { (used : _) → Serves D.honest D.disk D.size D.failures D.goes_on R.remaining W1.contents W2.contents (hearing R.gave R.refused W1.took W1.refused W2.took W2.refused) call.FdPrestatDirName used arguments.now self.now memory.old self.now memory.new (errno_of result) }
+        ensures { (used : _) → Serves D.honest D.disk D.size D.failures D.goes_on R.remaining
+            W1.contents W2.contents (hearing R.gave R.refused W1.took W1.refused W2.took W2.refused)
+            call.FdPrestatDirName used arguments.now self.now memory.old self.now memory.new
+            (errno_of result) }
     {
         let fd = descriptor(arguments, 0);
         let path = word(arguments, 1);
@@ -74,7 +88,10 @@ impl<'s, 't, D: Device, R: Inlet, W1: Outlet, W2: Outlet> Inner<'s, 't, D, R, W1
     pub fn fd_seek(&mut self, memory: &mut Memory, arguments: &[u64]) -> Result<(), Errno>
         requires set_up { IsSetUp R.remaining self.old }
         requires known { KnowsEntries D.honest self.old.volume (table_of self.old.descriptors) }
-        ensures { (used : _) → Serves D.honest D.disk D.size D.failures D.goes_on R.remaining W1.contents W2.contents (hearing R.gave R.refused W1.took W1.refused W2.took W2.refused) call.FdSeek used arguments.now self.old memory.old self.new memory.new (errno_of result) }
+        ensures { (used : _) → Serves D.honest D.disk D.size D.failures D.goes_on R.remaining
+            W1.contents W2.contents (hearing R.gave R.refused W1.took W1.refused W2.took W2.refused)
+            call.FdSeek used arguments.now self.old memory.old self.new memory.new
+            (errno_of result) }
     {
         let (fd, delta) = (descriptor(arguments, 0), long(arguments, 1));
         let (whence, result_at) = (word(arguments, 2), word(arguments, 3));
@@ -85,7 +102,10 @@ impl<'s, 't, D: Device, R: Inlet, W1: Outlet, W2: Outlet> Inner<'s, 't, D, R, W1
     /// `fd_tell(fd, result)`.
     pub fn fd_tell(&self, memory: &mut Memory, arguments: &[u64]) -> Result<(), Errno>
         requires { IsSetUp R.remaining self.now }
-        ensures { (used : _) → Serves D.honest D.disk D.size D.failures D.goes_on R.remaining W1.contents W2.contents (hearing R.gave R.refused W1.took W1.refused W2.took W2.refused) call.FdTell used arguments.now self.now memory.old self.now memory.new (errno_of result) }
+        ensures { (used : _) → Serves D.honest D.disk D.size D.failures D.goes_on R.remaining
+            W1.contents W2.contents (hearing R.gave R.refused W1.took W1.refused W2.took W2.refused)
+            call.FdTell used arguments.now self.now memory.old self.now memory.new
+            (errno_of result) }
     {
         let (fd, result_at) = (descriptor(arguments, 0), word(arguments, 1));
         positions::fd_tell(&self.descriptors, memory, fd, result_at)

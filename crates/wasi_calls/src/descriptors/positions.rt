@@ -29,8 +29,10 @@ const LAST: u64 = (1 << 63) - 1;
 /// Whether the descriptor may be moved so; one that may only be asked where it stands may be moved by nothing.
 #[tactic(auto, using(crate::proofs::checks::Chains::guard_passes, crate::proofs::checks::Chains::guard_fails))]
 fn check_seek(descriptor: &Descriptor<'_>, delta: u64, whence: u32) -> Result<(), Errno>
-    ensures { MatchResult result (λ u. guard (has descriptor.now (2 ^ 2) || ((delta == 0) && (whence == 1) && has descriptor.now (2 ^ 5))) 76 ≡ Ok u)
-        (λ e. guard (has descriptor.now (2 ^ 2) || ((delta == 0) && (whence == 1) && has descriptor.now (2 ^ 5))) 76 ≡ Err e.0) }
+    ensures { MatchResult result (λ u. guard
+        (has descriptor.now (2 ^ 2) || ((delta == 0) && (whence == 1) && has descriptor.now
+        (2 ^ 5))) 76 ≡ Ok u) (λ e. guard (has descriptor.now (2 ^ 2) ||
+        ((delta == 0) && (whence == 1) && has descriptor.now (2 ^ 5))) 76 ≡ Err e.0) }
 {
     let base = descriptor.base();
     if base.contains(Rights::FD_SEEK)
@@ -148,7 +150,8 @@ pub(crate) fn move_to<'t>(
     position: u64,
 )
     requires { IsOpenAs (table_of descriptors.old) fd opened.now }
-    ensures moved { (k : ℕ) → table_of descriptors.new k ≡ with_at fd (moved_to opened.now position) (table_of descriptors.old) k }
+    ensures moved { (k : ℕ) → table_of descriptors.new k ≡ with_at fd (moved_to opened.now position)
+        (table_of descriptors.old) k }
     ensures entries { NoMoreEntries (table_of descriptors.old) (table_of descriptors.new) }
 {
     let moved = Opened {
@@ -177,8 +180,10 @@ pub(crate) fn fd_seek<D: Device>(
     ensures entries { NoMoreEntries (table_of descriptors.old) (table_of descriptors.new) }
     ensures answered { (IsTrue (is_entry (table_of descriptors.old fd) && nat_lt 1 whence)
         → D.honest volume.old.device) → (w : World) → w.table ≡ table_of descriptors.old
-        → w ≡ with_volume volume.old w
-        → Answered (λ v. seek_row v memory.old fd delta whence result_at) w memory.old (with_table (table_of descriptors.new) (with_volume volume.new w)) memory.new (errno_of result) }
+        → w ≡ with_volume volume.old w → Answered
+        (λ v. seek_row v memory.old fd delta whence result_at) w memory.old
+        (with_table (table_of descriptors.new) (with_volume volume.new w)) memory.new
+        (errno_of result) }
 {
     let opened = match file_to_move(descriptors, memory, fd, delta, whence, result_at) {
         Ok(opened) => opened,
@@ -201,7 +206,8 @@ pub(crate) fn fd_seek<D: Device>(
 /// Whether the descriptor may be asked where it stands.
 #[tactic(auto, using(crate::proofs::checks::Chains::guard_passes, crate::proofs::checks::Chains::guard_fails))]
 fn check_tell(descriptor: &Descriptor<'_>) -> Result<(), Errno>
-    ensures { MatchResult result (λ u. guard (has descriptor.now (2 ^ 2) || has descriptor.now (2 ^ 5)) 76 ≡ Ok u)
+    ensures { MatchResult result (λ u. guard
+        (has descriptor.now (2 ^ 2) || has descriptor.now (2 ^ 5)) 76 ≡ Ok u)
         (λ e. guard (has descriptor.now (2 ^ 2) || has descriptor.now (2 ^ 5)) 76 ≡ Err e.0) }
 {
     let base = descriptor.base();
@@ -220,7 +226,8 @@ pub(crate) fn fd_tell(
     fd: Fd,
     result_at: u32,
 ) -> Result<(), Errno>
-    ensures { (w : World) → w.table ≡ table_of descriptors.now → Answers (tell w memory.old fd result_at) w memory.old w memory.new (errno_of result) }
+    ensures { (w : World) → w.table ≡ table_of descriptors.now
+        → Answers (tell w memory.old fd result_at) w memory.old w memory.new (errno_of result) }
 {
     let descriptor = described(descriptors, fd)?;
     DescriptorKinds::Files.check(&descriptor)?;

@@ -87,11 +87,11 @@ pub(crate) fn filestat_get<D: Device>(
     requires { KnowsEntries D.honest volume.old (table_of descriptors.now) }
     ensures step { VolumeStep D.honest D.disk D.size D.failures D.goes_on volume.old volume.new }
     ensures io { errno_of result ≡ 29 → volume.new.failed ≡ true }
-    ensures answered { (IsTrue (is_entry (table_of descriptors.now fd)) → D.honest volume.old.device)
-        → (w : World) → w.table ≡ table_of descriptors.now
-        → w ≡ with_volume volume.old w
-        → w.interactive ≡ interactive
-        → Answered (λ v. stat_row v memory.old fd result_at) w memory.old (with_volume volume.new w) memory.new (errno_of result) }
+    ensures answered { (IsTrue (is_entry (table_of descriptors.now fd))
+        → D.honest volume.old.device) → (w : World) → w.table ≡ table_of descriptors.now
+        → w ≡ with_volume volume.old w → w.interactive ≡ interactive
+        → Answered (λ v. stat_row v memory.old fd result_at) w memory.old (with_volume volume.new w)
+        memory.new (errno_of result) }
 {
     let descriptor = match allowed(
         descriptors,

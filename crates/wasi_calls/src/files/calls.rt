@@ -28,7 +28,10 @@ impl<'s, 't, D: Device, R: Inlet, W1: Outlet, W2: Outlet> Inner<'s, 't, D, R, W1
     pub fn fd_read(&mut self, memory: &mut Memory, arguments: &[u64]) -> Result<(), Errno>
         requires set_up { IsSetUp R.remaining self.old }
         requires known { KnowsEntries D.honest self.old.volume (table_of self.old.descriptors) }
-        ensures { (used : _) → Serves D.honest D.disk D.size D.failures D.goes_on R.remaining W1.contents W2.contents (hearing R.gave R.refused W1.took W1.refused W2.took W2.refused) call.FdRead used arguments.now self.old memory.old self.new memory.new (errno_of result) }
+        ensures { (used : _) → Serves D.honest D.disk D.size D.failures D.goes_on R.remaining
+            W1.contents W2.contents (hearing R.gave R.refused W1.took W1.refused W2.took W2.refused)
+            call.FdRead used arguments.now self.old memory.old self.new memory.new
+            (errno_of result) }
     {
         let request = Request::new(arguments, 3);
         let takes = DescriptorKinds::NoDirectories;
@@ -62,7 +65,10 @@ impl<'s, 't, D: Device, R: Inlet, W1: Outlet, W2: Outlet> Inner<'s, 't, D, R, W1
     pub fn fd_pread(&mut self, memory: &mut Memory, arguments: &[u64]) -> Result<(), Errno>
         requires set_up { IsSetUp R.remaining self.old }
         requires known { KnowsEntries D.honest self.old.volume (table_of self.old.descriptors) }
-        ensures { (used : _) → Serves D.honest D.disk D.size D.failures D.goes_on R.remaining W1.contents W2.contents (hearing R.gave R.refused W1.took W1.refused W2.took W2.refused) call.FdPread used arguments.now self.old memory.old self.new memory.new (errno_of result) }
+        ensures { (used : _) → Serves D.honest D.disk D.size D.failures D.goes_on R.remaining
+            W1.contents W2.contents (hearing R.gave R.refused W1.took W1.refused W2.took W2.refused)
+            call.FdPread used arguments.now self.old memory.old self.new memory.new
+            (errno_of result) }
     {
         let request = Request::new(arguments, 4);
         let offset = long(arguments, 3);
@@ -82,7 +88,10 @@ impl<'s, 't, D: Device, R: Inlet, W1: Outlet, W2: Outlet> Inner<'s, 't, D, R, W1
     pub fn fd_write(&mut self, memory: &mut Memory, arguments: &[u64]) -> Result<(), Errno>
         requires set_up { IsSetUp R.remaining self.old }
         requires known { KnowsEntries D.honest self.old.volume (table_of self.old.descriptors) }
-        ensures { (used : _) → Serves D.honest D.disk D.size D.failures D.goes_on R.remaining W1.contents W2.contents (hearing R.gave R.refused W1.took W1.refused W2.took W2.refused) call.FdWrite used arguments.now self.old memory.old self.new memory.new (errno_of result) }
+        ensures { (used : _) → Serves D.honest D.disk D.size D.failures D.goes_on R.remaining
+            W1.contents W2.contents (hearing R.gave R.refused W1.took W1.refused W2.took W2.refused)
+            call.FdWrite used arguments.now self.old memory.old self.new memory.new
+            (errno_of result) }
     {
         let request = Request::new(arguments, 3);
         let takes = DescriptorKinds::NoDirectories;
@@ -113,7 +122,10 @@ impl<'s, 't, D: Device, R: Inlet, W1: Outlet, W2: Outlet> Inner<'s, 't, D, R, W1
     pub fn fd_pwrite(&mut self, memory: &mut Memory, arguments: &[u64]) -> Result<(), Errno>
         requires set_up { IsSetUp R.remaining self.old }
         requires known { KnowsEntries D.honest self.old.volume (table_of self.old.descriptors) }
-        ensures { (used : _) → Serves D.honest D.disk D.size D.failures D.goes_on R.remaining W1.contents W2.contents (hearing R.gave R.refused W1.took W1.refused W2.took W2.refused) call.FdPwrite used arguments.now self.old memory.old self.new memory.new (errno_of result) }
+        ensures { (used : _) → Serves D.honest D.disk D.size D.failures D.goes_on R.remaining
+            W1.contents W2.contents (hearing R.gave R.refused W1.took W1.refused W2.took W2.refused)
+            call.FdPwrite used arguments.now self.old memory.old self.new memory.new
+            (errno_of result) }
     {
         let request = Request::new(arguments, 4);
         let offset = long(arguments, 3);
@@ -133,7 +145,10 @@ impl<'s, 't, D: Device, R: Inlet, W1: Outlet, W2: Outlet> Inner<'s, 't, D, R, W1
     pub fn fd_filestat_set_size(&mut self, arguments: &[u64]) -> Result<(), Errno>
         requires set_up { IsSetUp R.remaining self.old }
         requires known { KnowsEntries D.honest self.old.volume (table_of self.old.descriptors) }
-        ensures { (m : _) (used : _) → Serves D.honest D.disk D.size D.failures D.goes_on R.remaining W1.contents W2.contents (hearing R.gave R.refused W1.took W1.refused W2.took W2.refused) call.FdFilestatSetSize used arguments.now self.old m self.new m (errno_of result) }
+        ensures { (m : _) (used : _) → Serves D.honest D.disk D.size D.failures D.goes_on
+            R.remaining W1.contents W2.contents (hearing R.gave R.refused W1.took W1.refused W2.took
+            W2.refused) call.FdFilestatSetSize used arguments.now self.old m self.new m
+            (errno_of result) }
     {
         let fd = descriptor(arguments, 0);
         let size = long(arguments, 1);
@@ -143,9 +158,12 @@ impl<'s, 't, D: Device, R: Inlet, W1: Outlet, W2: Outlet> Inner<'s, 't, D, R, W1
     /// `fd_sync(fd)`.
     pub fn fd_sync(&mut self, arguments: &[u64]) -> Result<(), Errno>
         requires { IsSetUp R.remaining self.old }
-        ensures serves { (m : _) (used : _) → Serves D.honest D.disk D.size D.failures D.goes_on R.remaining W1.contents W2.contents (hearing R.gave R.refused W1.took W1.refused W2.took W2.refused) call.FdSync used arguments.now self.old m self.new m (errno_of result) }
+        ensures serves { (m : _) (used : _) → Serves D.honest D.disk D.size D.failures D.goes_on
+            R.remaining W1.contents W2.contents (hearing R.gave R.refused W1.took W1.refused W2.took
+            W2.refused) call.FdSync used arguments.now self.old m self.new m (errno_of result) }
         ensures durable { D.honest self.old.volume.device → errno_of result ≡ 0 → (c : Image)
-            → (D.disk self.new.volume.device).may_leave c → StandsAs c self.new.volume.numbers self.new.volume.tree }
+            → (D.disk self.new.volume.device).may_leave c
+            → StandsAs c self.new.volume.numbers self.new.volume.tree }
     {
         let fd = descriptor(arguments, 0);
         files::sync(&mut self.volume, &self.descriptors, fd, Rights::FD_SYNC)
@@ -154,9 +172,12 @@ impl<'s, 't, D: Device, R: Inlet, W1: Outlet, W2: Outlet> Inner<'s, 't, D, R, W1
     /// `fd_datasync(fd)`.
     pub fn fd_datasync(&mut self, arguments: &[u64]) -> Result<(), Errno>
         requires { IsSetUp R.remaining self.old }
-        ensures serves { (m : _) (used : _) → Serves D.honest D.disk D.size D.failures D.goes_on R.remaining W1.contents W2.contents (hearing R.gave R.refused W1.took W1.refused W2.took W2.refused) call.FdDatasync used arguments.now self.old m self.new m (errno_of result) }
+        ensures serves { (m : _) (used : _) → Serves D.honest D.disk D.size D.failures D.goes_on
+            R.remaining W1.contents W2.contents (hearing R.gave R.refused W1.took W1.refused W2.took
+            W2.refused) call.FdDatasync used arguments.now self.old m self.new m (errno_of result) }
         ensures durable { D.honest self.old.volume.device → errno_of result ≡ 0 → (c : Image)
-            → (D.disk self.new.volume.device).may_leave c → StandsAs c self.new.volume.numbers self.new.volume.tree }
+            → (D.disk self.new.volume.device).may_leave c
+            → StandsAs c self.new.volume.numbers self.new.volume.tree }
     {
         let fd = descriptor(arguments, 0);
         files::sync(&mut self.volume, &self.descriptors, fd, Rights::FD_DATASYNC)
@@ -166,7 +187,10 @@ impl<'s, 't, D: Device, R: Inlet, W1: Outlet, W2: Outlet> Inner<'s, 't, D, R, W1
     pub fn fd_readdir(&mut self, memory: &mut Memory, arguments: &[u64]) -> Result<(), Errno>
         requires set_up { IsSetUp R.remaining self.old }
         requires known { KnowsEntries D.honest self.old.volume (table_of self.old.descriptors) }
-        ensures { (used : _) → Serves D.honest D.disk D.size D.failures D.goes_on R.remaining W1.contents W2.contents (hearing R.gave R.refused W1.took W1.refused W2.took W2.refused) call.FdReaddir used arguments.now self.old memory.old self.new memory.new (errno_of result) }
+        ensures { (used : _) → Serves D.honest D.disk D.size D.failures D.goes_on R.remaining
+            W1.contents W2.contents (hearing R.gave R.refused W1.took W1.refused W2.took W2.refused)
+            call.FdReaddir used arguments.now self.old memory.old self.new memory.new
+            (errno_of result) }
     {
         let asked = ListCall::read(arguments);
         listing::fd_readdir(&mut self.volume, &self.descriptors, memory, &asked)

@@ -144,8 +144,9 @@ fn list<D: Device>(
     requires { volume.old.failed ≡ false }
     ensures asked { Asked D.honest D.disk D.size D.failures D.goes_on volume.old volume.new
         (is_io result) }
-    ensures answer { D.honest volume.old.device
-        → TellsBytes (take (length part.old) (dirents volume.old.tree directory cookie)) part.old part.new volume.old.tree volume.new.tree result }
+    ensures answer { D.honest volume.old.device → TellsBytes
+        (take (length part.old) (dirents volume.old.tree directory cookie)) part.old part.new
+        volume.old.tree volume.new.tree result }
     ensures room { IfOk result (λ n. n ≤ length part.old) }
 {
     let mut after = cookie;
@@ -180,10 +181,12 @@ fn list_part<D: Device>(
     ensures room { IfOk result (λ n. n ≤ len) }
     ensures count { D.honest volume.old.device
         → IfOk result (λ n. n ≡ min len (length (dirents volume.old.tree directory cookie))) }
-    ensures listed { D.honest volume.old.device
-        → IfOk result (λ n. memory.new ≡ written memory.old start (take len (dirents volume.old.tree directory cookie))) }
-    ensures broke { D.honest volume.old.device
-        → IfErr result (λ e. (e ≡ vol_errno.Io) × IsBegun memory.old start (take len (dirents volume.old.tree directory cookie)) memory.new) }
+    ensures listed { D.honest volume.old.device → IfOk result
+        (λ n. memory.new ≡ written memory.old start
+        (take len (dirents volume.old.tree directory cookie))) }
+    ensures broke { D.honest volume.old.device → IfErr result
+        (λ e. (e ≡ vol_errno.Io) × IsBegun memory.old start
+        (take len (dirents volume.old.tree directory cookie)) memory.new) }
 {
     match list(volume, directory, cookie, memory.part_mut(start, len)) {
         Ok(count) => Ok(count),
@@ -214,10 +217,12 @@ fn list_from<D: Device>(
     ensures idle { volume.old.failed ≡ true → memory.new ≡ memory.old }
     ensures count { D.honest volume.old.device
         → IfOk result (λ n. n ≡ min len (length (dirents volume.old.tree directory cookie))) }
-    ensures listed { D.honest volume.old.device
-        → IfOk result (λ n. memory.new ≡ written memory.old start (take len (dirents volume.old.tree directory cookie))) }
-    ensures broke { D.honest volume.old.device
-        → IfErr result (λ e. (e ≡ vol_errno.Io) × IsBegun memory.old start (take len (dirents volume.old.tree directory cookie)) memory.new) }
+    ensures listed { D.honest volume.old.device → IfOk result
+        (λ n. memory.new ≡ written memory.old start
+        (take len (dirents volume.old.tree directory cookie))) }
+    ensures broke { D.honest volume.old.device → IfErr result
+        (λ e. (e ≡ vol_errno.Io) × IsBegun memory.old start
+        (take len (dirents volume.old.tree directory cookie)) memory.new) }
 {
     volume.is_a_tree();
     if volume.failed() {
@@ -272,8 +277,10 @@ pub(crate) fn fd_readdir<D: Device>(
 ) -> Result<(), Errno>
     ensures step { VolumeStep D.honest D.disk D.size D.failures D.goes_on volume.old volume.new }
     ensures io { errno_of result ≡ 29 → volume.new.failed ≡ true }
-    ensures answered { D.honest volume.old.device → (w : World) → w.table ≡ table_of descriptors.now → w ≡ with_volume volume.old w
-        → Answered (λ v. list_row v memory.old asked.now.fd asked.now.buffer asked.now.len asked.now.cookie asked.now.used_at) w memory.old (with_volume volume.new w) memory.new (errno_of result) }
+    ensures answered { D.honest volume.old.device → (w : World) → w.table ≡ table_of descriptors.now
+        → w ≡ with_volume volume.old w → Answered
+        (λ v. list_row v memory.old asked.now.fd asked.now.buffer asked.now.len asked.now.cookie
+        asked.now.used_at) w memory.old (with_volume volume.new w) memory.new (errno_of result) }
 {
     let opened = match directory_to_list(descriptors, memory, asked) {
         Ok(opened) => opened,

@@ -82,7 +82,8 @@ fn read_part<D: Device>(
     requires inside { start + len ≤ length memory.old }
     ensures long { length memory.new ≡ length memory.old }
     ensures read { D.honest volume.old.device → at + len ≤ length (bytes_at volume.old.tree serial)
-        → IfOk result (λ _. memory.new ≡ written memory.old start (read_bytes volume.old.tree serial at len)) }
+        → IfOk result (λ _. memory.new ≡ written memory.old start
+        (read_bytes volume.old.tree serial at len)) }
     ensures broke { D.honest volume.old.device → at + len ≤ length (bytes_at volume.old.tree serial)
         → IfErr result (λ e. (e ≡ vol_errno.Io)
         × IsBegun memory.old start (read_bytes volume.old.tree serial at len) memory.new) }
@@ -112,11 +113,14 @@ fn fill_stretch<D: Device>(
     requires inside { end ≤ length memory.old }
     ensures long { length memory.new ≡ length memory.old }
     ensures within { IfOk result (λ until. (place < until) × (until ≤ end)) }
-    ensures filled { D.honest volume.old.device → end - place ≤ length (bytes_at volume.old.tree serial) - from
-        → IfOk result (λ until. BufferFilled (bytes_at volume.old.tree serial) from place until (list_of later.now) memory.old memory.new) }
-    ensures broke { D.honest volume.old.device → end - place ≤ length (bytes_at volume.old.tree serial) - from
-        → IfErr result (λ e. (e ≡ vol_errno.Io)
-        × BufferBegun (bytes_at volume.old.tree serial) from place end (list_of later.now) memory.old memory.new) }
+    ensures filled { D.honest volume.old.device → end - place ≤ length
+        (bytes_at volume.old.tree serial) - from → IfOk result
+        (λ until. BufferFilled (bytes_at volume.old.tree serial) from place until
+        (list_of later.now) memory.old memory.new) }
+    ensures broke { D.honest volume.old.device → end - place ≤ length
+        (bytes_at volume.old.tree serial) - from → IfErr result
+        (λ e. (e ≡ vol_errno.Io) × BufferBegun (bytes_at volume.old.tree serial) from place end
+        (list_of later.now) memory.old memory.new) }
     ensures asked { Asked D.honest D.disk D.size D.failures D.goes_on volume.old volume.new
         (is_io result) }
 {
@@ -145,11 +149,14 @@ fn fill_buffer<D: Device>(
     requires small { from + buffer.len < 2 ^ 64 }
     requires inside { buffer.pointer + buffer.len ≤ length memory.old }
     ensures long { length memory.new ≡ length memory.old }
-    ensures filled { D.honest volume.old.device → buffer.len ≤ length (bytes_at volume.old.tree serial) - from
-        → OnOk result (BufferFilled (bytes_at volume.old.tree serial) from buffer.pointer (buffer.pointer + buffer.len) (list_of later.now) memory.old memory.new) }
-    ensures broke { D.honest volume.old.device → buffer.len ≤ length (bytes_at volume.old.tree serial) - from
-        → IfErr result (λ e. (e ≡ vol_errno.Io)
-        × BufferBegun (bytes_at volume.old.tree serial) from buffer.pointer (buffer.pointer + buffer.len) (list_of later.now) memory.old memory.new) }
+    ensures filled { D.honest volume.old.device → buffer.len ≤ length
+        (bytes_at volume.old.tree serial) - from → OnOk result
+        (BufferFilled (bytes_at volume.old.tree serial) from buffer.pointer
+        (buffer.pointer + buffer.len) (list_of later.now) memory.old memory.new) }
+    ensures broke { D.honest volume.old.device → buffer.len ≤ length
+        (bytes_at volume.old.tree serial) - from → IfErr result
+        (λ e. (e ≡ vol_errno.Io) × BufferBegun (bytes_at volume.old.tree serial) from buffer.pointer
+        (buffer.pointer + buffer.len) (list_of later.now) memory.old memory.new) }
     ensures asked { Asked D.honest D.disk D.size D.failures D.goes_on volume.old volume.new
         (is_io result) }
 {
@@ -179,11 +186,15 @@ fn fill_buffers<D: Device>(
     requires small { from + total (list_of buffers.now) < 2 ^ 64 }
     requires inside { list_all (is_inside memory.old) (list_of buffers.now) ≡ true }
     ensures long { length memory.new ≡ length memory.old }
-    ensures filled { D.honest volume.old.device → total (list_of buffers.now) ≤ length (bytes_at volume.old.tree serial) - from
-        → OnOk result (memory.new ≡ put memory.old (scattered (drop from (bytes_at volume.old.tree serial)) (list_of buffers.now))) }
-    ensures broke { D.honest volume.old.device → total (list_of buffers.now) ≤ length (bytes_at volume.old.tree serial) - from
-        → IfErr result (λ e. (e ≡ vol_errno.Io)
-        × IsMixed memory.old (put memory.old (scattered (drop from (bytes_at volume.old.tree serial)) (list_of buffers.now))) memory.new) }
+    ensures filled { D.honest volume.old.device → total (list_of buffers.now) ≤ length
+        (bytes_at volume.old.tree serial) - from → OnOk result
+        (memory.new ≡ put memory.old (scattered (drop from (bytes_at volume.old.tree serial))
+        (list_of buffers.now))) }
+    ensures broke { D.honest volume.old.device → total (list_of buffers.now) ≤ length
+        (bytes_at volume.old.tree serial) - from → IfErr result
+        (λ e. (e ≡ vol_errno.Io) × IsMixed memory.old
+        (put memory.old (scattered (drop from (bytes_at volume.old.tree serial))
+        (list_of buffers.now))) memory.new) }
     ensures asked { Asked D.honest D.disk D.size D.failures D.goes_on volume.old volume.new
         (is_io result) }
 {
@@ -225,12 +236,14 @@ pub(crate) fn read_at<D: Device>(
     ensures long { length memory.new ≡ length memory.old }
     ensures near { IfOk result (λ n. from + n < 2 ^ 64) }
     ensures idle { volume.old.failed ≡ true → memory.new ≡ memory.old }
-    ensures read { D.honest volume.old.device
-        → IfOk result (λ n. (n ≡ length (wanted volume.old.tree serial from (list_of buffers.old)))
-        × (memory.new ≡ received memory.old (wanted volume.old.tree serial from (list_of buffers.old)) (list_of buffers.old))) }
-    ensures broke { D.honest volume.old.device
-        → IfErr result (λ e. (e ≡ vol_errno.Io)
-        × IsMixed memory.old (received memory.old (wanted volume.old.tree serial from (list_of buffers.old)) (list_of buffers.old)) memory.new) }
+    ensures read { D.honest volume.old.device → IfOk result
+        (λ n. (n ≡ length (wanted volume.old.tree serial from (list_of buffers.old)))
+        × (memory.new ≡ received memory.old (wanted volume.old.tree serial from
+        (list_of buffers.old)) (list_of buffers.old))) }
+    ensures broke { D.honest volume.old.device → IfErr result
+        (λ e. (e ≡ vol_errno.Io) × IsMixed memory.old
+        (received memory.old (wanted volume.old.tree serial from (list_of buffers.old))
+        (list_of buffers.old)) memory.new) }
     ensures asked { Asked D.honest D.disk D.size D.failures D.goes_on volume.old volume.new
         (is_io result) }
 {
@@ -273,7 +286,8 @@ pub(crate) fn read_placed<D: Device>(
     ensures step { VolumeStep D.honest D.disk D.size D.failures D.goes_on volume.old volume.new }
     ensures io { errno_of result ≡ 29 → volume.new.failed ≡ true }
     ensures answered { D.honest volume.old.device → (w : World) → w ≡ with_volume volume.old w
-        → Answered (λ v. read_into v opened.now from (list_of buffers.old) request.now.result_at) w memory.old (with_volume volume.new w) memory.new (errno_of result) }
+        → Answered (λ v. read_into v opened.now from (list_of buffers.old) request.now.result_at) w
+        memory.old (with_volume volume.new w) memory.new (errno_of result) }
 {
     match read_at(volume, Serial::new(opened.serial), from, memory, buffers) {
         Ok(len) => {
@@ -301,8 +315,11 @@ pub(crate) fn read_file<'t, D: Device>(
     ensures step { VolumeStep D.honest D.disk D.size D.failures D.goes_on volume.old volume.new }
     ensures io { errno_of result ≡ 29 → volume.new.failed ≡ true }
     ensures entries { NoMoreEntries (table_of descriptors.old) (table_of descriptors.new) }
-    ensures answered { D.honest volume.old.device → (w : World) → w.table ≡ table_of descriptors.old → w ≡ with_volume volume.old w
-        → Answered (λ v. read_file_to v request.now.fd opened.now (list_of buffers.old) request.now.result_at) w memory.old (with_table (table_of descriptors.new) (with_volume volume.new w)) memory.new (errno_of result) }
+    ensures answered { D.honest volume.old.device → (w : World) → w.table ≡ table_of descriptors.old
+        → w ≡ with_volume volume.old w → Answered
+        (λ v. read_file_to v request.now.fd opened.now (list_of buffers.old) request.now.result_at)
+        w memory.old (with_table (table_of descriptors.new) (with_volume volume.new w)) memory.new
+        (errno_of result) }
 {
     let serial = Serial::new(opened.serial);
     match read_at(volume, serial, opened.position, memory, buffers) {

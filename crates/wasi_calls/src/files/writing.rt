@@ -41,10 +41,14 @@ fn put_bytes<D: Device>(
     requires file { IsFileOf D.honest volume.old serial }
     requires few { length buffers.now ≤ MOST_BUFFERS }
     requires inside { list_all (is_inside memory.now) (list_of buffers.now) ≡ true }
-    ensures written { D.honest volume.old.device → IfOk result (λ n. (n ≡ length (take PIECE (gathered memory.now (list_of buffers.now))))
-        × (tree_with (geometry volume.old.numbers) volume.old.tree serial at (take PIECE (gathered memory.now (list_of buffers.now))) ≡ Ok volume.new.tree)) }
-    ensures refused { D.honest volume.old.device → IfErr result (λ e. (volume.new.tree ≡ volume.old.tree)
-        × ((tree_with (geometry volume.old.numbers) volume.old.tree serial at (take PIECE (gathered memory.now (list_of buffers.now))) ≡ Err e) ⊎ (e ≡ vol_errno.Io))) }
+    ensures written { D.honest volume.old.device → IfOk result
+        (λ n. (n ≡ length (take PIECE (gathered memory.now (list_of buffers.now))))
+        × (tree_with (geometry volume.old.numbers) volume.old.tree serial at
+        (take PIECE (gathered memory.now (list_of buffers.now))) ≡ Ok volume.new.tree)) }
+    ensures refused { D.honest volume.old.device → IfErr result
+        (λ e. (volume.new.tree ≡ volume.old.tree)
+        × ((tree_with (geometry volume.old.numbers) volume.old.tree serial at
+        (take PIECE (gathered memory.now (list_of buffers.now))) ≡ Err e) ⊎ (e ≡ vol_errno.Io))) }
     ensures crash { D.honest volume.old.device
         → Leaves (D.disk volume.old.device) (D.disk volume.new.device)
         (ReflectsOr (D.disk volume.old.device) volume.old.numbers volume.old.tree) }
@@ -84,7 +88,9 @@ pub(crate) fn write_at<D: Device>(
     ensures step { VolumeStep D.honest D.disk D.size D.failures D.goes_on volume.old volume.new }
     ensures io { errno_of result ≡ 29 → volume.new.failed ≡ true }
     ensures answered { D.honest volume.old.device → (w : World) → w ≡ with_volume volume.old w
-        → Answered (λ v. written_at_offset v opened.now at (gathered memory.old (list_of buffers.now)) result_at) w memory.old (with_volume volume.new w) memory.new (errno_of result) }
+        → Answered (λ v. written_at_offset v opened.now at
+        (gathered memory.old (list_of buffers.now)) result_at) w memory.old
+        (with_volume volume.new w) memory.new (errno_of result) }
 {
     match put_bytes(volume, Serial::new(opened.serial), at, memory, buffers) {
         Ok(len) => {
@@ -101,11 +107,17 @@ fn where_it_writes<'t, D: Device>(
     opened: &Opened<'t>,
 ) -> Result<Opened<'t>, vol_tree::Errno>
     requires { IsFileOf D.honest volume.old opened.now.serial }
-    ensures stays { IsFalse opened.now.append → (volume.new ≡ volume.old) × (result ≡ Ok opened.now) }
+    ensures stays { IsFalse opened.now.append → (volume.new ≡ volume.old)
+        × (result ≡ Ok opened.now) }
     ensures at_end { IsTrue opened.now.append → D.honest volume.old.device
-        → Tells (record opened.now { position = length (bytes_at volume.old.tree opened.now.serial) }) volume.old.tree volume.new.tree result }
-    ensures kept { IsTrue opened.now.append → Keeps D.honest D.size D.failures volume.old volume.new (is_io result) }
-    ensures asked { IsTrue opened.now.append → D.honest volume.old.device → Leaves (D.disk volume.old.device) (D.disk volume.new.device) (λ c. ⊥) }
+        → Tells (record opened.now {
+          position = length
+              (bytes_at volume.old.tree opened.now.serial);
+        }) volume.old.tree volume.new.tree result }
+    ensures kept { IsTrue opened.now.append → Keeps D.honest D.size D.failures volume.old volume.new
+        (is_io result) }
+    ensures asked { IsTrue opened.now.append → D.honest volume.old.device
+        → Leaves (D.disk volume.old.device) (D.disk volume.new.device) (λ c. ⊥) }
     ensures moved { IfOk result (λ s. s ≡ record opened.now { position = s.position }) }
     ensures step { VolumeStep D.honest D.disk D.size D.failures D.goes_on volume.old volume.new }
     ensures io { is_io result ≡ true → volume.new.failed ≡ true }
@@ -139,8 +151,11 @@ fn write_on<'t, D: Device>(
     ensures step { VolumeStep D.honest D.disk D.size D.failures D.goes_on volume.old volume.new }
     ensures io { errno_of result ≡ 29 → volume.new.failed ≡ true }
     ensures entries { NoMoreEntries (table_of descriptors.old) (table_of descriptors.new) }
-    ensures answered { D.honest volume.old.device → (w : World) → w.table ≡ table_of descriptors.old → w ≡ with_volume volume.old w
-        → Answered (λ v. written_on v request.now.fd opened.now (gathered memory.old (list_of buffers.now)) request.now.result_at) w memory.old (with_table (table_of descriptors.new) (with_volume volume.new w)) memory.new (errno_of result) }
+    ensures answered { D.honest volume.old.device → (w : World) → w.table ≡ table_of descriptors.old
+        → w ≡ with_volume volume.old w → Answered
+        (λ v. written_on v request.now.fd opened.now (gathered memory.old (list_of buffers.now))
+        request.now.result_at) w memory.old (with_table (table_of descriptors.new)
+        (with_volume volume.new w)) memory.new (errno_of result) }
 {
     let serial = Serial::new(opened.serial);
     match put_bytes(volume, serial, opened.position, memory, buffers) {
@@ -172,8 +187,12 @@ pub(crate) fn write_file<'t, D: Device>(
     ensures step { VolumeStep D.honest D.disk D.size D.failures D.goes_on volume.old volume.new }
     ensures io { errno_of result ≡ 29 → volume.new.failed ≡ true }
     ensures entries { NoMoreEntries (table_of descriptors.old) (table_of descriptors.new) }
-    ensures answered { D.honest volume.old.device → (w : World) → w.table ≡ table_of descriptors.old → w ≡ with_volume volume.old w
-        → Answered (λ v. written_to v request.now.fd (Descriptor.Entry opened.now) (gathered memory.old (list_of buffers.now)) request.now.result_at) w memory.old (with_table (table_of descriptors.new) (with_volume volume.new w)) memory.new (errno_of result) }
+    ensures answered { D.honest volume.old.device → (w : World) → w.table ≡ table_of descriptors.old
+        → w ≡ with_volume volume.old w → Answered
+        (λ v. written_to v request.now.fd (Descriptor.Entry opened.now)
+        (gathered memory.old (list_of buffers.now)) request.now.result_at) w memory.old
+        (with_table (table_of descriptors.new) (with_volume volume.new w)) memory.new
+        (errno_of result) }
 {
     match where_it_writes(volume, opened) {
         Ok(standing) => write_on(volume, descriptors, memory, &standing, request, buffers),

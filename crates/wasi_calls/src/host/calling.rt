@@ -16,7 +16,10 @@ impl<'s, 't, D: Device, R: Inlet, W1: Outlet, W2: Outlet> Inner<'s, 't, D, R, W1
     /// A call that is linked, and answers that there is none such.
     fn nosys(&self) -> Result<(), Errno>
         requires { IsSetUp R.remaining self.now }
-        ensures { (m : _) (used : _) (arguments : _) → Serves D.honest D.disk D.size D.failures D.goes_on R.remaining W1.contents W2.contents (hearing R.gave R.refused W1.took W1.refused W2.took W2.refused) call.Nosys used arguments self.now m self.now m (errno_of result) }
+        ensures { (m : _) (used : _) (arguments : _)
+            → Serves D.honest D.disk D.size D.failures D.goes_on R.remaining W1.contents W2.contents
+            (hearing R.gave R.refused W1.took W1.refused W2.took W2.refused) call.Nosys used
+            arguments self.now m self.now m (errno_of result) }
     {
         Err(NOSYS)
     }
@@ -31,9 +34,12 @@ impl<'s, 't, D: Device, R: Inlet, W1: Outlet, W2: Outlet> Inner<'s, 't, D, R, W1
     ) -> Result<(), Errno>
         requires set_up { IsSetUp R.remaining self.old }
         requires known { KnowsEntries D.honest self.old.volume (table_of self.old.descriptors) }
-        ensures serves { Serves D.honest D.disk D.size D.failures D.goes_on R.remaining W1.contents W2.contents (hearing R.gave R.refused W1.took W1.refused W2.took W2.refused) call used arguments.now self.old memory.old self.new memory.new (errno_of result) }
+        ensures serves { Serves D.honest D.disk D.size D.failures D.goes_on R.remaining W1.contents
+            W2.contents (hearing R.gave R.refused W1.took W1.refused W2.took W2.refused) call used
+            arguments.now self.old memory.old self.new memory.new (errno_of result) }
         ensures synced { D.honest self.old.volume.device
-            → IsSynced call (errno_of result) (D.disk self.new.volume.device) self.new.volume.numbers self.new.volume.tree }
+            → IsSynced call (errno_of result) (D.disk self.new.volume.device)
+            self.new.volume.numbers self.new.volume.tree }
     {
         match call {
             HostCall::ArgsSizesGet => self.args_sizes_get(memory, arguments),

@@ -81,7 +81,8 @@ fn directory_named<D: Device>(volume: &mut Volume<D>, path: &[u8]) -> Result<Ser
     requires { volume.old.failed ≡ false }
     ensures reads { Asked D.honest D.disk D.size D.failures D.goes_on volume.old volume.new
         (is_device result) }
-    ensures found { D.honest volume.old.device → FindsOrFails (directory_named volume.old.tree path.now) result }
+    ensures found { D.honest volume.old.device → FindsOrFails
+        (directory_named volume.old.tree path.now) result }
     ensures number { IfOk result (IsSerial volume.new.numbers) }
     ensures faults { IfErr result (λ fault. FindsOrFails {X = ℕ} None (Err fault)) }
 {
@@ -103,7 +104,8 @@ fn find_all<D: Device>(
         (is_device result) }
     ensures found { D.honest volume.old.device
         → FindsAll volume.old.tree preopens.now serials.new result }
-    ensures numbers { OnOk result (AreNumbers volume.new.numbers serials.new (length preopens.now)) }
+    ensures numbers { OnOk result (AreNumbers volume.new.numbers serials.new
+        (length preopens.now)) }
     ensures faults { IfErr result (λ fault. FindsOrFails {X = ℕ} None (Err fault)) }
 {
     for (i, preopen) in preopens.iter().enumerate() {
@@ -133,8 +135,9 @@ fn preopened<'t>(preopen: &Preopen<'t>, serial: Serial) -> Descriptor<'t>
 /// Opens a descriptor as the least number that stands for nothing.
 fn open_next<'t>(descriptors: &mut Descriptors<'t>, descriptor: Descriptor<'t>)
     ensures { (n : ℕ) → n < PLACES → table_of descriptors.old n ≡ None
-        → ((k : ℕ) → k < n → table_of descriptors.old k ≢ None)
-        → (k : ℕ) → table_of descriptors.new k ≡ with_at n (Some descriptor.entry) (table_of descriptors.old) k }
+        → ((k : ℕ) → k < n → table_of descriptors.old k ≢ None) → (k : ℕ)
+        → table_of descriptors.new k ≡ with_at n (Some descriptor.entry) (table_of descriptors.old)
+        k }
 {
     let _opened = descriptors.open(descriptor);
 }
@@ -165,7 +168,8 @@ fn open_directories<'t, D: Device>(
     ensures opened { D.honest volume.old.device
         → OnOk result (HasPreopens volume.old.tree preopens.now (table_of descriptors.new)) }
     ensures refused { IfErr result (Refuses D.honest volume.old volume.new preopens.now) }
-    ensures closed { OnErr result ((n : ℕ) → table_of descriptors.new n ≡ table_of descriptors.old n) }
+    ensures closed { OnErr result ((n : ℕ) → table_of descriptors.new n ≡ table_of descriptors.old
+        n) }
     ensures reads { Asked D.honest D.disk D.size D.failures D.goes_on volume.old volume.new
         (is_device result) }
     ensures known { KnowsEntries D.honest volume.new (table_of descriptors.new) }
@@ -192,10 +196,14 @@ impl<'s, 't, D: Device, R, W1, W2> Inner<'s, 't, D, R, W1, W2> {
         requires streams { (n : ℕ) → table_of self.old.descriptors n ≡ streams n }
         requires few { length self.old.settings.preopens.now ≤ MOST_PREOPENS }
         ensures opened { D.honest self.old.volume.device
-            → OnOk result (HasPreopens self.old.volume.tree self.old.settings.preopens.now (table_of self.new.descriptors)) }
-        ensures refused { IfErr result (Refuses D.honest self.old.volume self.new.volume self.old.settings.preopens.now) }
-        ensures closed { OnErr result ((n : ℕ) → table_of self.new.descriptors n ≡ table_of self.old.descriptors n) }
-        ensures reads { Asked D.honest D.disk D.size D.failures D.goes_on self.old.volume self.new.volume (is_device result) }
+            → OnOk result (HasPreopens self.old.volume.tree self.old.settings.preopens.now
+            (table_of self.new.descriptors)) }
+        ensures refused { IfErr result (Refuses D.honest self.old.volume self.new.volume
+            self.old.settings.preopens.now) }
+        ensures closed { OnErr result ((n : ℕ) → table_of self.new.descriptors n ≡ table_of
+            self.old.descriptors n) }
+        ensures reads { Asked D.honest D.disk D.size D.failures D.goes_on self.old.volume
+            self.new.volume (is_device result) }
         ensures known { KnowsEntries D.honest self.new.volume (table_of self.new.descriptors) }
         ensures others { ChangesVolume self.old self.new }
     {

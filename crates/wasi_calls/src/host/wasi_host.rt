@@ -193,10 +193,12 @@ impl<'s, 't, D: Device, R: Inlet, W1: Outlet, W2: Outlet> WasiHost<'s, 't, D, R,
     pub fn preopen(&mut self) -> Result<(), HostFault>
         requires { (n : ℕ) → table_of self.old.descriptors n ≡ streams n }
         ensures opened { D.honest self.old.volume.device
-            → OnOk result (HasPreopens self.old.volume.tree self.old.settings.preopens.now (table_of self.new.descriptors)) }
+            → OnOk result (HasPreopens self.old.volume.tree self.old.settings.preopens.now
+            (table_of self.new.descriptors)) }
         ensures refused { IfErr result (IsRefusedPreopen D.honest self.old self.new) }
         ensures closed { OnErr result (HasNoMore self.old self.new) }
-        ensures reads { Asked D.honest D.disk D.size D.failures D.goes_on self.old.volume self.new.volume (is_device result) }
+        ensures reads { Asked D.honest D.disk D.size D.failures D.goes_on self.old.volume
+            self.new.volume (is_device result) }
         ensures streams { KeepsStreams self.old self.new }
     {
         self.inner.preopen()

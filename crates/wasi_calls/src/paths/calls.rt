@@ -23,7 +23,10 @@ impl<'s, 't, D: Device, R: Inlet, W1: Outlet, W2: Outlet> Inner<'s, 't, D, R, W1
     pub fn path_create_directory(&mut self, memory: &Memory, arguments: &[u64]) -> Result<(), Errno>
         requires set_up { IsSetUp R.remaining self.old }
         requires known { KnowsEntries D.honest self.old.volume (table_of self.old.descriptors) }
-        ensures { (used : _) → Serves D.honest D.disk D.size D.failures D.goes_on R.remaining W1.contents W2.contents (hearing R.gave R.refused W1.took W1.refused W2.took W2.refused) call.PathCreateDirectory used arguments.now self.old memory.now self.new memory.now (errno_of result) }
+        ensures { (used : _) → Serves D.honest D.disk D.size D.failures D.goes_on R.remaining
+            W1.contents W2.contents (hearing R.gave R.refused W1.took W1.refused W2.took W2.refused)
+            call.PathCreateDirectory used arguments.now self.old memory.now self.new memory.now
+            (errno_of result) }
     {
         let fd = descriptor(arguments, 0);
         let (path, len) = (word(arguments, 1), word(arguments, 2));
@@ -34,7 +37,10 @@ impl<'s, 't, D: Device, R: Inlet, W1: Outlet, W2: Outlet> Inner<'s, 't, D, R, W1
     pub fn path_filestat_get(&mut self, memory: &mut Memory, arguments: &[u64]) -> Result<(), Errno>
         requires set_up { IsSetUp R.remaining self.old }
         requires known { KnowsEntries D.honest self.old.volume (table_of self.old.descriptors) }
-        ensures { (used : _) → Serves D.honest D.disk D.size D.failures D.goes_on R.remaining W1.contents W2.contents (hearing R.gave R.refused W1.took W1.refused W2.took W2.refused) call.PathFilestatGet used arguments.now self.old memory.old self.new memory.new (errno_of result) }
+        ensures { (used : _) → Serves D.honest D.disk D.size D.failures D.goes_on R.remaining
+            W1.contents W2.contents (hearing R.gave R.refused W1.took W1.refused W2.took W2.refused)
+            call.PathFilestatGet used arguments.now self.old memory.old self.new memory.new
+            (errno_of result) }
     {
         let (fd, path) = (descriptor(arguments, 0), word(arguments, 2));
         let (len, result_at) = (word(arguments, 3), word(arguments, 4));
@@ -46,7 +52,10 @@ impl<'s, 't, D: Device, R: Inlet, W1: Outlet, W2: Outlet> Inner<'s, 't, D, R, W1
     pub fn path_open(&mut self, memory: &mut Memory, arguments: &[u64]) -> Result<(), Errno>
         requires set_up { IsSetUp R.remaining self.old }
         requires known { KnowsEntries D.honest self.old.volume (table_of self.old.descriptors) }
-        ensures { (used : _) → Serves D.honest D.disk D.size D.failures D.goes_on R.remaining W1.contents W2.contents (hearing R.gave R.refused W1.took W1.refused W2.took W2.refused) call.PathOpen used arguments.now self.old memory.old self.new memory.new (errno_of result) }
+        ensures { (used : _) → Serves D.honest D.disk D.size D.failures D.goes_on R.remaining
+            W1.contents W2.contents (hearing R.gave R.refused W1.took W1.refused W2.took W2.refused)
+            call.PathOpen used arguments.now self.old memory.old self.new memory.new
+            (errno_of result) }
     {
         let asked = OpenCall::read(arguments);
         opening::path_open(&mut self.volume, &mut self.descriptors, memory, &asked)
@@ -56,7 +65,10 @@ impl<'s, 't, D: Device, R: Inlet, W1: Outlet, W2: Outlet> Inner<'s, 't, D, R, W1
     pub fn path_remove_directory(&mut self, memory: &Memory, arguments: &[u64]) -> Result<(), Errno>
         requires set_up { IsSetUp R.remaining self.old }
         requires known { KnowsEntries D.honest self.old.volume (table_of self.old.descriptors) }
-        ensures { (used : _) → Serves D.honest D.disk D.size D.failures D.goes_on R.remaining W1.contents W2.contents (hearing R.gave R.refused W1.took W1.refused W2.took W2.refused) call.PathRemoveDirectory used arguments.now self.old memory.now self.new memory.now (errno_of result) }
+        ensures { (used : _) → Serves D.honest D.disk D.size D.failures D.goes_on R.remaining
+            W1.contents W2.contents (hearing R.gave R.refused W1.took W1.refused W2.took W2.refused)
+            call.PathRemoveDirectory used arguments.now self.old memory.now self.new memory.now
+            (errno_of result) }
     {
         let fd = descriptor(arguments, 0);
         let (path, len) = (word(arguments, 1), word(arguments, 2));
@@ -69,7 +81,10 @@ impl<'s, 't, D: Device, R: Inlet, W1: Outlet, W2: Outlet> Inner<'s, 't, D, R, W1
     pub fn path_rename(&mut self, memory: &Memory, arguments: &[u64]) -> Result<(), Errno>
         requires set_up { IsSetUp R.remaining self.old }
         requires known { KnowsEntries D.honest self.old.volume (table_of self.old.descriptors) }
-        ensures { (used : _) → Serves D.honest D.disk D.size D.failures D.goes_on R.remaining W1.contents W2.contents (hearing R.gave R.refused W1.took W1.refused W2.took W2.refused) call.PathRename used arguments.now self.old memory.now self.new memory.now (errno_of result) }
+        ensures { (used : _) → Serves D.honest D.disk D.size D.failures D.goes_on R.remaining
+            W1.contents W2.contents (hearing R.gave R.refused W1.took W1.refused W2.took W2.refused)
+            call.PathRename used arguments.now self.old memory.now self.new memory.now
+            (errno_of result) }
     {
         let asked = RenameCall::read(arguments);
         renaming::path_rename(&mut self.volume, &self.descriptors, memory, &asked)
@@ -79,7 +94,10 @@ impl<'s, 't, D: Device, R: Inlet, W1: Outlet, W2: Outlet> Inner<'s, 't, D, R, W1
     pub fn path_unlink_file(&mut self, memory: &Memory, arguments: &[u64]) -> Result<(), Errno>
         requires set_up { IsSetUp R.remaining self.old }
         requires known { KnowsEntries D.honest self.old.volume (table_of self.old.descriptors) }
-        ensures { (used : _) → Serves D.honest D.disk D.size D.failures D.goes_on R.remaining W1.contents W2.contents (hearing R.gave R.refused W1.took W1.refused W2.took W2.refused) call.PathUnlinkFile used arguments.now self.old memory.now self.new memory.now (errno_of result) }
+        ensures { (used : _) → Serves D.honest D.disk D.size D.failures D.goes_on R.remaining
+            W1.contents W2.contents (hearing R.gave R.refused W1.took W1.refused W2.took W2.refused)
+            call.PathUnlinkFile used arguments.now self.old memory.now self.new memory.now
+            (errno_of result) }
     {
         let fd = descriptor(arguments, 0);
         let (path, len) = (word(arguments, 1), word(arguments, 2));

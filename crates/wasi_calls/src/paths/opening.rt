@@ -26,7 +26,7 @@ use crate::errno::{EXIST, ISDIR, MFILE, NOENT, NOTDIR, NOTSUP, refused};
 use crate::numbers::le32;
 use crate::paths::reach;
 use bitflags::Flags;
-use path_walk::{Reached, wants_a_directory, is_directory};
+use path_walk::{Reached, is_directory, wants_a_directory};
 use vol_sector::Device;
 use vol_tree::{Serial, Volume};
 use wasi_fd::{Descriptor, Descriptors, EntryKind, Fd, Opened, Rights};
@@ -174,7 +174,8 @@ fn check_missing(oflags: u32, slash: bool) -> Result<(), Errno>
 /// How a directory, or a file, is opened.
 fn found_as<'p>(oflags: u32, serial: Serial, is_directory: bool) -> PathTarget<'p>
     ensures at { LeadsToSerial serial result }
-    ensures target { (T : Tree) → directory_at T serial ≡ is_directory → IsTarget T oflags (Found serial) result }
+    ensures target { (T : Tree) → directory_at T serial ≡ is_directory
+        → IsTarget T oflags (Found serial) result }
 {
     if is_directory {
         let kind = EntryKind::Directory;
@@ -214,7 +215,8 @@ fn new_descriptor<'t>(
 ) -> Descriptor<'t>
     ensures serial { (o : _) → result ≡ Descriptor.Entry o → o.serial ≡ serial }
     ensures rights { (T : Tree) → directory_at T serial ≡ is_directory
-        → result ≡ descriptor_row T directory.now serial asked.now.base asked.now.inheriting asked.now.fdflags }
+        → result ≡ descriptor_row T directory.now serial asked.now.base asked.now.inheriting
+        asked.now.fdflags }
 {
     let kept = Rights::from_bits_retain(asked.base).intersection(directory.inheriting);
     let append = is_set(asked.fdflags, APPEND);
@@ -253,10 +255,11 @@ fn found_target<'p, D: Device>(
     requires { IsEntryOf D.honest volume.old serial }
     ensures step { VolumeStep D.honest D.disk D.size D.failures D.goes_on volume.old volume.new }
     ensures io { errno_of result ≡ 29 → volume.new.failed ≡ true }
-    ensures asked { IfOk result (λ t. Asked D.honest D.disk D.size D.failures D.goes_on volume.old volume.new false) }
+    ensures asked { IfOk result (λ t. Asked D.honest D.disk D.size D.failures D.goes_on volume.old
+        volume.new false) }
     ensures can { IfOk result (CanOpen D.honest volume.new) }
-    ensures checks { D.honest volume.old.device → (w : World) (slash : _) → w.volume_failed ≡ false → w ≡ with_volume volume.old w
-        → ChecksAs oflags slash (Found serial) w volume.new result }
+    ensures checks { D.honest volume.old.device → (w : World) (slash : _) → w.volume_failed ≡ false
+        → w ≡ with_volume volume.old w → ChecksAs oflags slash (Found serial) w volume.new result }
 {
     let is_directory = match is_directory(volume, serial) {
         Ok(is_directory) => is_directory,
@@ -280,10 +283,13 @@ fn reached_target<'p, D: Device>(
     requires place { D.honest volume.old.device → Places volume.old.tree (Ok reached) }
     ensures step { VolumeStep D.honest D.disk D.size D.failures D.goes_on volume.old volume.new }
     ensures io { errno_of result ≡ 29 → volume.new.failed ≡ true }
-    ensures asked { IfOk result (λ t. Asked D.honest D.disk D.size D.failures D.goes_on volume.old volume.new false) }
+    ensures asked { IfOk result (λ t. Asked D.honest D.disk D.size D.failures D.goes_on volume.old
+        volume.new false) }
     ensures can { IfOk result (CanOpen D.honest volume.new) }
-    ensures checks { D.honest volume.old.device → (w : World) (names : List Name) → path_read text.now ≡ Ok names → w.volume_failed ≡ false → w ≡ with_volume volume.old w
-        → ChecksAs oflags (wants_directory text.now) (reached_as reached.entry) w volume.new result }
+    ensures checks { D.honest volume.old.device → (w : World) (names : List Name)
+        → path_read text.now ≡ Ok names → w.volume_failed ≡ false → w ≡ with_volume volume.old w
+        → ChecksAs oflags (wants_directory text.now) (reached_as reached.entry) w volume.new
+        result }
 {
     match reached {
         Reached::Found(serial) => found_target(volume, oflags, Serial::new(serial)),
@@ -307,11 +313,12 @@ fn find_target<'t, 'm, D: Device>(
     requires { KnowsEntries D.honest volume.old (table_of descriptors.now) }
     ensures step { VolumeStep D.honest D.disk D.size D.failures D.goes_on volume.old volume.new }
     ensures io { errno_of result ≡ 29 → volume.new.failed ≡ true }
-    ensures works { IfOk result (λ p. StillWorks D.honest D.disk D.size D.failures D.goes_on volume.old volume.new) }
+    ensures works { IfOk result (λ p. StillWorks D.honest D.disk D.size D.failures D.goes_on
+        volume.old volume.new) }
     ensures inside { OnOk result (asked.now.result_at + 4 ≤ length memory.now) }
     ensures can { IfOk result (λ p. CanOpen D.honest volume.new p.1) }
-    ensures targets { D.honest volume.old.device → (w : World) → w.table ≡ table_of descriptors.now → w ≡ with_volume volume.old w
-        → Targets memory.now asked.now w volume.new result }
+    ensures targets { D.honest volume.old.device → (w : World) → w.table ≡ table_of descriptors.now
+        → w ≡ with_volume volume.old w → Targets memory.now asked.now w volume.new result }
 {
     let (directory, text) = match enter_open(descriptors, memory, asked) {
         Ok(entered) => entered,
@@ -338,10 +345,12 @@ fn settle<D: Device>(
 ) -> Result<Serial, vol_tree::Errno>
     requires works { volume.old.failed ≡ false }
     requires can { CanOpen D.honest volume.old target.now }
-    ensures answer { D.honest volume.old.device
-        → TreeAnswers (made (geometry volume.old.numbers) volume.old.tree target.now) volume.old.tree volume.new.tree result }
-    ensures crash { D.honest volume.old.device
-        → Leaves (D.disk volume.old.device) (D.disk volume.new.device) (ReflectsOr (D.disk volume.old.device) volume.old.numbers volume.old.tree) }
+    ensures answer { D.honest volume.old.device → TreeAnswers
+        (made (geometry volume.old.numbers) volume.old.tree target.now) volume.old.tree
+        volume.new.tree result }
+    ensures crash { D.honest volume.old.device → Leaves (D.disk volume.old.device)
+        (D.disk volume.new.device) (ReflectsOr (D.disk volume.old.device) volume.old.numbers
+        volume.old.tree) }
     ensures range { IfOk result (IsSerial volume.old.numbers) }
     ensures kept { Keeps D.honest D.size D.failures volume.old volume.new (is_io result) }
     ensures goes_on { GoesOn D.goes_on volume.old volume.new }
@@ -368,9 +377,11 @@ pub(crate) fn path_open<D: Device>(
     ensures step { VolumeStep D.honest D.disk D.size D.failures D.goes_on volume.old volume.new }
     ensures io { errno_of result ≡ 29 → volume.new.failed ≡ true }
     ensures serials { AreSerials volume.new.numbers (table_of descriptors.new) }
-    ensures answered { D.honest volume.old.device → (w : World) → w.table ≡ table_of descriptors.old → w ≡ with_volume volume.old w
-        → Answered (λ v. open_row v memory.old asked.now.fd asked.now.path asked.now.len asked.now.oflags asked.now.base asked.now.inheriting asked.now.fdflags asked.now.result_at)
-        w memory.old (with_both volume.new (table_of descriptors.new) w) memory.new (errno_of result) }
+    ensures answered { D.honest volume.old.device → (w : World) → w.table ≡ table_of descriptors.old
+        → w ≡ with_volume volume.old w → Answered
+        (λ v. open_row v memory.old asked.now.fd asked.now.path asked.now.len asked.now.oflags
+        asked.now.base asked.now.inheriting asked.now.fdflags asked.now.result_at) w memory.old
+        (with_both volume.new (table_of descriptors.new) w) memory.new (errno_of result) }
 {
     let (directory, target) = match find_target(volume, descriptors, memory, asked) {
         Ok(target) => target,

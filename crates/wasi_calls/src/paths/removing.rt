@@ -38,10 +38,12 @@ pub(crate) fn find<D: Device>(
     requires { KnowsEntries D.honest volume.old (table_of descriptors.now) }
     ensures step { VolumeStep D.honest D.disk D.size D.failures D.goes_on volume.old volume.new }
     ensures io { errno_of result ≡ 29 → volume.new.failed ≡ true }
-    ensures works { IfOk result (λ s. StillWorks D.honest D.disk D.size D.failures D.goes_on volume.old volume.new) }
+    ensures works { IfOk result (λ s. StillWorks D.honest D.disk D.size D.failures D.goes_on
+        volume.old volume.new) }
     ensures entry { IfOk result (IsEntryOf D.honest volume.new) }
-    ensures asks { D.honest volume.old.device → (w : World) → w.table ≡ table_of descriptors.now → w ≡ with_volume volume.old w
-        → Asks (λ v. found_at v memory.now fd (bits_of rights) path len) w volume.new result }
+    ensures asks { D.honest volume.old.device → (w : World) → w.table ≡ table_of descriptors.now
+        → w ≡ with_volume volume.old w → Asks
+        (λ v. found_at v memory.now fd (bits_of rights) path len) w volume.new result }
 {
     match reach_from(volume, descriptors, memory, fd, path, len, rights) {
         Ok(Reached::Found(serial)) => Ok(Serial::new(serial)),
@@ -86,11 +88,14 @@ fn removable<D: Device>(
     requires { KnowsEntries D.honest volume.old (table_of descriptors.now) }
     ensures step { VolumeStep D.honest D.disk D.size D.failures D.goes_on volume.old volume.new }
     ensures io { errno_of result ≡ 29 → volume.new.failed ≡ true }
-    ensures works { IfOk result (λ s. StillWorks D.honest D.disk D.size D.failures D.goes_on volume.old volume.new) }
+    ensures works { IfOk result (λ s. StillWorks D.honest D.disk D.size D.failures D.goes_on
+        volume.old volume.new) }
     ensures entry { IfOk result (IsEntryOf D.honest volume.new) }
-    ensures kind { D.honest volume.old.device → IfOk result (λ s. is_kind kind (directory_at volume.old.tree s) ≡ true) }
-    ensures asks { D.honest volume.old.device → (w : World) → w.table ≡ table_of descriptors.now → w ≡ with_volume volume.old w
-        → Asks (λ v. removable_row kind v memory.now fd (bits_of rights) path len) w volume.new result }
+    ensures kind { D.honest volume.old.device → IfOk result
+        (λ s. is_kind kind (directory_at volume.old.tree s) ≡ true) }
+    ensures asks { D.honest volume.old.device → (w : World) → w.table ≡ table_of descriptors.now
+        → w ≡ with_volume volume.old w → Asks
+        (λ v. removable_row kind v memory.now fd (bits_of rights) path len) w volume.new result }
 {
     let serial = match find(volume, descriptors, memory, fd, path, len, rights) {
         Ok(serial) => serial,
@@ -114,11 +119,13 @@ fn take_out<D: Device>(
     serial: Serial,
 ) -> Result<(), vol_tree::Errno>
     requires entry { IsEntryOf D.honest volume.old serial }
-    requires kind { D.honest volume.old.device → is_kind kind (directory_at volume.old.tree serial) ≡ true }
-    ensures answer { D.honest volume.old.device
-        → Answers (with_unit (taken_out kind volume.old.tree serial)) volume.old.tree volume.new.tree result }
-    ensures crash { D.honest volume.old.device → Leaves (D.disk volume.old.device) (D.disk volume.new.device)
-        (ReflectsOr (D.disk volume.old.device) volume.old.numbers volume.old.tree) }
+    requires kind { D.honest volume.old.device → is_kind kind (directory_at volume.old.tree serial)
+        ≡ true }
+    ensures answer { D.honest volume.old.device → Answers
+        (with_unit (taken_out kind volume.old.tree serial)) volume.old.tree volume.new.tree result }
+    ensures crash { D.honest volume.old.device → Leaves (D.disk volume.old.device)
+        (D.disk volume.new.device) (ReflectsOr (D.disk volume.old.device) volume.old.numbers
+        volume.old.tree) }
     ensures kept { Keeps D.honest D.size D.failures volume.old volume.new (is_io result) }
     ensures goes_on { GoesOn D.goes_on volume.old volume.new }
 {
@@ -143,8 +150,10 @@ pub(crate) fn remove<D: Device>(
     requires { KnowsEntries D.honest volume.old (table_of descriptors.now) }
     ensures step { VolumeStep D.honest D.disk D.size D.failures D.goes_on volume.old volume.new }
     ensures io { errno_of result ≡ 29 → volume.new.failed ≡ true }
-    ensures answered { D.honest volume.old.device → (w : World) → w.table ≡ table_of descriptors.now → w ≡ with_volume volume.old w
-        → Answered (λ v. remove_row kind v memory.now fd (bits_of rights) path len) w memory.now (with_volume volume.new w) memory.now (errno_of result) }
+    ensures answered { D.honest volume.old.device → (w : World) → w.table ≡ table_of descriptors.now
+        → w ≡ with_volume volume.old w → Answered
+        (λ v. remove_row kind v memory.now fd (bits_of rights) path len) w memory.now
+        (with_volume volume.new w) memory.now (errno_of result) }
 {
     match removable(volume, descriptors, memory, fd, path, len, rights, kind) {
         Ok(serial) => match take_out(volume, kind, serial) {

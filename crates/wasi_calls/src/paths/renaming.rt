@@ -27,7 +27,7 @@ use crate::checks::{DescriptorKinds, check_range, check_rights, check_that, desc
 use crate::errno::{BUSY, ISDIR, NOENT, NOTDIR, NOTEMPTY, refused};
 use crate::paths::reach;
 use crate::paths::removing::is_held;
-use path_walk::{Reached, wants_a_directory, is_directory};
+use path_walk::{Reached, is_directory, wants_a_directory};
 use vol_inode::is_name;
 use vol_sector::Device;
 use vol_tree::{Serial, Volume};
@@ -116,7 +116,8 @@ fn is_within<D: Device>(
     ensures asked { Asked D.honest D.disk D.size D.failures D.goes_on volume.old volume.new
         (is_io result) }
     ensures told { D.honest volume.old.device → MatchResult result
-        (λ b. b ≡ is_within_row (length volume.old.tree) volume.old.tree top serial) (λ e. e ≡ tree.Io) }
+        (λ b. b ≡ is_within_row (length volume.old.tree) volume.old.tree top serial)
+        (λ e. e ≡ tree.Io) }
 {
     volume.is_a_tree();
     if top == Serial::ROOT {
@@ -201,8 +202,10 @@ fn may_replace<D: Device>(
     requires target { IsEntryOf D.honest volume.old target }
     ensures step { VolumeStep D.honest D.disk D.size D.failures D.goes_on volume.old volume.new }
     ensures io { errno_of result ≡ 29 → volume.new.failed ≡ true }
-    ensures asked { IfOk result (λ u. Asked D.honest D.disk D.size D.failures D.goes_on volume.old volume.new false) }
-    ensures checks { D.honest volume.old.device → (w : World) → w.table ≡ table_of descriptors.now → w.volume_failed ≡ false → w ≡ with_volume volume.old w
+    ensures asked { IfOk result (λ u. Asked D.honest D.disk D.size D.failures D.goes_on volume.old
+        volume.new false) }
+    ensures checks { D.honest volume.old.device → (w : World) → w.table ≡ table_of descriptors.now
+        → w.volume_failed ≡ false → w ≡ with_volume volume.old w
         → ReplacesAs source target w volume.new result }
 {
     match ask_facts(volume, source, target) {
@@ -221,10 +224,12 @@ fn rename_onto<D: Device>(
     requires source { IsEntryOf D.honest volume.old source }
     requires target { IsEntryOf D.honest volume.old target }
     requires below { D.honest volume.old.device → target ≢ 1 }
-    ensures answer { D.honest volume.old.device
-        → TreeAnswers (with_unit (renamed volume.old.tree source (parent_at volume.old.tree target) (name_at volume.old.tree target))) volume.old.tree volume.new.tree result }
-    ensures crash { D.honest volume.old.device
-        → Leaves (D.disk volume.old.device) (D.disk volume.new.device) (ReflectsOr (D.disk volume.old.device) volume.old.numbers volume.old.tree) }
+    ensures answer { D.honest volume.old.device → TreeAnswers
+        (with_unit (renamed volume.old.tree source (parent_at volume.old.tree target)
+        (name_at volume.old.tree target))) volume.old.tree volume.new.tree result }
+    ensures crash { D.honest volume.old.device → Leaves (D.disk volume.old.device)
+        (D.disk volume.new.device) (ReflectsOr (D.disk volume.old.device) volume.old.numbers
+        volume.old.tree) }
     ensures kept { Keeps D.honest D.size D.failures volume.old volume.new (is_io result) }
     ensures goes_on { GoesOn D.goes_on volume.old volume.new }
 {
@@ -252,8 +257,9 @@ fn rename_found<D: Device>(
     requires target { IsEntryOf D.honest volume.old target }
     ensures step { VolumeStep D.honest D.disk D.size D.failures D.goes_on volume.old volume.new }
     ensures io { errno_of result ≡ 29 → volume.new.failed ≡ true }
-    ensures renames { D.honest volume.old.device → (w : World) (slash : _) → w.table ≡ table_of descriptors.now → w.volume_failed ≡ false → w ≡ with_volume volume.old w
-        → RenamesTo source slash (Found target) w volume.new result }
+    ensures renames { D.honest volume.old.device → (w : World) (slash : _)
+        → w.table ≡ table_of descriptors.now → w.volume_failed ≡ false
+        → w ≡ with_volume volume.old w → RenamesTo source slash (Found target) w volume.new result }
 {
     volume.is_a_tree();
     if target == source {
@@ -295,8 +301,9 @@ fn rename_missing<D: Device>(
     requires directory { D.honest volume.old.device → IsDirectory volume.old.tree parent }
     ensures step { VolumeStep D.honest D.disk D.size D.failures D.goes_on volume.old volume.new }
     ensures io { errno_of result ≡ 29 → volume.new.failed ≡ true }
-    ensures renames { D.honest volume.old.device → (w : World) → w.volume_failed ≡ false → w ≡ with_volume volume.old w
-        → RenamesTo source slash (Missing parent name.now) w volume.new result }
+    ensures renames { D.honest volume.old.device → (w : World) → w.volume_failed ≡ false
+        → w ≡ with_volume volume.old w → RenamesTo source slash (Missing parent name.now) w
+        volume.new result }
 {
     let is_directory = match is_directory(volume, source) {
         Ok(is_directory) => is_directory,
@@ -323,8 +330,10 @@ fn rename_reached<D: Device>(
     requires place { D.honest volume.old.device → Places volume.old.tree (Ok walked.now.target) }
     ensures step { VolumeStep D.honest D.disk D.size D.failures D.goes_on volume.old volume.new }
     ensures io { errno_of result ≡ 29 → volume.new.failed ≡ true }
-    ensures renames { D.honest volume.old.device → (w : World) → w.table ≡ table_of descriptors.now → w.volume_failed ≡ false → w ≡ with_volume volume.old w
-        → RenamesTo walked.now.source walked.now.slash (reached_as walked.now.target) w volume.new result }
+    ensures renames { D.honest volume.old.device → (w : World) → w.table ≡ table_of descriptors.now
+        → w.volume_failed ≡ false → w ≡ with_volume volume.old w
+        → RenamesTo walked.now.source walked.now.slash (reached_as walked.now.target) w volume.new
+        result }
 {
     let source = walked.source;
     match walked.target {
@@ -366,8 +375,10 @@ fn enter_both<'t, 'm>(
     ensures row { (w : World) → w.table ≡ table_of descriptors.now → MatchResult result
         (λ e. rename_entered w memory.now asked.now ≡ Ok (e.from, e.to))
         (λ e. rename_entered w memory.now asked.now ≡ Err e.0) }
-    ensures from { IfOk result (λ e. e.from_text.now ≡ bytes_at memory.now asked.now.from_path asked.now.from_len) }
-    ensures to { IfOk result (λ e. e.to_text.now ≡ bytes_at memory.now asked.now.to_path asked.now.to_len) }
+    ensures from { IfOk result (λ e. e.from_text.now ≡ bytes_at memory.now asked.now.from_path
+        asked.now.from_len) }
+    ensures to { IfOk result (λ e. e.to_text.now ≡ bytes_at memory.now asked.now.to_path
+        asked.now.to_len) }
 {
     let (source, target) = both_allowed(descriptors, asked)?;
     check_range(memory, asked.from_path, asked.from_len)?;
@@ -420,12 +431,14 @@ fn walk_both<'m, D: Device>(
     requires { KnowsEntries D.honest volume.old (table_of descriptors.now) }
     ensures step { VolumeStep D.honest D.disk D.size D.failures D.goes_on volume.old volume.new }
     ensures io { errno_of result ≡ 29 → volume.new.failed ≡ true }
-    ensures works { IfOk result (λ r. StillWorks D.honest D.disk D.size D.failures D.goes_on volume.old volume.new) }
+    ensures works { IfOk result (λ r. StillWorks D.honest D.disk D.size D.failures D.goes_on
+        volume.old volume.new) }
     ensures source { IfOk result (λ r. IsEntryOf D.honest volume.new r.source) }
     ensures reached { IfOk result (λ r. IsReached D.honest volume.new r.target) }
-    ensures place { IfOk result (λ r. D.honest volume.new.device → Places volume.new.tree (Ok r.target)) }
-    ensures walks { D.honest volume.old.device → (w : World) → w.table ≡ table_of descriptors.now → w ≡ with_volume volume.old w
-        → WalksBoth memory.now asked.now w volume.new result }
+    ensures place { IfOk result (λ r. D.honest volume.new.device
+        → Places volume.new.tree (Ok r.target)) }
+    ensures walks { D.honest volume.old.device → (w : World) → w.table ≡ table_of descriptors.now
+        → w ≡ with_volume volume.old w → WalksBoth memory.now asked.now w volume.new result }
 {
     let ends = match enter_both(descriptors, memory, asked) {
         Ok(ends) => ends,
@@ -463,9 +476,11 @@ pub(crate) fn path_rename<D: Device>(
     requires { KnowsEntries D.honest volume.old (table_of descriptors.now) }
     ensures step { VolumeStep D.honest D.disk D.size D.failures D.goes_on volume.old volume.new }
     ensures io { errno_of result ≡ 29 → volume.new.failed ≡ true }
-    ensures answered { D.honest volume.old.device → (w : World) → w.table ≡ table_of descriptors.now → w ≡ with_volume volume.old w
-        → Answered (λ v. rename_row v memory.now asked.now.from_fd asked.now.from_path asked.now.from_len asked.now.to_fd asked.now.to_path asked.now.to_len)
-        w memory.now (with_volume volume.new w) memory.now (errno_of result) }
+    ensures answered { D.honest volume.old.device → (w : World) → w.table ≡ table_of descriptors.now
+        → w ≡ with_volume volume.old w → Answered
+        (λ v. rename_row v memory.now asked.now.from_fd asked.now.from_path asked.now.from_len
+        asked.now.to_fd asked.now.to_path asked.now.to_len) w memory.now (with_volume volume.new w)
+        memory.now (errno_of result) }
 {
     match walk_both(volume, descriptors, memory, asked) {
         Ok(walked) => rename_reached(volume, descriptors, &walked),

@@ -47,7 +47,8 @@ fn read_piece<R: Inlet>(
     requires room { 0 < length piece.old }
     requires some { 0 < most }
     ensures few { IfOk result (λ n. (n ≤ most) × (n ≤ length piece.old)) }
-    ensures came { IfOk result (λ n. Consumes (R.remaining reader.old) (R.remaining reader.new) (take n piece.new)) }
+    ensures came { IfOk result (λ n. Consumes (R.remaining reader.old) (R.remaining reader.new)
+        (take n piece.new)) }
     ensures end { IfOk result (λ n. n ≡ 0 → IsAtEnd (R.remaining reader.new)) }
     ensures broke { OnErr result (Consumes (R.remaining reader.old) (R.remaining reader.new) []) }
     ensures heard { Hears (Moves R.gave) R.refused (is_err result) reader.old reader.new }
@@ -81,7 +82,8 @@ fn read_some<R: Inlet>(
     requires some { 0 < most }
     requires inside { place + most ≤ length memory.old }
     ensures long { length memory.new ≡ length memory.old }
-    ensures came { IfOk result (λ n. Came (R.remaining reader.old) (R.remaining reader.new) memory.old place most memory.new n) }
+    ensures came { IfOk result (λ n. Came (R.remaining reader.old) (R.remaining reader.new)
+        memory.old place most memory.new n) }
     ensures end { IfOk result (λ n. n ≡ 0 → IsAtEnd (R.remaining reader.new)) }
     ensures broke { OnErr result (Consumes (R.remaining reader.old) (R.remaining reader.new) []) }
     ensures kept { OnErr result (memory.new ≡ memory.old) }
@@ -113,14 +115,17 @@ fn fill<R: Inlet>(
     requires inside { start + len ≤ length memory.old }
     requires goes_on { input.old.ended ≡ false }
     ensures long { length memory.new ≡ length memory.old }
-    ensures came { IfOk result (λ n. Came (R.remaining input.old.reader) (R.remaining input.new.reader) memory.old start len memory.new n) }
+    ensures came { IfOk result (λ n. Came (R.remaining input.old.reader)
+        (R.remaining input.new.reader) memory.old start len memory.new n) }
     ensures full { IfOk result (λ n. input.new.ended ≡ false → n ≡ len) }
     ensures short { IfOk result (λ n. input.new.ended ≡ true → n < len) }
     ensures still { OnErr result (input.new.ended ≡ false) }
     ensures end { input.new.ended ≡ true → IsAtEnd (R.remaining input.new.reader) }
-    ensures broke { OnErr result (SomeCame (R.remaining input.old.reader) (R.remaining input.new.reader) memory.old start len memory.new) }
+    ensures broke { OnErr result (SomeCame (R.remaining input.old.reader)
+        (R.remaining input.new.reader) memory.old start len memory.new) }
     ensures mark { input.new.failed ≡ input.old.failed }
-    ensures heard { Hears (Moves R.gave) R.refused (is_err result) input.old.reader input.new.reader }
+    ensures heard { Hears (Moves R.gave) R.refused (is_err result) input.old.reader
+        input.new.reader }
 {
     let mut filled: usize = 0;
     while filled < len {
@@ -149,16 +154,20 @@ fn fill_next<R: Inlet>(
     requires inside { buffer.pointer + buffer.len ≤ length memory.old }
     requires end { input.old.ended ≡ true → IsAtEnd (R.remaining input.old.reader) }
     ensures long { length memory.new ≡ length memory.old }
-    ensures came { IfOk result (λ n. Came (R.remaining input.old.reader) (R.remaining input.new.reader) memory.old buffer.pointer buffer.len memory.new n) }
+    ensures came { IfOk result (λ n. Came (R.remaining input.old.reader)
+        (R.remaining input.new.reader) memory.old buffer.pointer buffer.len memory.new n) }
     ensures full { IfOk result (λ n. input.new.ended ≡ false → n ≡ buffer.len) }
-    ensures short { IfOk result (λ n. input.old.ended ≡ false → input.new.ended ≡ true → n < buffer.len) }
+    ensures short { IfOk result (λ n. input.old.ended ≡ false → input.new.ended ≡ true
+        → n < buffer.len) }
     ensures still { OnErr result (input.new.ended ≡ false) }
     ensures small { IfOk result (λ n. n < 2 ^ 32) }
     ensures none { input.old.ended ≡ true → (result ≡ Ok 0) × (input.new.ended ≡ true) }
     ensures end { input.new.ended ≡ true → IsAtEnd (R.remaining input.new.reader) }
-    ensures broke { OnErr result (SomeCame (R.remaining input.old.reader) (R.remaining input.new.reader) memory.old buffer.pointer buffer.len memory.new) }
+    ensures broke { OnErr result (SomeCame (R.remaining input.old.reader)
+        (R.remaining input.new.reader) memory.old buffer.pointer buffer.len memory.new) }
     ensures mark { input.new.failed ≡ input.old.failed }
-    ensures heard { Hears (Moves R.gave) R.refused (is_err result) input.old.reader input.new.reader }
+    ensures heard { Hears (Moves R.gave) R.refused (is_err result) input.old.reader
+        input.new.reader }
 {
     if input.ended {
         return Ok(0);
@@ -181,15 +190,19 @@ fn fill_buffers<R: Inlet>(
     requires inside { list_all (is_inside memory.old) (list_of buffers.now) ≡ true }
     requires end { input.old.ended ≡ true → IsAtEnd (R.remaining input.old.reader) }
     ensures long { length memory.new ≡ length memory.old }
-    ensures dealt { IfOk result (λ n. Dealt (R.remaining input.old.reader) (R.remaining input.new.reader) memory.old (list_of buffers.now) memory.new n) }
+    ensures dealt { IfOk result (λ n. Dealt (R.remaining input.old.reader)
+        (R.remaining input.new.reader) memory.old (list_of buffers.now) memory.new n) }
     ensures full { IfOk result (λ n. input.new.ended ≡ false → n ≡ total (list_of buffers.now)) }
-    ensures short { IfOk result (λ n. input.old.ended ≡ false → input.new.ended ≡ true → n < total (list_of buffers.now)) }
+    ensures short { IfOk result (λ n. input.old.ended ≡ false → input.new.ended ≡ true
+        → n < total (list_of buffers.now)) }
     ensures still { OnErr result (input.new.ended ≡ false) }
     ensures none { input.old.ended ≡ true → (result ≡ Ok 0) × (input.new.ended ≡ true) }
     ensures end { input.new.ended ≡ true → IsAtEnd (R.remaining input.new.reader) }
-    ensures broke { OnErr result (SomeDealt (R.remaining input.old.reader) (R.remaining input.new.reader) memory.old (list_of buffers.now) memory.new) }
+    ensures broke { OnErr result (SomeDealt (R.remaining input.old.reader)
+        (R.remaining input.new.reader) memory.old (list_of buffers.now) memory.new) }
     ensures mark { input.new.failed ≡ input.old.failed }
-    ensures heard { Hears (Moves R.gave) R.refused (is_err result) input.old.reader input.new.reader }
+    ensures heard { Hears (Moves R.gave) R.refused (is_err result) input.old.reader
+        input.new.reader }
 {
     let mut count: usize = 0;
     for buffer in buffers {
@@ -227,15 +240,20 @@ fn read_once<R: Inlet>(
     requires inside { list_all (is_inside memory.old) (list_of buffers.now) ≡ true }
     requires end { input.old.ended ≡ true → IsAtEnd (R.remaining input.old.reader) }
     ensures long { length memory.new ≡ length memory.old }
-    ensures dealt { IfOk result (λ n. Dealt (R.remaining input.old.reader) (R.remaining input.new.reader) memory.old (list_of buffers.now) memory.new n) }
-    ensures some { IfOk result (λ n. input.new.ended ≡ false → min (total (list_of buffers.now)) 1 ≤ n) }
-    ensures short { IfOk result (λ n. input.old.ended ≡ false → input.new.ended ≡ true → n < min (total (list_of buffers.now)) 1) }
+    ensures dealt { IfOk result (λ n. Dealt (R.remaining input.old.reader)
+        (R.remaining input.new.reader) memory.old (list_of buffers.now) memory.new n) }
+    ensures some { IfOk result (λ n. input.new.ended ≡ false
+        → min (total (list_of buffers.now)) 1 ≤ n) }
+    ensures short { IfOk result (λ n. input.old.ended ≡ false → input.new.ended ≡ true
+        → n < min (total (list_of buffers.now)) 1) }
     ensures still { OnErr result (input.new.ended ≡ false) }
     ensures none { input.old.ended ≡ true → (result ≡ Ok 0) × (input.new.ended ≡ true) }
     ensures end { input.new.ended ≡ true → IsAtEnd (R.remaining input.new.reader) }
-    ensures broke { OnErr result (Dealt (R.remaining input.old.reader) (R.remaining input.new.reader) memory.old (list_of buffers.now) memory.new 0) }
+    ensures broke { OnErr result (Dealt (R.remaining input.old.reader)
+        (R.remaining input.new.reader) memory.old (list_of buffers.now) memory.new 0) }
     ensures mark { input.new.failed ≡ input.old.failed }
-    ensures heard { Hears (Moves R.gave) R.refused (is_err result) input.old.reader input.new.reader }
+    ensures heard { Hears (Moves R.gave) R.refused (is_err result) input.old.reader
+        input.new.reader }
 {
     if input.ended {
         return Ok(0);
@@ -271,15 +289,20 @@ fn read_buffers<R: Inlet>(
     requires inside { list_all (is_inside memory.old) (list_of buffers.now) ≡ true }
     requires end { input.old.ended ≡ true → IsAtEnd (R.remaining input.old.reader) }
     ensures long { length memory.new ≡ length memory.old }
-    ensures dealt { IfOk result (λ n. Dealt (R.remaining input.old.reader) (R.remaining input.new.reader) memory.old (list_of buffers.now) memory.new n) }
-    ensures full { IfOk result (λ n. input.new.ended ≡ false → least_read short (total (list_of buffers.now)) ≤ n) }
-    ensures fewer { IfOk result (λ n. input.old.ended ≡ false → input.new.ended ≡ true → n < least_read short (total (list_of buffers.now))) }
+    ensures dealt { IfOk result (λ n. Dealt (R.remaining input.old.reader)
+        (R.remaining input.new.reader) memory.old (list_of buffers.now) memory.new n) }
+    ensures full { IfOk result (λ n. input.new.ended ≡ false
+        → least_read short (total (list_of buffers.now)) ≤ n) }
+    ensures fewer { IfOk result (λ n. input.old.ended ≡ false → input.new.ended ≡ true
+        → n < least_read short (total (list_of buffers.now))) }
     ensures still { OnErr result (input.new.ended ≡ false) }
     ensures none { input.old.ended ≡ true → (result ≡ Ok 0) × (input.new.ended ≡ true) }
     ensures end { input.new.ended ≡ true → IsAtEnd (R.remaining input.new.reader) }
-    ensures broke { OnErr result (Broke short (R.remaining input.old.reader) (R.remaining input.new.reader) memory.old (list_of buffers.now) memory.new) }
+    ensures broke { OnErr result (Broke short (R.remaining input.old.reader)
+        (R.remaining input.new.reader) memory.old (list_of buffers.now) memory.new) }
     ensures mark { input.new.failed ≡ input.old.failed }
-    ensures heard { Hears (Moves R.gave) R.refused (is_err result) input.old.reader input.new.reader }
+    ensures heard { Hears (Moves R.gave) R.refused (is_err result) input.old.reader
+        input.new.reader }
 {
     if short {
         read_once(input, piece, memory, buffers)
@@ -302,13 +325,18 @@ pub(crate) fn read_stream<R: Inlet>(
     requires few { length buffers.now ≤ MOST_BUFFERS }
     requires usable { AreUsable memory.old (list_of buffers.now) result_at }
     requires end { input.old.ended ≡ true → IsAtEnd (R.remaining input.old.reader) }
-    ensures idle { input.old.failed ≡ true → (input.new ≡ input.old) × (memory.new ≡ memory.old) × (result ≡ Err Errno.IO) }
-    ensures took { OnOk result (IsRead short R.remaining input.old input.new memory.old (list_of buffers.now) result_at memory.new) }
-    ensures broke { OnErr result (input.old.failed ≡ false → (input.new.failed ≡ true) × (input.old.ended ≡ false) × (input.new.ended ≡ false)
-        × Broke short (R.remaining input.old.reader) (R.remaining input.new.reader) memory.old (list_of buffers.now) memory.new) }
+    ensures idle { input.old.failed ≡ true → (input.new ≡ input.old) × (memory.new ≡ memory.old)
+        × (result ≡ Err Errno.IO) }
+    ensures took { OnOk result (IsRead short R.remaining input.old input.new memory.old
+        (list_of buffers.now) result_at memory.new) }
+    ensures broke { OnErr result (input.old.failed ≡ false → (input.new.failed ≡ true)
+        × (input.old.ended ≡ false) × (input.new.ended ≡ false)
+        × Broke short (R.remaining input.old.reader) (R.remaining input.new.reader) memory.old
+        (list_of buffers.now) memory.new) }
     ensures answer { IfErr result (λ e. e.0 ≡ 29) }
     ensures end { input.new.ended ≡ true → IsAtEnd (R.remaining input.new.reader) }
-    ensures heard { input.old.failed ≡ false → Hears (Moves R.gave) R.refused input.new.failed input.old.reader input.new.reader }
+    ensures heard { input.old.failed ≡ false → Hears (Moves R.gave) R.refused input.new.failed
+        input.old.reader input.new.reader }
 {
     if input.failed {
         return Err(Errno::IO);

@@ -28,8 +28,10 @@ struct WriterFailed;
 #[tactic(auto, using(crate::proofs::streams::WriterBytes::begun, crate::proofs::streams::WriterBytes::begun_all, crate::proofs::streams::WriterBytes::begun_refused, crate::proofs::streams::WriterBytes::begun_stuck))]
 fn hand<W: Outlet>(writer: &mut W, bytes: &[u8]) -> Result<(), WriterFailed>
     ensures all { OnOk result (Appends (W.contents writer.old) (W.contents writer.new) bytes.now) }
-    ensures some { OnErr result (AppendsSome (W.contents writer.old) (W.contents writer.new) bytes.now) }
-    ensures heard { Hears (Moves W.took) (Refuses W.took W.refused) (is_err result) writer.old writer.new }
+    ensures some { OnErr result (AppendsSome (W.contents writer.old) (W.contents writer.new)
+        bytes.now) }
+    ensures heard { Hears (Moves W.took) (Refuses W.took W.refused) (is_err result) writer.old
+        writer.new }
 {
     let mut rest = bytes;
     while !rest.is_empty() {
@@ -49,9 +51,12 @@ fn hand_buffers<W: Outlet>(
     buffers: &[MemorySpan],
 ) -> Result<(), WriterFailed>
     requires { list_all (is_inside memory.now) (list_of buffers.now) ≡ true }
-    ensures all { OnOk result (Appends (W.contents writer.old) (W.contents writer.new) (gathered memory.now (list_of buffers.now))) }
-    ensures some { OnErr result (AppendsSome (W.contents writer.old) (W.contents writer.new) (gathered memory.now (list_of buffers.now))) }
-    ensures heard { Hears (Moves W.took) (Refuses W.took W.refused) (is_err result) writer.old writer.new }
+    ensures all { OnOk result (Appends (W.contents writer.old) (W.contents writer.new)
+        (gathered memory.now (list_of buffers.now))) }
+    ensures some { OnErr result (AppendsSome (W.contents writer.old) (W.contents writer.new)
+        (gathered memory.now (list_of buffers.now))) }
+    ensures heard { Hears (Moves W.took) (Refuses W.took W.refused) (is_err result) writer.old
+        writer.new }
 {
     for buffer in buffers {
         let Some(bytes) = memory.slice(buffer.pointer, buffer.len) else {
@@ -75,12 +80,16 @@ pub(crate) fn write_stream<W: Outlet>(
     requires usable { AreUsable memory.old (list_of buffers.now) result_at }
     ensures idle { output.old.failed ≡ true → (output.new ≡ output.old) × (result ≡ Err Errno.IO) }
     ensures took { OnOk result ((output.old.failed ≡ false) × (output.new.failed ≡ false)
-        × Appends (W.contents output.old.writer) (W.contents output.new.writer) (gathered memory.old (list_of buffers.now))
-        × (memory.new ≡ written memory.old result_at (little_bytes 4 (length (gathered memory.old (list_of buffers.now)))))) }
+        × Appends (W.contents output.old.writer) (W.contents output.new.writer)
+        (gathered memory.old (list_of buffers.now))
+        × (memory.new ≡ written memory.old result_at
+        (little_bytes 4 (length (gathered memory.old (list_of buffers.now)))))) }
     ensures broke { OnErr result (output.old.failed ≡ false → (output.new.failed ≡ true)
-        × AppendsSome (W.contents output.old.writer) (W.contents output.new.writer) (gathered memory.old (list_of buffers.now))) }
+        × AppendsSome (W.contents output.old.writer) (W.contents output.new.writer)
+        (gathered memory.old (list_of buffers.now))) }
     ensures answer { IfErr result (λ e. (e.0 ≡ 29) × (memory.new ≡ memory.old)) }
-    ensures heard { output.old.failed ≡ false → Hears (Moves W.took) (Refuses W.took W.refused) output.new.failed output.old.writer output.new.writer }
+    ensures heard { output.old.failed ≡ false → Hears (Moves W.took) (Refuses W.took W.refused)
+        output.new.failed output.old.writer output.new.writer }
 {
     if output.failed {
         return Err(Errno::IO);

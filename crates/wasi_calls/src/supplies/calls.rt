@@ -16,7 +16,10 @@ impl<'s, 't, D: Device, R: Inlet, W1: Outlet, W2: Outlet> Inner<'s, 't, D, R, W1
     /// `clock_res_get(id, result)`.
     pub fn clock_res_get(&self, memory: &mut Memory, arguments: &[u64]) -> Result<(), Errno>
         requires { IsSetUp R.remaining self.now }
-        ensures { (used : _) → Serves D.honest D.disk D.size D.failures D.goes_on R.remaining W1.contents W2.contents (hearing R.gave R.refused W1.took W1.refused W2.took W2.refused) call.ClockResGet used arguments.now self.now memory.old self.now memory.new (errno_of result) }
+        ensures { (used : _) → Serves D.honest D.disk D.size D.failures D.goes_on R.remaining
+            W1.contents W2.contents (hearing R.gave R.refused W1.took W1.refused W2.took W2.refused)
+            call.ClockResGet used arguments.now self.now memory.old self.now memory.new
+            (errno_of result) }
     {
         let (id, result_at) = (word(arguments, 0), word(arguments, 1));
         clocks::clock_res_get(memory, id, result_at)
@@ -30,7 +33,10 @@ impl<'s, 't, D: Device, R: Inlet, W1: Outlet, W2: Outlet> Inner<'s, 't, D, R, W1
         arguments: &[u64],
     ) -> Result<(), Errno>
         requires { IsSetUp R.remaining self.now }
-        ensures { Serves D.honest D.disk D.size D.failures D.goes_on R.remaining W1.contents W2.contents (hearing R.gave R.refused W1.took W1.refused W2.took W2.refused) call.ClockTimeGet used arguments.now self.now memory.old self.now memory.new (errno_of result) }
+        ensures { Serves D.honest D.disk D.size D.failures D.goes_on R.remaining W1.contents
+            W2.contents (hearing R.gave R.refused W1.took W1.refused W2.took W2.refused)
+            call.ClockTimeGet used arguments.now self.now memory.old self.now memory.new
+            (errno_of result) }
     {
         let (id, result_at) = (word(arguments, 0), word(arguments, 2));
         clocks::clock_time_get(self.settings.moment, memory, used, id, result_at)
@@ -39,7 +45,10 @@ impl<'s, 't, D: Device, R: Inlet, W1: Outlet, W2: Outlet> Inner<'s, 't, D, R, W1
     /// `random_get(buffer, length)`.
     pub fn random_get(&mut self, memory: &mut Memory, arguments: &[u64]) -> Result<(), Errno>
         requires { IsSetUp R.remaining self.old }
-        ensures { (used : _) → Serves D.honest D.disk D.size D.failures D.goes_on R.remaining W1.contents W2.contents (hearing R.gave R.refused W1.took W1.refused W2.took W2.refused) call.RandomGet used arguments.now self.old memory.old self.new memory.new (errno_of result) }
+        ensures { (used : _) → Serves D.honest D.disk D.size D.failures D.goes_on R.remaining
+            W1.contents W2.contents (hearing R.gave R.refused W1.took W1.refused W2.took W2.refused)
+            call.RandomGet used arguments.now self.old memory.old self.new memory.new
+            (errno_of result) }
     {
         let (buffer, len) = (word(arguments, 0), word(arguments, 1));
         let left = &mut self.settings.random;
@@ -49,7 +58,10 @@ impl<'s, 't, D: Device, R: Inlet, W1: Outlet, W2: Outlet> Inner<'s, 't, D, R, W1
     /// `args_sizes_get(count, size)`.
     pub fn args_sizes_get(&self, memory: &mut Memory, arguments: &[u64]) -> Result<(), Errno>
         requires { IsSetUp R.remaining self.now }
-        ensures { (used : _) → Serves D.honest D.disk D.size D.failures D.goes_on R.remaining W1.contents W2.contents (hearing R.gave R.refused W1.took W1.refused W2.took W2.refused) call.ArgsSizesGet used arguments.now self.now memory.old self.now memory.new (errno_of result) }
+        ensures { (used : _) → Serves D.honest D.disk D.size D.failures D.goes_on R.remaining
+            W1.contents W2.contents (hearing R.gave R.refused W1.took W1.refused W2.took W2.refused)
+            call.ArgsSizesGet used arguments.now self.now memory.old self.now memory.new
+            (errno_of result) }
     {
         let (count_at, size_at) = (word(arguments, 0), word(arguments, 1));
         texts::sizes_get(self.settings.args, memory, count_at, size_at)
@@ -58,7 +70,10 @@ impl<'s, 't, D: Device, R: Inlet, W1: Outlet, W2: Outlet> Inner<'s, 't, D, R, W1
     /// `args_get(pointers, buffer)`.
     pub fn args_get(&self, memory: &mut Memory, arguments: &[u64]) -> Result<(), Errno>
         requires { IsSetUp R.remaining self.now }
-        ensures { (used : _) → Serves D.honest D.disk D.size D.failures D.goes_on R.remaining W1.contents W2.contents (hearing R.gave R.refused W1.took W1.refused W2.took W2.refused) call.ArgsGet used arguments.now self.now memory.old self.now memory.new (errno_of result) }
+        ensures { (used : _) → Serves D.honest D.disk D.size D.failures D.goes_on R.remaining
+            W1.contents W2.contents (hearing R.gave R.refused W1.took W1.refused W2.took W2.refused)
+            call.ArgsGet used arguments.now self.now memory.old self.now memory.new
+            (errno_of result) }
     {
         let (at, buffer) = (word(arguments, 0), word(arguments, 1));
         texts::texts_get(self.settings.args, memory, at, buffer)
@@ -67,7 +82,10 @@ impl<'s, 't, D: Device, R: Inlet, W1: Outlet, W2: Outlet> Inner<'s, 't, D, R, W1
     /// `environ_sizes_get(count, size)`.
     pub fn environ_sizes_get(&self, memory: &mut Memory, arguments: &[u64]) -> Result<(), Errno>
         requires { IsSetUp R.remaining self.now }
-        ensures { (used : _) → Serves D.honest D.disk D.size D.failures D.goes_on R.remaining W1.contents W2.contents (hearing R.gave R.refused W1.took W1.refused W2.took W2.refused) call.EnvironSizesGet used arguments.now self.now memory.old self.now memory.new (errno_of result) }
+        ensures { (used : _) → Serves D.honest D.disk D.size D.failures D.goes_on R.remaining
+            W1.contents W2.contents (hearing R.gave R.refused W1.took W1.refused W2.took W2.refused)
+            call.EnvironSizesGet used arguments.now self.now memory.old self.now memory.new
+            (errno_of result) }
     {
         let (count_at, size_at) = (word(arguments, 0), word(arguments, 1));
         texts::sizes_get(self.settings.env, memory, count_at, size_at)
@@ -76,7 +94,10 @@ impl<'s, 't, D: Device, R: Inlet, W1: Outlet, W2: Outlet> Inner<'s, 't, D, R, W1
     /// `environ_get(pointers, buffer)`.
     pub fn environ_get(&self, memory: &mut Memory, arguments: &[u64]) -> Result<(), Errno>
         requires { IsSetUp R.remaining self.now }
-        ensures { (used : _) → Serves D.honest D.disk D.size D.failures D.goes_on R.remaining W1.contents W2.contents (hearing R.gave R.refused W1.took W1.refused W2.took W2.refused) call.EnvironGet used arguments.now self.now memory.old self.now memory.new (errno_of result) }
+        ensures { (used : _) → Serves D.honest D.disk D.size D.failures D.goes_on R.remaining
+            W1.contents W2.contents (hearing R.gave R.refused W1.took W1.refused W2.took W2.refused)
+            call.EnvironGet used arguments.now self.now memory.old self.now memory.new
+            (errno_of result) }
     {
         let (at, buffer) = (word(arguments, 0), word(arguments, 1));
         texts::texts_get(self.settings.env, memory, at, buffer)

@@ -26,7 +26,8 @@ fn time_of(id: u32, moment: u64, used: u64) -> u64
 /// `clock_res_get(id, result)`: 1, in nanoseconds or units.
 #[tactic(auto, using(crate::proofs::checks::Chains::goes_on, crate::proofs::checks::Chains::stops))]
 pub(crate) fn clock_res_get(memory: &mut Memory, id: u32, result_at: u32) -> Result<(), Errno>
-    ensures { (w : World) → Answers (resolution w memory.old id result_at) w memory.old w memory.new (errno_of result) }
+    ensures { (w : World) → Answers (resolution w memory.old id result_at) w memory.old w memory.new
+        (errno_of result) }
 {
     check_that(id <= MONOTONIC, Errno::INVAL)?;
     check_range(memory, result_at, 8)?;
@@ -43,7 +44,9 @@ pub(crate) fn clock_time_get(
     id: u32,
     result_at: u32,
 ) -> Result<(), Errno>
-    ensures { (w : World) → w.given.moment ≡ moment → Answers (time w memory.old used id result_at) w memory.old w memory.new (errno_of result) }
+    ensures { (w : World) → w.given.moment ≡ moment
+        → Answers (time w memory.old used id result_at) w memory.old w memory.new
+        (errno_of result) }
 {
     check_that(id <= MONOTONIC, Errno::INVAL)?;
     check_range(memory, result_at, 8)?;

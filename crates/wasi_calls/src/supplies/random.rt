@@ -68,7 +68,9 @@ pub(crate) fn random_get(
     buffer: u32,
     len: u32,
 ) -> Result<(), Errno>
-    ensures { (w : World) → w.random ≡ supply generator.old left.old.now → Answers (random w memory.old buffer len) w memory.old (record w { random = supply generator.new left.new.now }) memory.new (errno_of result) }
+    ensures { (w : World) → w.random ≡ supply generator.old left.old.now
+        → Answers (random w memory.old buffer len) w memory.old
+        (record w { random = supply generator.new left.new.now }) memory.new (errno_of result) }
 {
     check_range(memory, buffer, len)?;
     check_that(is_enough(generator, left, len as usize), AGAIN)?;

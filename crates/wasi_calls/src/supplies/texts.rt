@@ -23,7 +23,8 @@ pub(crate) fn sizes_get(
     size_at: u32,
 ) -> Result<(), Errno>
     requires { texts_fit texts.now ≡ true }
-    ensures { (w : World) → Answers (sizes (texts_of texts.now) w memory.old count_at size_at) w memory.old w memory.new (errno_of result) }
+    ensures { (w : World) → Answers (sizes (texts_of texts.now) w memory.old count_at size_at) w
+        memory.old w memory.new (errno_of result) }
 {
     check_range(memory, count_at, 4)?;
     check_range(memory, size_at, 4)?;
@@ -117,7 +118,8 @@ pub(crate) fn texts_get(
     buffer: u32,
 ) -> Result<(), Errno>
     requires { texts_fit texts.now ≡ true }
-    ensures { (w : World) → Answers (texts_row (texts_of texts.now) w memory.old at buffer) w memory.old w memory.new (errno_of result) }
+    ensures { (w : World) → Answers (texts_row (texts_of texts.now) w memory.old at buffer) w
+        memory.old w memory.new (errno_of result) }
 {
     check_range(memory, at, pointers_len(texts))?;
     check_range(memory, buffer, texts_len(texts))?;

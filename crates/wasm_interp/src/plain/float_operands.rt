@@ -35,7 +35,8 @@ fn taken(operator: FloatOperator) -> usize
 /// Whether a comparison of the two numbers on top holds, as 1 or 0.
 fn compared(values: &[u64], of: FloatType, comparison: FloatComparison) -> u64
     requires { HasTwo (float of) (reverse values.now) }
-    ensures number { result ≡ bool_number (test (format of) (float_test comparison) (slice_index (reverse values.now) 1) (slice_index (reverse values.now) 0)) }
+    ensures number { result ≡ bool_number (test (format of) (float_test comparison)
+        (slice_index (reverse values.now) 1) (slice_index (reverse values.now) 0)) }
     ensures fits { result < 2 ^ 32 }
 {
     let second = operand(values, 0);
@@ -46,7 +47,8 @@ fn compared(values: &[u64], of: FloatType, comparison: FloatComparison) -> u64
 /// What an operator makes of the two numbers on top.
 fn joined(values: &[u64], of: FloatType, operator: FloatBinaryOperator) -> u64
     requires { HasTwo (float of) (reverse values.now) }
-    ensures number { result ≡ float_binary (format of) operator (slice_index (reverse values.now) 1) (slice_index (reverse values.now) 0) }
+    ensures number { result ≡ float_binary (format of) operator (slice_index (reverse values.now) 1)
+        (slice_index (reverse values.now) 0) }
     ensures fits { result < 2 ^ width (float of) }
 {
     let second = operand(values, 0);
@@ -81,8 +83,11 @@ fn made(values: &[u64], operator: FloatOperator) -> Result<u64, Trap>
 /// Why a conversion to integers traps; then nothing changes.
 pub fn float_top(values: &mut Vec<u64>, operator: FloatOperator) -> Result<(), Trap>
     requires { AreOnTop (float_takes operator) (reverse values.old.items) }
-    ensures given { OnOk result ((r : ℕ) × (float_number operator (reverse values.old.items) ≡ Ok r) × Gives (float_gives operator) r (length (float_takes operator)) (reverse values.old.items) (reverse values.new.items)) }
-    ensures traps { IfErr result (λ e. (float_number operator (reverse values.old.items) ≡ Err e) × (values.new.items ≡ values.old.items)) }
+    ensures given { OnOk result ((r : ℕ) × (float_number operator (reverse values.old.items) ≡ Ok r)
+        × Gives (float_gives operator) r (length (float_takes operator)) (reverse values.old.items)
+        (reverse values.new.items)) }
+    ensures traps { IfErr result (λ e. (float_number operator (reverse values.old.items) ≡ Err e)
+        × (values.new.items ≡ values.old.items)) }
     ensures room { vec_capacity values.new ≡ vec_capacity values.old }
 {
     let number = made(values.as_slice(), operator)?;

@@ -46,7 +46,8 @@ pub fn replace(values: &mut Vec<u64>, taken: usize, value: u64)
 pub fn push(values: &mut Vec<u64>, value: u64, most: usize) -> Result<(), Halt>
     requires { vec_len values.old < vec_capacity values.old }
     ensures pushed { OnOk result (reverse values.new.items ≡ value ∷ reverse values.old.items) }
-    ensures full { IfErr result (λ h. (h ≡ Halt.Full) × (values.new.items ≡ values.old.items) × (vec_capacity values.new ≤ vec_len values.new + 1)) }
+    ensures full { IfErr result (λ h. (h ≡ Halt.Full) × (values.new.items ≡ values.old.items)
+        × (vec_capacity values.new ≤ vec_len values.new + 1)) }
     ensures spare { vec_len values.new < vec_capacity values.new }
     ensures room { vec_capacity values.old ≤ vec_capacity values.new }
     ensures bound { vec_capacity values.new ≤ max (vec_capacity values.old) (most + 1) }
@@ -71,7 +72,8 @@ pub fn pop(values: &mut Vec<u64>) -> u64
 /// Moves the topmost values, of which `kept` are kept, down onto the lowest, of which there are `height`.
 fn move_down(values: &mut Vec<u64>, kept: usize, height: usize)
     requires { kept + height ≤ vec_len values.old }
-    ensures moved { take (height + kept) values.new.items ≡ take height values.old.items ++ drop (length values.old.items - kept) values.old.items }
+    ensures moved { take (height + kept) values.new.items ≡ take height values.old.items ++ drop
+        (length values.old.items - kept) values.old.items }
     ensures len { vec_len values.new ≡ vec_len values.old }
     ensures room { vec_capacity values.new ≡ vec_capacity values.old }
 {
@@ -116,7 +118,9 @@ pub fn flag(holds: bool) -> u64
 /// `select`: the first of two values where the condition on top is set, else the second.
 pub fn select_top(values: &mut Vec<u64>)
     requires { 2 < length (reverse values.old.items) }
-    ensures selected { reverse values.new.items ≡ chosen (slice_index (reverse values.old.items) 0) (slice_index (reverse values.old.items) 2) (slice_index (reverse values.old.items) 1) ∷ drop 3 (reverse values.old.items) }
+    ensures selected { reverse values.new.items ≡ chosen (slice_index (reverse values.old.items) 0)
+        (slice_index (reverse values.old.items) 2) (slice_index (reverse values.old.items) 1) ∷ drop
+        3 (reverse values.old.items) }
     ensures room { vec_capacity values.new ≡ vec_capacity values.old }
 {
     let condition = operand(values, 0);
@@ -128,7 +132,9 @@ pub fn select_top(values: &mut Vec<u64>)
 /// `eqz`: whether the number on top is 0.
 pub fn test_top(values: &mut Vec<u64>)
     requires { 0 < length (reverse values.old.items) }
-    ensures tested { Gives ValueType.I32 (bool_number (nat_eq (slice_index (reverse values.old.items) 0) 0)) 1 (reverse values.old.items) (reverse values.new.items) }
+    ensures tested { Gives ValueType.I32 (bool_number
+        (nat_eq (slice_index (reverse values.old.items) 0) 0)) 1 (reverse values.old.items)
+        (reverse values.new.items) }
     ensures room { vec_capacity values.new ≡ vec_capacity values.old }
 {
     let x = operand(values, 0);
@@ -138,7 +144,10 @@ pub fn test_top(values: &mut Vec<u64>)
 /// Whether a comparison of the two numbers on top holds.
 pub fn compare_top(values: &mut Vec<u64>, integer_type: IntegerType, comparison: Comparison)
     requires { HasTwo (integer integer_type) (reverse values.old.items) }
-    ensures compared { Gives ValueType.I32 (bool_number (compare_test (width (integer integer_type)) comparison (slice_index (reverse values.old.items) 1) (slice_index (reverse values.old.items) 0))) 2 (reverse values.old.items) (reverse values.new.items) }
+    ensures compared { Gives ValueType.I32 (bool_number
+        (compare_test (width (integer integer_type)) comparison
+        (slice_index (reverse values.old.items) 1) (slice_index (reverse values.old.items) 0))) 2
+        (reverse values.old.items) (reverse values.new.items) }
     ensures room { vec_capacity values.new ≡ vec_capacity values.old }
 {
     let second = operand(values, 0);
@@ -154,7 +163,10 @@ pub fn compare_top(values: &mut Vec<u64>, integer_type: IntegerType, comparison:
 pub fn unary_top(values: &mut Vec<u64>, integer_type: IntegerType, operator: UnaryOperator)
     requires there { IsOperator integer_type operator }
     requires number { HasOne (integer integer_type) (reverse values.old.items) }
-    ensures given { Gives (integer integer_type) (unary_number (width (integer integer_type)) operator (slice_index (reverse values.old.items) 0)) 1 (reverse values.old.items) (reverse values.new.items) }
+    ensures given { Gives (integer integer_type)
+        (unary_number (width (integer integer_type)) operator
+        (slice_index (reverse values.old.items) 0)) 1 (reverse values.old.items)
+        (reverse values.new.items) }
     ensures room { vec_capacity values.new ≡ vec_capacity values.old }
 {
     let x = operand(values, 0);
@@ -168,8 +180,13 @@ pub fn binary_top(
     operator: BinaryOperator,
 ) -> Result<(), Trap>
     requires { HasTwo (integer integer_type) (reverse values.old.items) }
-    ensures given { OnOk result ((r : ℕ) × (binary_number (width (integer integer_type)) operator (slice_index (reverse values.old.items) 1) (slice_index (reverse values.old.items) 0) ≡ Ok r) × Gives (integer integer_type) r 2 (reverse values.old.items) (reverse values.new.items)) }
-    ensures traps { IfErr result (λ e. (binary_number (width (integer integer_type)) operator (slice_index (reverse values.old.items) 1) (slice_index (reverse values.old.items) 0) ≡ Err e) × (values.new.items ≡ values.old.items)) }
+    ensures given { OnOk result ((r : ℕ) × (binary_number (width (integer integer_type)) operator
+        (slice_index (reverse values.old.items) 1) (slice_index (reverse values.old.items) 0) ≡ Ok
+        r) × Gives (integer integer_type) r 2 (reverse values.old.items)
+        (reverse values.new.items)) }
+    ensures traps { IfErr result (λ e. (binary_number (width (integer integer_type)) operator
+        (slice_index (reverse values.old.items) 1) (slice_index (reverse values.old.items) 0) ≡ Err
+        e) × (values.new.items ≡ values.old.items)) }
     ensures room { vec_capacity values.new ≡ vec_capacity values.old }
 {
     let second = operand(values, 0);
@@ -182,7 +199,8 @@ pub fn binary_top(
 /// `i32.wrap_i64`: the number on top modulo 2 ^ 32.
 pub fn wrap_top(values: &mut Vec<u64>)
     requires { 0 < length (reverse values.old.items) }
-    ensures given { Gives ValueType.I32 (slice_index (reverse values.old.items) 0 % 2 ^ 32) 1 (reverse values.old.items) (reverse values.new.items) }
+    ensures given { Gives ValueType.I32 (slice_index (reverse values.old.items) 0 % 2 ^ 32) 1
+        (reverse values.old.items) (reverse values.new.items) }
     ensures room { vec_capacity values.new ≡ vec_capacity values.old }
 {
     let x = operand(values, 0);
@@ -192,7 +210,9 @@ pub fn wrap_top(values: &mut Vec<u64>)
 /// `i64.extend_i32_s`: the number on top read as signed.
 pub fn extend_top(values: &mut Vec<u64>)
     requires { HasOne ValueType.I32 (reverse values.old.items) }
-    ensures given { Gives ValueType.I64 (wrapped 64 (signed 32 (slice_index (reverse values.old.items) 0))) 1 (reverse values.old.items) (reverse values.new.items) }
+    ensures given { Gives ValueType.I64 (wrapped 64
+        (signed 32 (slice_index (reverse values.old.items) 0))) 1 (reverse values.old.items)
+        (reverse values.new.items) }
     ensures room { vec_capacity values.new ≡ vec_capacity values.old }
 {
     let x = operand(values, 0);

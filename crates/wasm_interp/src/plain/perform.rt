@@ -19,7 +19,11 @@ impl State {
     /// Goes on at this position of the function, one unit later.
     fn go_to(&mut self, pc: usize)
         requires { self.old.used + 1 < 2 ^ 64 }
-        ensures { self.new ≡ record self.old { current = record self.old.current { pc = pc }; used = suc self.old.used } }
+        ensures { self.new ≡ record self.old {
+          current = record self.old.current { pc = pc };
+          used =
+              suc self.old.used;
+        } }
     {
         self.current.pc = pc;
         self.used += 1;
@@ -29,7 +33,11 @@ impl State {
     fn go_on(&mut self)
         requires fits { self.old.used + 1 < 2 ^ 64 }
         requires next_pc { self.old.current.pc + 1 < 2 ^ 64 }
-        ensures { self.new ≡ record self.old { current = record self.old.current { pc = self.old.current.pc + 1 }; used = suc self.old.used } }
+        ensures { self.new ≡ record self.old {
+          current = record
+              self.old.current { pc = self.old.current.pc + 1 };
+          used = suc self.old.used;
+        } }
     {
         self.go_to(self.current.pc + 1);
     }
@@ -38,7 +46,8 @@ impl State {
     fn branch(&mut self, target: Target)
         requires there { CanBranch (flat_of self.old) (reverse self.old.values.items) target }
         requires fits { self.old.used + 1 < 2 ^ 64 }
-        ensures branched { flat_of self.new ≡ branched (flat_of self.old) target (reverse self.old.values.items) }
+        ensures branched { flat_of self.new ≡ branched (flat_of self.old) target
+            (reverse self.old.values.items) }
         ensures stays { Stays self.old self.new }
         ensures used { self.new.used ≡ suc self.old.used }
         ensures len { vec_len self.new.values ≤ vec_len self.old.values }
@@ -107,7 +116,8 @@ impl State {
         requires spare { vec_len self.old.values < vec_capacity self.old.values }
         requires fits { self.old.used + 1 < 2 ^ 64 }
         requires next_pc { self.old.current.pc + 1 < 2 ^ 64 }
-        ensures pushed { OnOk result (FlatStep 0 (Instruction.LocalGet index) [] (flat_of self.old) (flat_of self.new)) }
+        ensures pushed { OnOk result (FlatStep 0 (Instruction.LocalGet index) [] (flat_of self.old)
+            (flat_of self.new)) }
         ensures pushes { Pushes self.old self.new result }
     {
         let value = self.values[self.current.locals + index as usize];
@@ -120,7 +130,8 @@ impl State {
         requires inside { self.old.current.locals + index + 1 < vec_len self.old.values }
         requires fits { self.old.used + 1 < 2 ^ 64 }
         requires next_pc { self.old.current.pc + 1 < 2 ^ 64 }
-        ensures set { FlatStep 0 (Instruction.LocalSet index) [] (flat_of self.old) (flat_of self.new) }
+        ensures set { FlatStep 0 (Instruction.LocalSet index) [] (flat_of self.old)
+            (flat_of self.new) }
         ensures stays { Stays self.old self.new }
         ensures used { self.new.used ≡ suc self.old.used }
         ensures len { vec_len self.new.values ≤ vec_len self.old.values }
@@ -135,7 +146,8 @@ impl State {
         requires inside { self.old.current.locals + index < vec_len self.old.values }
         requires fits { self.old.used + 1 < 2 ^ 64 }
         requires next_pc { self.old.current.pc + 1 < 2 ^ 64 }
-        ensures set { FlatStep 0 (Instruction.LocalTee index) [] (flat_of self.old) (flat_of self.new) }
+        ensures set { FlatStep 0 (Instruction.LocalTee index) [] (flat_of self.old)
+            (flat_of self.new) }
         ensures stays { Stays self.old self.new }
         ensures used { self.new.used ≡ suc self.old.used }
         ensures len { vec_len self.new.values ≤ vec_len self.old.values }
@@ -150,7 +162,8 @@ impl State {
         requires spare { vec_len self.old.values < vec_capacity self.old.values }
         requires fits { self.old.used + 1 < 2 ^ 64 }
         requires next_pc { self.old.current.pc + 1 < 2 ^ 64 }
-        ensures pushed { OnOk result (FlatStep 0 (Instruction.GlobalGet index) [] (flat_of self.old) (flat_of self.new)) }
+        ensures pushed { OnOk result (FlatStep 0 (Instruction.GlobalGet index) [] (flat_of self.old)
+            (flat_of self.new)) }
         ensures pushes { Pushes self.old self.new result }
     {
         let value = self.globals.as_slice()[index as usize];
@@ -164,7 +177,8 @@ impl State {
         requires inside { index < length self.old.globals }
         requires fits { self.old.used + 1 < 2 ^ 64 }
         requires next_pc { self.old.current.pc + 1 < 2 ^ 64 }
-        ensures set { FlatStep 0 (Instruction.GlobalSet index) [] (flat_of self.old) (flat_of self.new) }
+        ensures set { FlatStep 0 (Instruction.GlobalSet index) [] (flat_of self.old)
+            (flat_of self.new) }
         ensures stays { Stays self.old self.new }
         ensures used { self.new.used ≡ suc self.old.used }
         ensures len { vec_len self.new.values ≤ vec_len self.old.values }
@@ -180,7 +194,8 @@ impl State {
         requires spare { vec_len self.old.values < vec_capacity self.old.values }
         requires fits { self.old.used + 1 < 2 ^ 64 }
         requires next_pc { self.old.current.pc + 1 < 2 ^ 64 }
-        ensures pushed { OnOk result (FlatStep 0 Instruction.MemorySize [] (flat_of self.old) (flat_of self.new)) }
+        ensures pushed { OnOk result (FlatStep 0 Instruction.MemorySize [] (flat_of self.old)
+            (flat_of self.new)) }
         ensures pushes { Pushes self.old self.new result }
     {
         push(
@@ -195,7 +210,10 @@ impl State {
     /// `end`: goes on after it, for no unit.
     pub fn end_block(&mut self)
         requires { self.old.current.pc + 1 < 2 ^ 64 }
-        ensures { self.new ≡ record self.old { current = record self.old.current { pc = self.old.current.pc + 1 } } }
+        ensures { self.new ≡ record self.old {
+          current = record
+              self.old.current { pc = self.old.current.pc + 1 };
+        } }
     {
         self.current.pc += 1;
     }
@@ -203,7 +221,8 @@ impl State {
     /// `else`: the first part of an `if` has ended, and what is after the second goes on, for no unit.
     pub fn skip_else(&mut self, targets: &BodyTargets)
         requires { 0 < length (slice_index_or targets.now self.old.current.pc []) }
-        ensures { (t : TargetValue) → slice_index_or targets.now self.old.current.pc [] ≡ t ∷ [] → self.new ≡ record self.old { current = record self.old.current { pc = t.position } } }
+        ensures { (t : TargetValue) → slice_index_or targets.now self.old.current.pc [] ≡ t ∷ []
+            → self.new ≡ record self.old { current = record self.old.current { pc = t.position } } }
     {
         let target = targets.at(self.current.pc)[0];
         self.current.pc = target.position;
@@ -216,18 +235,22 @@ impl State {
         targets: &BodyTargets,
         limit: u32,
     ) -> Result<(), Halt>
-        requires ready { IsReadyFor instruction.now (slice_index_or targets.now self.old.current.pc []) (flat_of self.old) }
+        requires ready { IsReadyFor instruction.now
+            (slice_index_or targets.now self.old.current.pc []) (flat_of self.old) }
         requires spare { vec_len self.old.values < vec_capacity self.old.values }
         requires fits { self.old.used + 1 < 2 ^ 64 }
         requires next_pc { self.old.current.pc + 1 < 2 ^ 64 }
-        ensures performed { OnOk result (FlatStep limit instruction.now (slice_index_or targets.now self.old.current.pc []) (flat_of self.old) (flat_of self.new)) }
+        ensures performed { OnOk result (FlatStep limit instruction.now
+            (slice_index_or targets.now self.old.current.pc []) (flat_of self.old)
+            (flat_of self.new)) }
         ensures used { OnOk result (self.new.used ≡ suc self.old.used) }
         ensures halted { IfErr result (λ h. Halts h instruction.now self.new) }
         ensures same { IfErr result (λ h. flat_of self.new ≡ flat_of self.old) }
         ensures stays { Stays self.old self.new }
         ensures spare { vec_len self.new.values < vec_capacity self.new.values }
         ensures room { vec_capacity self.old.values ≤ vec_capacity self.new.values }
-        ensures bound { vec_capacity self.new.values ≤ max (vec_capacity self.old.values) (self.old.most_values + 1) }
+        ensures bound { vec_capacity self.new.values ≤ max (vec_capacity self.old.values)
+            (self.old.most_values + 1) }
     {
         match instruction {
             Instruction::Block(_) | Instruction::Loop(_) => self.go_on(),
@@ -257,7 +280,8 @@ impl State {
         ensures stays { Stays self.old self.new }
         ensures spare { vec_len self.new.values < vec_capacity self.new.values }
         ensures room { vec_capacity self.old.values ≤ vec_capacity self.new.values }
-        ensures bound { vec_capacity self.new.values ≤ max (vec_capacity self.old.values) (self.old.most_values + 1) }
+        ensures bound { vec_capacity self.new.values ≤ max (vec_capacity self.old.values)
+            (self.old.most_values + 1) }
     {
         if !reserve_within(&mut self.values, 2, self.most_values) {
             return Halt::Full;
@@ -271,14 +295,16 @@ impl State {
         requires spare { vec_len self.old.values < vec_capacity self.old.values }
         requires fits { self.old.used + 1 < 2 ^ 64 }
         requires next_pc { self.old.current.pc + 1 < 2 ^ 64 }
-        ensures worked { OnOk result (Works limit instruction.now (flat_of self.old) (flat_of self.new)) }
+        ensures worked { OnOk result (Works limit instruction.now (flat_of self.old)
+            (flat_of self.new)) }
         ensures used { OnOk result (self.new.used ≡ suc self.old.used) }
         ensures halted { IfErr result (λ h. Halts h instruction.now self.new) }
         ensures same { IfErr result (λ h. flat_of self.new ≡ flat_of self.old) }
         ensures stays { Stays self.old self.new }
         ensures spare { vec_len self.new.values < vec_capacity self.new.values }
         ensures room { vec_capacity self.old.values ≤ vec_capacity self.new.values }
-        ensures bound { vec_capacity self.new.values ≤ max (vec_capacity self.old.values) (self.old.most_values + 1) }
+        ensures bound { vec_capacity self.new.values ≤ max (vec_capacity self.old.values)
+            (self.old.most_values + 1) }
     {
         work(
             &mut self.values,
