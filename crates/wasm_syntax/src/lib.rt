@@ -1,4 +1,4 @@
-//! (to be written)
+//! What a WebAssembly module is: instructions, types, sections and what of them a profile takes (chapter 2 of the standard).
 
 #![tactic(auto)]
 
