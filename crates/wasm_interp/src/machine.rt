@@ -9,7 +9,7 @@ ghost use Rattle.wasm_interp.specs.Machine.{limited};
 use crate::begin::begin;
 use crate::frames::Frame;
 use crate::state::State;
-use crate::tables::Prepared;
+use wasm_operands::tables::Prepared;
 use std::alloc::Global;
 use std::marker::Model;
 use wasm_steps::Pause;

@@ -14,7 +14,7 @@ use crate::invoking::InvokedMachine;
 use crate::machine::RefusedInstance;
 use crate::plugin::PreparedPlugin;
 use crate::state::State;
-use crate::tables::Prepared;
+use wasm_operands::tables::Prepared;
 use std::alloc::{AllocError, Global};
 use std::marker::Model;
 use std::sync::Arc;
