@@ -7,9 +7,9 @@ ghost use Rattle.wasm_operands.specs.declared.tables.Prepared.{Prepared as Prepa
 ghost use Rattle.wasm_interp.specs.Frames.{Tells, frames_of, is_inside_at};
 ghost use Rattle.wasm_interp.specs.internal.Running.{snapshot_of};
 
+use crate::state::State;
 use wasm_operands::activation::Activation;
 use wasm_operands::phase::Phase;
-use crate::state::State;
 use wasm_steps::Outcome;
 
 /// A function at work, and the instruction that it goes on with.

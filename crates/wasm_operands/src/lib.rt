@@ -1,4 +1,4 @@
-//! (to be written)
+//! What instructions do with values and memory alone (section 4.4), and what a machine shows. Which function is at work no item here knows.
 
 #![tactic(auto)]
 

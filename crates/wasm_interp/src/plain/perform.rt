@@ -7,13 +7,13 @@ ghost use Rattle.wasm_operands.specs.internal.Plain.Performing.{IsReady};
 ghost use Rattle.wasm_places.specs.internal.Plain.FlatSteps.{BranchesIf, CanBranch, CanBranchIf, CanPick, FlatStep, IsReadyFor, Picks, TestsOne, Works};
 ghost use Rattle.wasm_interp.specs.internal.Running.{flat_of, Halts, Pushes, Stays};
 
+use crate::state::State;
+use wasm_branch::{Target, TargetTable as BodyTargets};
+use wasm_module::Instruction;
 use wasm_operands::growth::reserve_within;
 use wasm_operands::halt::Halt;
 use wasm_operands::operands::{operand, pop, push, unwind};
 use wasm_operands::work::work;
-use crate::state::State;
-use wasm_branch::{Target, TargetTable as BodyTargets};
-use wasm_module::Instruction;
 
 impl State {
     /// Goes on at this position of the function, one unit later.
