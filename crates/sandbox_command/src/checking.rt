@@ -2,7 +2,7 @@
 
 ghost use Rattle.std.specs.Prelude.{◌≡◌, ◌++◌, Some, None, OnOk, OnErr};
 ghost use Rattle.std.specs.Io.KnownBytes.{Appends, Keeps};
-ghost use Rattle.vol_commands.specs.Streams.{AppendsPart};
+ghost use Rattle.stream_answers.specs.Printing.{AppendsPart};
 ghost use Rattle.sandbox_command.specs.Checking.{TellsChecked, checked_damage, damage_lines, place_text};
 ghost use Rattle.sandbox_command.specs.Flushing.{Answered};
 ghost use Rattle.sandbox_command.specs.Status.{ended_status, failure_status};
