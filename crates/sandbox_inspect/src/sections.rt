@@ -65,7 +65,7 @@ fn number_of(bits: u32, bytes: &[u8]) -> Option<(u64, &[u8])>
 }
 
 /// The number of 32 bits that the bytes begin with, and the bytes after it.
-#[tactic(auto, unfolding(wasm_module::specs::Reading::u32_at))]
+#[tactic(auto, unfolding(wasm_syntax::specs::Reading::u32_at))]
 pub(crate) fn number(bytes: &[u8]) -> Option<(u32, &[u8])>
     ensures { option_map (λ x. (x.0, x.1.now)) result ≡ u32_at bytes.now }
 {
@@ -74,7 +74,7 @@ pub(crate) fn number(bytes: &[u8]) -> Option<(u32, &[u8])>
 }
 
 /// A size, so many bytes, and those after them.
-#[tactic(auto, unfolding(wasm_module::specs::Reading::sized_at, wasm_module::specs::Reading::raw_of))]
+#[tactic(auto, unfolding(wasm_syntax::specs::Reading::sized_at, wasm_syntax::specs::Reading::raw_of))]
 pub(crate) fn sized(bytes: &[u8]) -> Option<(&[u8], &[u8])>
     ensures { option_map (λ x. (x.0.now, x.1.now)) result ≡ sized_at raw_of bytes.now }
 {

@@ -1,2 +1,4 @@
+pub mod Handed
 pub mod Hearing
+pub mod Pieces
 mod Told

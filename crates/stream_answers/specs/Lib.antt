@@ -1,2 +1,4 @@
 pub mod Hearing
+pub mod Pieces
+pub mod Printing
 pub mod System

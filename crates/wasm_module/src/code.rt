@@ -25,7 +25,7 @@ fn unknown(byte: u8, offset: u32) -> LoadFault {
 }
 
 /// The comparisons in the order of their opcodes.
-#[tactic(auto, unfolding(crate::specs::internal::CodeReading::comparison_of))]
+#[tactic(auto, unfolding(wasm_syntax::specs::internal::CodeReading::comparison_of))]
 fn comparison(number: u8) -> Option<Comparison>
     ensures { result ≡ comparison_of number }
 {
@@ -45,7 +45,7 @@ fn comparison(number: u8) -> Option<Comparison>
 }
 
 /// The operators on two integers in the order of their opcodes.
-#[tactic(auto, unfolding(crate::specs::internal::CodeReading::binary_operator_of))]
+#[tactic(auto, unfolding(wasm_syntax::specs::internal::CodeReading::binary_operator_of))]
 fn binary_operator(number: u8) -> Option<BinaryOperator>
     ensures { result ≡ binary_operator_of number }
 {
@@ -70,7 +70,7 @@ fn binary_operator(number: u8) -> Option<BinaryOperator>
 }
 
 /// The instruction on one integer of this opcode.
-#[tactic(auto, unfolding(crate::specs::internal::CodeReading::unary_of))]
+#[tactic(auto, unfolding(wasm_syntax::specs::internal::CodeReading::unary_of))]
 fn unary(byte: u8) -> Option<Instruction>
     ensures { result ≡ unary_instruction byte }
 {
@@ -106,7 +106,7 @@ fn operated(integer_type: IntegerType, number: u8) -> Option<Instruction>
 
 /// The instruction of this opcode on numbers, which has nothing after it.
 #[inline(always)]
-#[tactic(auto, unfolding(crate::specs::internal::CodeReading::numeric_of))]
+#[tactic(auto, unfolding(wasm_syntax::specs::internal::CodeReading::numeric_of))]
 fn numeric(byte: u8) -> Option<Instruction>
     ensures { result ≡ numeric_of byte }
 {
@@ -125,7 +125,7 @@ fn numeric(byte: u8) -> Option<Instruction>
 }
 
 /// The beginning of a block with this opcode and type.
-#[tactic(auto, unfolding(crate::specs::internal::CodeReading::block_with))]
+#[tactic(auto, unfolding(wasm_syntax::specs::internal::CodeReading::block_with))]
 fn block_with(byte: u8, offset: u32, block_type: BlockType) -> Result<Instruction, LoadFault>
     ensures { Gives (λ i. i) result (block_with byte block_type) }
 {
@@ -138,7 +138,7 @@ fn block_with(byte: u8, offset: u32, block_type: BlockType) -> Result<Instructio
 }
 
 /// The branch of this opcode, to this label.
-#[tactic(auto, unfolding(crate::specs::internal::CodeReading::branch_with))]
+#[tactic(auto, unfolding(wasm_syntax::specs::internal::CodeReading::branch_with))]
 fn branch_with(byte: u8, offset: u32, label: u32) -> Result<Instruction, LoadFault>
     ensures { Gives (λ i. i) result (branch_with byte label) }
 {
@@ -161,7 +161,7 @@ fn branch_table(
 }
 
 /// The table of an indirect call, which is the only one.
-#[tactic(auto, unfolding(crate::specs::internal::CodeReading::only_table_at))]
+#[tactic(auto, unfolding(wasm_syntax::specs::internal::CodeReading::only_table_at))]
 fn only_table(cursor: &mut Cursor<'_>, profile: Profile) -> Result<(), LoadFault>
     ensures { Gives (λ x. (x, cursor.new)) result (only_table_at profile cursor.old) }
 {
@@ -186,7 +186,7 @@ fn call_indirect(cursor: &mut Cursor<'_>, profile: Profile) -> Result<Instructio
 }
 
 /// What follows an opcode of the control instructions (section 5.4.1).
-#[tactic(auto, unfolding(crate::specs::internal::CodeReading::control_after))]
+#[tactic(auto, unfolding(wasm_syntax::specs::internal::CodeReading::control_after))]
 fn control(
     alloc: Global,
     cursor: &mut Cursor<'_>,
@@ -212,7 +212,7 @@ fn control(
 }
 
 /// The instruction on a variable of this opcode, with this index.
-#[tactic(auto, unfolding(crate::specs::internal::CodeReading::variable_with))]
+#[tactic(auto, unfolding(wasm_syntax::specs::internal::CodeReading::variable_with))]
 fn variable_with(byte: u8, offset: u32, index: u32) -> Result<Instruction, LoadFault>
     ensures { Gives (λ i. i) result (variable_with byte index) }
 {
@@ -228,7 +228,7 @@ fn variable_with(byte: u8, offset: u32, index: u32) -> Result<Instruction, LoadF
 
 /// What follows an opcode of the parametric and variable instructions (sections 5.4.2 and
 /// 5.4.3).
-#[tactic(auto, unfolding(crate::specs::internal::CodeReading::variable_after))]
+#[tactic(auto, unfolding(wasm_syntax::specs::internal::CodeReading::variable_after))]
 fn variable(cursor: &mut Cursor<'_>, byte: u8, offset: u32) -> Result<Instruction, LoadFault>
     ensures { Gives (λ x. (x, cursor.new)) result (variable_after byte cursor.old) }
 {
@@ -241,7 +241,7 @@ fn variable(cursor: &mut Cursor<'_>, byte: u8, offset: u32) -> Result<Instructio
 }
 
 /// The load of this opcode.
-#[tactic(auto, unfolding(crate::specs::internal::CodeReading::load_of))]
+#[tactic(auto, unfolding(wasm_syntax::specs::internal::CodeReading::load_of))]
 fn load_operator(profile: Profile, byte: u8) -> Option<LoadOperator>
     ensures { result ≡ load_of profile byte }
 {
@@ -265,7 +265,7 @@ fn load_operator(profile: Profile, byte: u8) -> Option<LoadOperator>
 }
 
 /// What follows an opcode of the loads (section 5.4.4). Where those of floating point are refused, that is before what follows them is read.
-#[tactic(auto, unfolding(crate::specs::internal::CodeReading::load_after))]
+#[tactic(auto, unfolding(wasm_syntax::specs::internal::CodeReading::load_after))]
 fn load(
     alloc: Global,
     cursor: &mut Cursor<'_>,
@@ -282,7 +282,7 @@ fn load(
 }
 
 /// The store of this opcode.
-#[tactic(auto, unfolding(crate::specs::internal::CodeReading::store_of))]
+#[tactic(auto, unfolding(wasm_syntax::specs::internal::CodeReading::store_of))]
 fn store_operator(profile: Profile, byte: u8) -> Option<StoreOperator>
     ensures { result ≡ store_of profile byte }
 {
@@ -301,7 +301,7 @@ fn store_operator(profile: Profile, byte: u8) -> Option<StoreOperator>
 }
 
 /// What follows an opcode of the stores (section 5.4.4). Where those of floating point are refused, that is before what follows them is read.
-#[tactic(auto, unfolding(crate::specs::internal::CodeReading::store_after))]
+#[tactic(auto, unfolding(wasm_syntax::specs::internal::CodeReading::store_after))]
 fn store(
     alloc: Global,
     cursor: &mut Cursor<'_>,
@@ -318,7 +318,7 @@ fn store(
 }
 
 /// What follows an opcode of the instructions on the size of memory (section 5.4.4).
-#[tactic(auto, unfolding(crate::specs::internal::CodeReading::size_after))]
+#[tactic(auto, unfolding(wasm_syntax::specs::internal::CodeReading::size_after))]
 fn memory_size(cursor: &mut Cursor<'_>, byte: u8, offset: u32) -> Result<Instruction, LoadFault>
     ensures { Gives (λ x. (x, cursor.new)) result (size_after byte cursor.old) }
 {
@@ -336,7 +336,7 @@ fn memory_size(cursor: &mut Cursor<'_>, byte: u8, offset: u32) -> Result<Instruc
 }
 
 /// The saturating conversion of this number, which stands after the opcode FC.
-#[tactic(auto, unfolding(crate::specs::internal::CodeReading::saturation_of))]
+#[tactic(auto, unfolding(wasm_syntax::specs::internal::CodeReading::saturation_of))]
 fn saturating(profile: Profile, number: u32, offset: u32) -> Result<Instruction, LoadFault>
     ensures { Gives (λ i. i) result (saturated profile number) }
 {
@@ -350,7 +350,7 @@ fn saturating(profile: Profile, number: u32, offset: u32) -> Result<Instruction,
 }
 
 /// The instruction of this number, which stands after the opcode FC.
-#[tactic(auto, unfolding(crate::specs::internal::CodeReading::bulk_after))]
+#[tactic(auto, unfolding(wasm_syntax::specs::internal::CodeReading::bulk_after))]
 fn bulk_instruction(
     cursor: &mut Cursor<'_>,
     profile: Profile,
@@ -373,7 +373,7 @@ fn bulk_instruction(
     }
 }
 
-#[tactic(auto, unfolding(crate::specs::internal::CodeReading::bulk_at))]
+#[tactic(auto, unfolding(wasm_syntax::specs::internal::CodeReading::bulk_at))]
 fn bulk(cursor: &mut Cursor<'_>, profile: Profile) -> Result<Instruction, LoadFault>
     ensures { Gives (λ x. (x, cursor.new)) result (bulk_at profile cursor.old) }
 {
@@ -399,7 +399,7 @@ fn floats(
 }
 
 /// What follows an opcode of the instructions on numbers (section 5.4.5).
-#[tactic(auto, unfolding(crate::specs::internal::CodeReading::operator_after, crate::specs::internal::CodeReading::numeric_after))]
+#[tactic(auto, unfolding(wasm_syntax::specs::internal::CodeReading::operator_after, wasm_syntax::specs::internal::CodeReading::numeric_after))]
 fn operator(
     cursor: &mut Cursor<'_>,
     profile: Profile,
@@ -423,7 +423,7 @@ impl<'a> Decode<'a> for MemArg {
     ghost at = { λ p. mem_arg_at };
 
     #[inline(always)]
-    #[tactic(auto, unfolding(crate::specs::internal::CodeReading::mem_arg_at))]
+    #[tactic(auto, unfolding(wasm_syntax::specs::internal::CodeReading::mem_arg_at))]
     fn decode(
         _alloc: Global,
         cursor: &mut Cursor<'a>,
@@ -440,7 +440,7 @@ impl<'a> Decode<'a> for Instruction {
 
     ghost at = { instruction_at };
 
-    #[tactic(auto, unfolding(crate::specs::internal::CodeReading::instruction_at, crate::specs::internal::CodeReading::instruction_after, crate::specs::internal::CodeReading::control_after, crate::specs::internal::CodeReading::branch_with, crate::specs::internal::CodeReading::variable_after, crate::specs::internal::CodeReading::variable_with))]
+    #[tactic(auto, unfolding(wasm_syntax::specs::internal::CodeReading::instruction_at, wasm_syntax::specs::internal::CodeReading::instruction_after, wasm_syntax::specs::internal::CodeReading::control_after, wasm_syntax::specs::internal::CodeReading::branch_with, wasm_syntax::specs::internal::CodeReading::variable_after, wasm_syntax::specs::internal::CodeReading::variable_with))]
     fn decode(
         alloc: Global,
         cursor: &mut Cursor<'a>,

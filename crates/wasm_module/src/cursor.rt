@@ -211,7 +211,7 @@ impl<'a> Cursor<'a> {
     }
 
     #[inline(always)]
-    #[tactic(auto, unfolding(crate::specs::Reading::u32_at))]
+    #[tactic(auto, unfolding(wasm_syntax::specs::Reading::u32_at))]
     pub fn u32(&mut self) -> Result<u32, LoadFault>
         ensures { Gives (λ x. (x, self.new)) result (u32_at self.old) }
     {
@@ -219,7 +219,7 @@ impl<'a> Cursor<'a> {
     }
 
     /// A signed number, modulo 2 ^ 32.
-    #[tactic(auto, unfolding(crate::specs::internal::CodeReading::s32_at))]
+    #[tactic(auto, unfolding(wasm_syntax::specs::internal::CodeReading::s32_at))]
     pub fn s32(&mut self) -> Result<u32, LoadFault>
         ensures { Gives (λ x. (x, self.new)) result (s32_at self.old) }
     {
@@ -227,7 +227,7 @@ impl<'a> Cursor<'a> {
     }
 
     /// A signed number, modulo 2 ^ 64.
-    #[tactic(auto, unfolding(crate::specs::internal::CodeReading::s64_at))]
+    #[tactic(auto, unfolding(wasm_syntax::specs::internal::CodeReading::s64_at))]
     pub fn s64(&mut self) -> Result<u64, LoadFault>
         ensures { Gives (λ x. (x, self.new)) result (s64_at self.old) }
     {
@@ -249,7 +249,7 @@ impl<'a> Cursor<'a> {
     }
 
     /// The next bytes, by themselves, after their count.
-    #[tactic(auto, unfolding(crate::specs::Reading::sized_at, crate::specs::Reading::raw_of))]
+    #[tactic(auto, unfolding(wasm_syntax::specs::Reading::sized_at, wasm_syntax::specs::Reading::raw_of))]
     pub fn sized_piece(&mut self) -> Result<Cursor<'a>, LoadFault>
         ensures { Gives (λ x. (x, self.new)) result (sized_at raw_of self.old) }
     {
@@ -257,7 +257,7 @@ impl<'a> Cursor<'a> {
         self.piece(size)
     }
 
-    #[tactic(auto, unfolding(crate::specs::Reading::vector_at))]
+    #[tactic(auto, unfolding(wasm_syntax::specs::Reading::vector_at))]
     pub fn vector<T: Decode<'a>>(
         &mut self,
         alloc: Global,
@@ -345,7 +345,7 @@ impl<'a> Cursor<'a> {
         }
     }
 
-    #[tactic(auto, unfolding(crate::specs::Reading::name_at))]
+    #[tactic(auto, unfolding(wasm_syntax::specs::Reading::name_at))]
     fn name(&mut self) -> Result<Name<'a>, LoadFault>
         ensures { Gives (λ x. (x, self.new)) result (name_at self.old) }
     {
@@ -354,7 +354,7 @@ impl<'a> Cursor<'a> {
 
     /// The content of the custom section that begins at this offset: its name is read, and
     /// nothing else.
-    #[tactic(auto, unfolding(crate::specs::Reading::custom_of))]
+    #[tactic(auto, unfolding(wasm_syntax::specs::Reading::custom_of))]
     fn custom_content(mut self, section: u32) -> Result<(), LoadFault>
         ensures { Gives (λ x. x) result (custom_of self.entry) }
     {
@@ -371,7 +371,7 @@ impl<'a> Cursor<'a> {
     }
 
     /// Goes past the custom sections at the front.
-    #[tactic(auto, using(crate::proofs::Steps::customs_more, crate::proofs::Steps::customs_done), unfolding(crate::specs::Reading::customs_at))]
+    #[tactic(auto, using(crate::proofs::Steps::customs_more, crate::proofs::Steps::customs_done), unfolding(wasm_syntax::specs::Reading::customs_at))]
     pub fn customs(&mut self) -> Result<(), LoadFault>
         ensures { Gives (λ x. (x, self.new)) result (customs_at self.old) }
     {
@@ -387,7 +387,7 @@ impl<'a> Cursor<'a> {
     }
 
     /// A section that may be absent, and the custom sections after it.
-    #[tactic(auto, unfolding(crate::specs::Reading::section_at))]
+    #[tactic(auto, unfolding(wasm_syntax::specs::Reading::section_at))]
     pub fn section<T: Decode<'a>>(
         &mut self,
         alloc: Global,
@@ -408,7 +408,7 @@ impl<'a> Cursor<'a> {
     }
 
     /// One instruction more of a code with open blocks.
-    #[tactic(auto, unfolding(crate::specs::internal::CodeReading::one_more_at))]
+    #[tactic(auto, unfolding(wasm_syntax::specs::internal::CodeReading::one_more_at))]
     fn one_more(
         &mut self,
         alloc: Global,
@@ -427,7 +427,7 @@ impl<'a> Cursor<'a> {
     }
 
     /// Instructions up to the one that closes the expression (section 5.4.6). Room for so many is asked for at once.
-    #[tactic(auto, unfolding(crate::specs::internal::CodeReading::code_at))]
+    #[tactic(auto, unfolding(wasm_syntax::specs::internal::CodeReading::code_at))]
     pub fn code(
         &mut self,
         alloc: Global,

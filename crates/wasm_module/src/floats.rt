@@ -13,7 +13,7 @@ use wasm_syntax::instruction::{
 use wasm_syntax::number::Sign;
 
 /// The comparisons in the order of their opcodes.
-#[tactic(auto, unfolding(crate::specs::internal::CodeReading::float_comparison_of))]
+#[tactic(auto, unfolding(wasm_syntax::specs::internal::CodeReading::float_comparison_of))]
 fn comparison(number: u8) -> Option<FloatComparison>
     ensures { result ≡ float_comparison_of number }
 {
@@ -29,7 +29,7 @@ fn comparison(number: u8) -> Option<FloatComparison>
 }
 
 /// The operators on one float in the order of their opcodes.
-#[tactic(auto, unfolding(crate::specs::internal::CodeReading::float_unary_of))]
+#[tactic(auto, unfolding(wasm_syntax::specs::internal::CodeReading::float_unary_of))]
 fn unary(number: u8) -> Option<FloatUnaryOperator>
     ensures { result ≡ float_unary_of number }
 {
@@ -46,7 +46,7 @@ fn unary(number: u8) -> Option<FloatUnaryOperator>
 }
 
 /// The operators on two floats in the order of their opcodes.
-#[tactic(auto, unfolding(crate::specs::internal::CodeReading::float_binary_of))]
+#[tactic(auto, unfolding(wasm_syntax::specs::internal::CodeReading::float_binary_of))]
 fn binary(number: u8) -> Option<FloatBinaryOperator>
     ensures { result ≡ float_binary_of number }
 {
@@ -84,7 +84,7 @@ fn of_two(float_type: FloatType, number: u8) -> Option<FloatOperator>
 }
 
 /// The conversion of this opcode.
-#[tactic(auto, unfolding(crate::specs::internal::CodeReading::conversion_of))]
+#[tactic(auto, unfolding(wasm_syntax::specs::internal::CodeReading::conversion_of))]
 fn conversion(byte: u8) -> Option<FloatOperator>
     ensures { result ≡ conversion_of byte }
 {
@@ -117,7 +117,7 @@ fn conversion(byte: u8) -> Option<FloatOperator>
 }
 
 /// The saturating conversion of this number, which stands after the opcode FC.
-#[tactic(auto, unfolding(crate::specs::internal::CodeReading::saturation_of))]
+#[tactic(auto, unfolding(wasm_syntax::specs::internal::CodeReading::saturation_of))]
 pub fn saturation(number: u32) -> Option<FloatOperator>
     ensures { result ≡ saturation_of number }
 {
@@ -136,7 +136,7 @@ pub fn saturation(number: u32) -> Option<FloatOperator>
 }
 
 /// The operator on floats of this opcode.
-#[tactic(auto, unfolding(crate::specs::internal::CodeReading::float_operator_of))]
+#[tactic(auto, unfolding(wasm_syntax::specs::internal::CodeReading::float_operator_of))]
 fn float_operator(byte: u8) -> Option<FloatOperator>
     ensures { result ≡ float_operator_of byte }
 {
@@ -170,7 +170,7 @@ pub fn is_float(byte: u8) -> bool
 }
 
 /// Four bytes, the lowest first.
-#[tactic(auto, unfolding(crate::specs::internal::CodeReading::four_bytes_at))]
+#[tactic(auto, unfolding(wasm_syntax::specs::internal::CodeReading::four_bytes_at))]
 fn four_bytes(cursor: &mut Cursor<'_>) -> Result<u32, LoadFault>
     ensures { Gives (λ x. (x, cursor.new)) result (four_bytes_at cursor.old) }
 {
@@ -183,7 +183,7 @@ fn four_bytes(cursor: &mut Cursor<'_>) -> Result<u32, LoadFault>
 }
 
 /// Eight bytes, the lowest first.
-#[tactic(auto, unfolding(crate::specs::internal::CodeReading::eight_bytes_at))]
+#[tactic(auto, unfolding(wasm_syntax::specs::internal::CodeReading::eight_bytes_at))]
 fn eight_bytes(cursor: &mut Cursor<'_>) -> Result<u64, LoadFault>
     ensures { Gives (λ x. (x, cursor.new)) result (eight_bytes_at cursor.old) }
 {
@@ -193,7 +193,7 @@ fn eight_bytes(cursor: &mut Cursor<'_>) -> Result<u64, LoadFault>
 }
 
 /// What follows an opcode of floats (section 5.4.5): the bits of a constant, or nothing.
-#[tactic(auto, unfolding(crate::specs::internal::CodeReading::float_after))]
+#[tactic(auto, unfolding(wasm_syntax::specs::internal::CodeReading::float_after))]
 pub fn float(cursor: &mut Cursor<'_>, byte: u8, offset: u32) -> Result<Instruction, LoadFault>
     ensures { Gives (λ x. (x, cursor.new)) result (float_after byte cursor.old) }
 {

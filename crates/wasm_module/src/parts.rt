@@ -47,7 +47,7 @@ impl<'a> Decode<'a> for ValueType {
 
     ghost at = { value_type_at };
 
-    #[tactic(auto, unfolding(crate::specs::internal::TypesReading::value_type_at))]
+    #[tactic(auto, unfolding(wasm_syntax::specs::internal::TypesReading::value_type_at))]
     fn decode(
         _alloc: Global,
         cursor: &mut Cursor<'a>,
@@ -63,7 +63,7 @@ impl<'a> Decode<'a> for BlockType {
 
     ghost at = { block_type_at };
 
-    #[tactic(auto, unfolding(crate::specs::internal::TypesReading::block_type_at))]
+    #[tactic(auto, unfolding(wasm_syntax::specs::internal::TypesReading::block_type_at))]
     fn decode(
         _alloc: Global,
         cursor: &mut Cursor<'a>,
@@ -82,7 +82,7 @@ impl<'a> Decode<'a> for FuncType {
 
     ghost at = { func_type_at };
 
-    #[tactic(auto, unfolding(crate::specs::internal::TypesReading::func_type_at))]
+    #[tactic(auto, unfolding(wasm_syntax::specs::internal::TypesReading::func_type_at))]
     fn decode(
         alloc: Global,
         cursor: &mut Cursor<'a>,
@@ -100,7 +100,7 @@ impl<'a> Decode<'a> for Limits {
 
     ghost at = { λ p. limits_at };
 
-    #[tactic(auto, unfolding(crate::specs::internal::TypesReading::limits_at, crate::specs::internal::TypesReading::bounds_after))]
+    #[tactic(auto, unfolding(wasm_syntax::specs::internal::TypesReading::limits_at, wasm_syntax::specs::internal::TypesReading::bounds_after))]
     fn decode(
         alloc: Global,
         cursor: &mut Cursor<'a>,
@@ -125,7 +125,7 @@ impl<'a> Decode<'a> for Limits {
 }
 
 /// A table's type (section 5.3.6).
-#[tactic(auto, unfolding(crate::specs::internal::TypesReading::table_at))]
+#[tactic(auto, unfolding(wasm_syntax::specs::internal::TypesReading::table_at))]
 fn table_type(alloc: Global, cursor: &mut Cursor<'_>, profile: Profile) -> Result<Limits, LoadFault>
     ensures { Gives (λ x. (x, cursor.new)) result (table_at cursor.old) }
 {
@@ -176,7 +176,7 @@ impl<'a> Decode<'a> for Tables {
 
     ghost at = { λ p. vector_at table_at };
 
-    #[tactic(auto, unfolding(crate::specs::Reading::vector_at))]
+    #[tactic(auto, unfolding(wasm_syntax::specs::Reading::vector_at))]
     fn decode(
         alloc: Global,
         cursor: &mut Cursor<'a>,
@@ -193,7 +193,7 @@ impl<'a> Decode<'a> for Tables {
 impl<'a> Decode<'a> for bool {
     ghost at = { λ p. mutability_at };
 
-    #[tactic(auto, unfolding(crate::specs::internal::TypesReading::mutability_at))]
+    #[tactic(auto, unfolding(wasm_syntax::specs::internal::TypesReading::mutability_at))]
     fn decode(
         _alloc: Global,
         cursor: &mut Cursor<'a>,
@@ -213,7 +213,7 @@ impl<'a> Decode<'a> for GlobalType {
 
     ghost at = { global_type_at };
 
-    #[tactic(auto, unfolding(crate::specs::internal::TypesReading::global_type_at))]
+    #[tactic(auto, unfolding(wasm_syntax::specs::internal::TypesReading::global_type_at))]
     fn decode(
         alloc: Global,
         cursor: &mut Cursor<'a>,
