@@ -15,10 +15,10 @@ use Rattle.wasm_steps.specs.declared.pause.Pause.TheVariants.{Called, Spent, End
 use Rattle.wasm_steps.specs.Configuration.{Val, val, numbers, types, Instance, Store, Code, code, Configuration, at, store_of}
 use Rattle.wasm_steps.specs.Steps.{CallsOf, answers as answered_by, Reach, stays, goes as steps_on, tick}
 use Rattle.wasm_steps.specs.Outcomes.{EndsAs}
-use Rattle.wasm_interp.specs.Snapshots.{Snapshot, StandsFor}
+use Rattle.wasm_operands.specs.Snapshots.{Snapshot, StandsFor}
 use Rattle.wasm_interp.specs.Invocations.{AnswersBy, InvokesBy, TellsStores, results_of, values_of}
-use Rattle.wasm_interp.proofs.Anywhere.{reach_on}
-use Rattle.wasm_interp.proofs.PlainSteps.Lists.{types-reverse}
+use Rattle.wasm_operands.proofs.Anywhere.{reach_on}
+use Rattle.wasm_operands.proofs.PlainSteps.Lists.{types-reverse}
 use Rattle.wasm_interp.proofs.PlainSteps.Arguments.{types_given, numbers_given, given_in_range}
 use Rattle.wasm_interp.proofs.PlainSteps.Answering.{in_types}
 use Rattle.wasm_interp.proofs.PlainSteps.Invoking.{all_turned}

@@ -3,7 +3,7 @@ use Rattle.std.proofs.Common.{◌≡◌, ℕ, ◌≤◌, [], ◌∷◌, sym, ◌
 use Rattle.vol_sector.specs.Disk.{Image}
 use Rattle.wasm_syntax.specs.declared.module.Module.{Module}
 use Rattle.wasm_steps.specs.Steps.{CallsOf}
-use Rattle.wasm_interp.specs.Snapshots.{Snapshot, StandsFor}
+use Rattle.wasm_operands.specs.Snapshots.{Snapshot, StandsFor}
 use Rattle.wasi_calls.specs.host.Worlds.{HostState, Shows}
 use Rattle.wasi_calls.specs.laws.Confined.{HasOnlyDirectoriesOpen}
 use Rattle.wasi_calls.proofs.runs.HostLaws.{are_rows, keep_moments}

@@ -4,7 +4,7 @@ use Rattle.std.specs.Prelude.{◌≡◌, ℕ, true, false, codes, Option}
 use Rattle.std.specs.Option.{option_map}
 use Rattle.wasm_syntax.specs.declared.module.Module.{Module}
 use Rattle.wasm_store.specs.Allocation.{AllLinks, with_embedder}
-use Rattle.wasm_interp.specs.Snapshots.{Snapshot, StandsFor}
+use Rattle.wasm_operands.specs.Snapshots.{Snapshot, StandsFor}
 use Rattle.wasm_interp.specs.Invocations as machine
 use Rattle.wasi_calls.specs.declared.streams.Terminals.{Terminals}
 use Rattle.wasi_calls.specs.declared.host.wasi_host.HostParts.{HostParts}

@@ -2,8 +2,8 @@
 use Rattle.std.proofs.Common.{ℕ, List, [], ◌++◌, Option, Result, Ok, Err, OnOk, OnErr}
 use Rattle.std.specs.Io.KnownBytes.{Appends, Keeps}
 use Rattle.std.proofs.KnownBytes.{Appends-trans, Appends-kept}
-use Rattle.vol_commands.specs.Streams.{AppendsPart}
-use Rattle.vol_tar.proofs.Handed.{part_none}
+use Rattle.stream_answers.specs.Printing.{AppendsPart}
+use Rattle.stream_answers.proofs.Handed.{part_none}
 use Rattle.sandbox_command.specs.Streams.{AppendsSome}
 
 pub no_line : (a b : Option (List ℕ)) → Keeps a b → AppendsSome a b

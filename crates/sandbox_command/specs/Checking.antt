@@ -10,7 +10,7 @@ use Rattle.sandbox_args.specs.declared.request.Task.{Task}
 use Rattle.sandbox_args.specs.declared.request.Task.TheVariants.{List as Ls, ListAs as LsAs, Get, Put, PutWhole, Check, Upgrade, Stat, Change as Changing}
 use Rattle.vol_commands.specs.declared.failure.Failure.{Failure}
 use Rattle.vol_commands.specs.declared.failure.Failure.TheVariants as failure
-use Rattle.vol_commands.specs.Streams.{AppendsPart}
+use Rattle.stream_answers.specs.Printing.{AppendsPart}
 use Rattle.sandbox_command.specs.Streams.{AppendsSome}
 
 -- the sector of a damage, or nothing where it isn't known

@@ -9,7 +9,7 @@ use Rattle.vol_tree.specs.Stands.{StandsAs}
 use Rattle.wasm_syntax.specs.declared.module.Module.{Module}
 use Rattle.wasm_steps.specs.declared.pause.Outcome.{Outcome}
 use Rattle.wasm_steps.specs.Configuration.{first_configuration}
-use Rattle.wasm_interp.specs.Snapshots.{StandsFor}
+use Rattle.wasm_operands.specs.Snapshots.{StandsFor}
 use Rattle.wasi_calls.specs.declared.host.wasi_host.HostParts.{HostParts}
 use Rattle.wasi_calls.specs.host.Worlds.{Hearing}
 use Rattle.sandbox_core.specs.Devices.{Devices, Calls, numbers_of, tree_of}

@@ -5,7 +5,7 @@ use Rattle.std.specs.Prelude.{ℕ, List, [], ◌∷◌, Option}
 use Rattle.vol_sector.specs.Disk.{Image, Disk}
 use Rattle.vol_tree.specs.Stands.{StandsAs}
 use Rattle.wasm_syntax.specs.declared.module.Module.{Module}
-use Rattle.wasm_interp.specs.Snapshots.{StandsFor}
+use Rattle.wasm_operands.specs.Snapshots.{StandsFor}
 use Rattle.wasi_calls.specs.declared.host.wasi_host.HostParts.{HostParts}
 use Rattle.wasi_calls.specs.host.Worlds.{Hearing}
 use Rattle.sandbox_core.specs.Headline.{Upholds}

@@ -10,7 +10,7 @@ use Rattle.wasi_calls.proofs.bodies.StreamsHeard.{unheard}
 use Rattle.wasi_calls.proofs.runs.StreamsKeep.{streams_then}
 use Rattle.sandbox_core.specs.declared.tally.Tally.{Tally}
 use Rattle.sandbox_core.specs.Devices.{Devices}
-use Rattle.wasm_interp.specs.Snapshots.{StandsFor}
+use Rattle.wasm_operands.specs.Snapshots.{StandsFor}
 use Rattle.sandbox_core.specs.Sessions.{FollowBy}
 use Rattle.sandbox_core.specs.Session.{SessionState, Resumes, History, Follow, is_answered, is_called, is_synced}
 use Rattle.sandbox_core.specs.Tally.{Tallies, no_tally}

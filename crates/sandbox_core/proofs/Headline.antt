@@ -44,7 +44,7 @@ use Rattle.std.specs.Io.KnownBytes.{Consumes}
 use Rattle.std.proofs.KnownBytes.{Consumes-nil, Consumes-trans, Appends-nil, Appends-trans}
 use Rattle.sandbox_core.specs.Devices.{Devices, Calls as CallsOn}
 use Rattle.wasi_calls.specs.declared.streams.Terminals.{Terminals}
-use Rattle.wasm_interp.specs.Snapshots.{StandsFor}
+use Rattle.wasm_operands.specs.Snapshots.{StandsFor}
 use Rattle.sandbox_core.specs.Sessions.{SessionState, OpensBy, Shares, History, FollowBy, is_synced, pauses_of, seeded_by}
 use Rattle.sandbox_core.proofs.Following.{heard_follow}
 use Rattle.sandbox_core.proofs.Reaching.{resumes_compose}

@@ -8,7 +8,7 @@ use Rattle.wasm_syntax.specs.declared.module.Module.{Module}
 use Rattle.wasm_store.specs.Instantiation.{Instantiates}
 use Rattle.wasm_steps.specs.Configuration.{Instance, Store, Configuration, first_configuration}
 use Rattle.wasm_steps.specs.Configuration as configuration
-use Rattle.wasm_interp.specs.Snapshots.{StandsFor}
+use Rattle.wasm_operands.specs.Snapshots.{StandsFor}
 use Rattle.wasm_steps.specs.Steps.{Reach}
 use Rattle.wasi_calls.specs.declared.host.wasi_host.HostParts.{HostParts}
 use Rattle.wasi_calls.specs.declared.streams.Terminals.{Terminals}

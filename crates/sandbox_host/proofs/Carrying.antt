@@ -23,7 +23,7 @@ use Rattle.sandbox_host.specs.declared.held.Ended.{Ended}
 use Rattle.sandbox_host.specs.declared.supplies.Supplies.{Supplies}
 use Rattle.sandbox_host.specs.declared.volumes.Origin.{Origin}
 use Rattle.sandbox_host.specs.declared.volumes.Origin.TheVariants.{Fresh, Sectors}
-use Rattle.wasm_interp.specs.Snapshots.{StandsFor}
+use Rattle.wasm_operands.specs.Snapshots.{StandsFor}
 use Rattle.sandbox_host.specs.Host.{State, HostVolume, Commits, known, size_of}
 use Rattle.sandbox_host.specs.Volumes.{IsVolume, RefusesSectors, is_huge, most_sectors}
 use Rattle.sandbox_host.specs.Begun.{BeginsBy, ResumedBy}

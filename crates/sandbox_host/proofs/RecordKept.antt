@@ -11,7 +11,7 @@ use Rattle.sandbox_device.specs.Followed as device
 use Rattle.sandbox_host.specs.declared.numbers.Told.{Told}
 use Rattle.sandbox_host.specs.declared.supplies.Supplies.{Supplies}
 use Rattle.sandbox_host.specs.declared.volumes.Origin.TheVariants.{Sectors}
-use Rattle.wasm_interp.specs.Snapshots.{StandsFor}
+use Rattle.wasm_operands.specs.Snapshots.{StandsFor}
 use Rattle.sandbox_host.specs.Host.{State, HostVolume, known}
 use Rattle.sandbox_host.specs.Begun.{BeginsBy, ResumedBy}
 use Rattle.sandbox_host.specs.KeptRecords.{KeepsRecord}

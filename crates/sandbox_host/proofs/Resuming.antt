@@ -1,7 +1,7 @@
 -- What a host calls on a session is a list of resumes.
 use Rattle.std.proofs.Common.{◌-◌, ◌^◌, min, List, [], ◌∷◌, refl}
 use Rattle.wasm_syntax.specs.declared.module.Module.{Module}
-use Rattle.wasm_interp.specs.Snapshots.{StandsFor}
+use Rattle.wasm_operands.specs.Snapshots.{StandsFor}
 use Rattle.sandbox_core.specs.Sessions.{used_by}
 use Rattle.sandbox_core.specs.Headline as headline
 use Rattle.sandbox_core.specs.Safety as safety

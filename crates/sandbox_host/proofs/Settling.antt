@@ -27,7 +27,7 @@ use Rattle.sandbox_host.specs.declared.supplies.Supplies.{Supplies}
 use Rattle.sandbox_host.specs.declared.volumes.Origin.{Origin}
 use Rattle.sandbox_host.specs.declared.volumes.Origin.TheVariants.{Sectors}
 use Rattle.sandbox_host.specs.Numbers.{call_number, told_end, told_pause}
-use Rattle.wasm_interp.specs.Snapshots.{StandsFor}
+use Rattle.wasm_operands.specs.Snapshots.{StandsFor}
 use Rattle.sandbox_host.specs.Host.{State, HostVolume, Bytes, Commits, IsHonest, disk_of}
 use Rattle.sandbox_host.specs.Begun.{BeginsBy, ResumedBy}
 use Rattle.sandbox_host.specs.Finishing.{returned_device}

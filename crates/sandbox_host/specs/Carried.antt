@@ -11,7 +11,7 @@ use Rattle.sandbox_host.specs.declared.numbers.Told.{Told}
 use Rattle.sandbox_host.specs.declared.held.Ended.{Ended}
 use Rattle.sandbox_host.specs.declared.supplies.Supplies.{Supplies}
 use Rattle.sandbox_host.specs.declared.volumes.Origin.{Origin}
-use Rattle.wasm_interp.specs.Snapshots.{StandsFor}
+use Rattle.wasm_operands.specs.Snapshots.{StandsFor}
 use Rattle.sandbox_host.specs.HostTypes.{State, HostVolume, size_of}
 use Rattle.sandbox_host.specs.Volumes.{IsIn, RefusesSectors, is_huge, most_sectors}
 use Rattle.sandbox_host.specs.Begun.{BeginsBy, ResumedBy}

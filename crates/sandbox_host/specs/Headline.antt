@@ -3,7 +3,7 @@
 -- holds of them.
 use Rattle.std.specs.Prelude.{◌≡◌, List, [], ◌∷◌}
 use Rattle.wasm_syntax.specs.declared.module.Module.{Module}
-use Rattle.wasm_interp.specs.Snapshots.{StandsFor}
+use Rattle.wasm_operands.specs.Snapshots.{StandsFor}
 use Rattle.sandbox_core.specs.Sessions.{History, used_by}
 use Rattle.sandbox_core.specs.Sessions as core
 use Rattle.sandbox_core.specs.Headline as headline

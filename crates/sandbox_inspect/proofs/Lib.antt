@@ -1,4 +1,3 @@
-pub mod Handed
 pub mod Lists
 pub mod Finding
 pub mod Entries

@@ -1,6 +1,6 @@
 -- What `survey` leaves on its writer: the whole text (`Tells`), or nothing or a beginning of it where it fails
 -- (`PrintsBeginning`). A writer's contents are known bytes or unknown ones, hence `Option (List ℕ)`.
-use Rattle.std.specs.Prelude.{◌≡◌, ◌≢◌, ℕ, ◌⊎◌, Bool, true, false, List, ◌++◌, Option, Result, OnOk, IfErr}
+use Rattle.std.specs.Prelude.{◌≡◌, ◌≢◌, ℕ, ◌⊎◌, Bool, true, false, List, Option, Result, OnOk, IfErr}
 use Rattle.std.specs.declared.io.ErrorKind.{ErrorKind}
 use Rattle.std.specs.declared.io.ErrorKind.TheVariants.{OutOfMemory}
 use Rattle.std.specs.Io.KnownBytes.{Appends, Keeps}
@@ -8,14 +8,8 @@ use Rattle.wasm_syntax.specs.declared.fault.LoadFault.{LoadFault}
 use Rattle.wasm_syntax.specs.declared.profile.Profile.{Profile}
 use Rattle.wasm_store.specs.Instantiation.{LinksOf}
 use Rattle.stream_answers.specs.Hearing.{Hears}
+use Rattle.stream_answers.specs.Printing.{AppendsPart}
 use Rattle.sandbox_inspect.specs.Refusal.{IsSurvey}
-
--- known bytes grow by a beginning of the text
-pub record AppendsPart (before after : Option (List ℕ)) (text : List ℕ) : Type 0 where
-  pub part : List ℕ
-  pub rest : List ℕ
-  pub parts : text ≡ part ++ rest
-  pub appended : Appends before after part
 
 -- all that is told of the bytes was printed
 abbrev pub Tells : LinksOf → Profile → List ℕ → Option (List ℕ) → Option (List ℕ) → Result (Unit {0}) LoadFault → Type 0

@@ -8,7 +8,6 @@ mod links;
 mod listing;
 mod naming;
 mod places;
-mod printing;
 mod refusal;
 mod sections;
 mod sites;

@@ -10,12 +10,11 @@ ghost use Rattle.sandbox_inspect.specs.Printing.{HearsPrinting, PrintsBeginning,
 
 use crate::links::Links;
 use crate::listing::add_survey;
-use crate::printing::print_all;
 use crate::refusal::add_refusal;
 use std::alloc::Global;
 use std::io;
 use std::io::{Error, ErrorKind};
-use stream_answers::Outlet;
+use stream_answers::{Outlet, print_all};
 use wasm_module::{LoadFault, Profile, decode_with, one_module_with};
 use wasm_valid::{Valid, validate};
 

@@ -2,7 +2,7 @@
 use Rattle.std.proofs.Common.{ℕ, List, Option}
 use Rattle.std.specs.Io.KnownBytes.{Keeps}
 use Rattle.std.proofs.KnownBytes.{Appends-kept}
-use Rattle.vol_tar.specs.Export.{AppendsPart}
+use Rattle.stream_answers.specs.Printing.{AppendsPart}
 
 -- a flush keeps it
 pub part_kept : (a b c : Option (List ℕ)) (text : List ℕ) → AppendsPart a b text → Keeps b c → AppendsPart a c text

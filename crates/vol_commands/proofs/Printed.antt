@@ -8,9 +8,9 @@ use Rattle.path_walk.specs.Paths.{◌>>=◌}
 use Rattle.sandbox_args.specs.Request.{Text}
 use Rattle.vol_commands.specs.declared.failure.Failure.{Failure}
 use Rattle.vol_commands.specs.declared.failure.Failure.TheVariants as failure
-use Rattle.vol_commands.specs.Streams.{AppendsPart}
+use Rattle.stream_answers.specs.Printing.{AppendsPart}
 use Rattle.vol_commands.specs.Tasks.{Prints, PrintsPart}
-use Rattle.vol_tar.proofs.Handed.{part_none}
+use Rattle.stream_answers.proofs.Handed.{part_none}
 use Rattle.vol_commands.proofs.Handed.{part_kept}
 
 -- a call on the tree is refused

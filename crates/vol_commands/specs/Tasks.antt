@@ -22,7 +22,7 @@ pub use Rattle.vol_tar.specs.Import.{ReflectsAny}
 pub use Rattle.vol_tar.specs.Placing.{BeginWith, emptied}
 use Rattle.sandbox_args.specs.declared.request.ListForm.{ListForm}
 use Rattle.vol_commands.specs.Listing.{listing}
-use Rattle.vol_commands.specs.Streams.{AppendsPart}
+use Rattle.stream_answers.specs.Printing.{AppendsPart}
 
 -- ---- paths
 

@@ -25,4 +25,3 @@ pub use importing::{ImportFailure, import_into};
 pub use laws::removed_tree_takes_all_below;
 pub use opening::{FRESH_SECTORS, open_for_run};
 pub use tasks::perform;
-pub use vol_tar::print_all;

@@ -18,11 +18,11 @@ use Rattle.wasm_steps.specs.Configuration.{Val, Instance, Code, code, label, fra
 use Rattle.wasm_lowering.proofs.Making.{drop_here}
 use Rattle.wasm_interp.specs.Stands.{IsInstanceOf}
 use Rattle.wasm_interp.specs.Frames.{Frame, flat, by_end, by_else, IsLeft, IsFrameOf, AreFrames, AreCalls, AreFramesOf, frame_of}
-use Rattle.wasm_interp.specs.internal.BranchTables.{OwnFunction, HasTargets, Ends}
-use Rattle.wasm_interp.specs.internal.Standing.{Activation, Flat, Program, Ring, inside, Within, Caller, framed, under, IsActive, Back, Stands}
+use Rattle.wasm_operands.specs.internal.BranchTables.{OwnFunction, HasTargets, Ends}
+use Rattle.wasm_operands.specs.internal.Standing.{Activation, Flat, Program, Ring, inside, Within, Caller, framed, under, IsActive, Back, Stands}
 use Rattle.wasm_interp.specs.internal.Programs.{program_of}
 use Rattle.wasm_interp.proofs.PlainSteps.Programs.{text_at, is_text}
-use Rattle.wasm_interp.specs.internal.Awaited.{Awaited}
+use Rattle.wasm_operands.specs.internal.Awaited.{Awaited}
 
 -- ---- what stands in a flat list
 

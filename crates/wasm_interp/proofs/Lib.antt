@@ -1,10 +1,6 @@
-pub mod Anywhere
-pub mod Typings
-pub mod Values
 pub mod Linking
 pub mod PlainSteps
 pub mod Checks
-pub mod Alike
 pub mod FastSteps
 pub mod PlaceSteps
 pub mod Reading

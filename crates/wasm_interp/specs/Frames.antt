@@ -11,11 +11,11 @@ use Rattle.wasm_steps.specs.declared.pause.Outcome.{Outcome}
 use Rattle.wasm_steps.specs.declared.pause.Outcome.TheVariants.{Exited, Trapped, OutOfFuel, OutOfMemory}
 use Rattle.wasm_steps.specs.Configuration.{Val, types, Function, own, Instance, Code, code, label, frame, stopped, Configuration, code_of, used_by, NextIsPlain}
 use Rattle.wasm_steps.specs.Steps.{Reach}
-use Rattle.wasm_interp.specs.declared.activation.Activation.{Activation}
-use Rattle.wasm_interp.specs.declared.phase.Phase.{Phase}
-use Rattle.wasm_interp.specs.declared.phase.Phase.TheVariants.{Within, Between, Refused, Over, Asking}
+use Rattle.wasm_operands.specs.declared.activation.Activation.{Activation}
+use Rattle.wasm_operands.specs.declared.phase.Phase.{Phase}
+use Rattle.wasm_operands.specs.declared.phase.Phase.TheVariants.{Within, Between, Refused, Over, Asking}
 pub use Rattle.wasm_interp.specs.declared.frames.Frame.{Frame}
-use Rattle.wasm_interp.specs.internal.Driving.{NoCalls}
+use Rattle.wasm_operands.specs.internal.Driving.{NoCalls}
 use Rattle.wasm_interp.specs.Machine.{Snapshot}
 
 -- ---- what is left of a function

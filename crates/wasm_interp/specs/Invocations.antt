@@ -1,12 +1,10 @@
 -- What a machine promises whose exported functions are called one after another, each over the store that is there then (section 4.5.5),
 -- by whichever relation its snapshots stand for configurations: `Invoking` says it by the machine's own.
-use Rattle.std.specs.Prelude.{◌≡◌, ◌⊎◌, ℕ, suc, ◌+◌, ◌-◌, ◌<◌, ◌≤◌, ◌^◌, List, [], ◌∷◌, ◌++◌, length, take, drop, reverse, Option, Some, None, slice_get}
+use Rattle.std.specs.Prelude.{◌≡◌, ◌⊎◌, ℕ, suc, ◌+◌, ◌<◌, ◌≤◌, ◌^◌, List, [], ◌∷◌, ◌++◌, length, take, drop, reverse, Option, Some, None, slice_get}
 use Rattle.std.specs.List.{AllByRecursion}
 use Rattle.std.specs.Option.{option_to_list}
 use Rattle.wasm_syntax.specs.declared.instruction.ValueType.{ValueType}
 use Rattle.wasm_syntax.specs.declared.module.FuncType.{FuncType}
-use Rattle.wasm_syntax.specs.declared.module.Import.{Import}
-use Rattle.wasm_syntax.specs.declared.module.ImportKind.TheVariants as imports
 use Rattle.wasm_syntax.specs.declared.module.Module.{Module}
 use Rattle.wasm_syntax.specs.Nested.{done, invoke}
 use Rattle.wasm_steps.specs.Operators.{width}
@@ -17,23 +15,9 @@ use Rattle.wasm_store.specs.Instances.{outside}
 use Rattle.wasm_store.specs.Values.{IsInType}
 use Rattle.plugin_steps.specs.Serving.{Exchange, ServeStep, with_memory}
 use Rattle.plugin_steps.specs.Asking.{Asks}
-use Rattle.wasm_interp.specs.declared.phase.Phase.TheVariants.{Asking}
-use Rattle.wasm_interp.specs.Snapshots.{Snapshot, StandsFor, outcome_of}
-
--- one of the module's own functions has this type
-pub record IsOwnType (m : Module) (x : ℕ) (f : FuncType) : Type 0 where
-  pub is_own : length m.imports ≤ x
-  pub index : ℕ
-  pub function : slice_get m.functions (x - length m.imports) ≡ Some index
-  pub type_is : slice_get m.types index ≡ Some f
-
--- this import is a function of this type
-pub record IsImportType (m : Module) (x : ℕ) (f : FuncType) : Type 0 where
-  pub import : Import
-  pub is_import : slice_get m.imports x ≡ Some import
-  pub index : ℕ
-  pub kind : import.kind ≡ imports.Function index
-  pub type_is : slice_get m.types index ≡ Some f
+use Rattle.wasm_operands.specs.declared.phase.Phase.TheVariants.{Asking}
+use Rattle.wasm_operands.specs.Snapshots.{Snapshot, StandsFor, outcome_of}
+pub use Rattle.wasm_places.specs.FunctionTypes.{IsOwnType, IsImportType}
 
 -- as many numbers as types, each in the range of its type
 pub record Fit (ts : List ValueType) (ns : List ℕ) : Type 0 where

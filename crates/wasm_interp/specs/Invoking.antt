@@ -12,10 +12,11 @@ use Rattle.wasm_interp.specs.declared.invoking.NotInvoked.TheVariants.{Absent}
 use Rattle.wasm_interp.specs.declared.invoking.NotInvoked.TheVariants as notInvoked
 use Rattle.wasm_interp.specs.declared.invoking.NotWritten.{NotWritten}
 use Rattle.wasm_interp.specs.declared.invoking.NotWritten.TheVariants.{AtWork, PastEnd}
-use Rattle.wasm_interp.specs.declared.phase.Phase.TheVariants.{Between}
+use Rattle.wasm_operands.specs.declared.phase.Phase.TheVariants.{Between}
 use Rattle.wasm_interp.specs.Machine.{Snapshot, Represents}
 use Rattle.wasm_interp.specs.Invocations.{InvokesBy, ReturnsBy, AsksBy, AnswersBy, LetsGoBy, WritesBy, OpensBy}
-pub use Rattle.wasm_interp.specs.Invocations.{IsOwnType, IsImportType, Fit, values_of, invocation_over, results_of, IsAskedFor, AnswersAt, TellsStores}
+pub use Rattle.wasm_places.specs.FunctionTypes.{IsOwnType, IsImportType}
+pub use Rattle.wasm_interp.specs.Invocations.{Fit, values_of, invocation_over, results_of, IsAskedFor, AnswersAt, TellsStores}
 
 abbrev pub Opens : AllLinks → ℕ → Module → Snapshot → Type 0
 Opens = OpensBy Represents

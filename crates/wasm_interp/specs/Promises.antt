@@ -10,7 +10,7 @@ use Rattle.wasm_steps.specs.Configuration.{Instance, Store, Configuration, used_
 use Rattle.wasm_steps.specs.Steps.{CallsOf}
 use Rattle.wasm_store.specs.Instantiation.{LinksOf, Instantiates}
 pub use Rattle.wasm_steps.specs.Outcomes.{IsLarge, EndsAs, Paused, UnitsRise, HasItsUnit, end_of}
-use Rattle.wasm_interp.specs.Snapshots.{Snapshot, StandsFor, outcome_of, entries_left}
+use Rattle.wasm_operands.specs.Snapshots.{Snapshot, StandsFor, outcome_of, entries_left}
 
 -- a call that is answered took a unit, or was a function that was entered from outside
 abbrev pub CallProgresses : Pause → Snapshot → Snapshot → Type 0

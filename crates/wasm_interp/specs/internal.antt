@@ -1,16 +1,10 @@
 -- Definitions that only private contracts and proofs cite, and those that `Machine.antt` names. `Plain` is of the plain
 -- machine (of which the fast one shares `chosen`), `Fast` of the fast machine alone.
-pub mod Awaited
-pub mod BranchTables
-pub mod Standing
 pub mod Programs
-pub mod Driving
 pub mod HeldState
 pub mod Plain
 pub mod Running
-pub mod Signatures
 pub mod Begun
 pub mod Invoking
-pub mod Keys
 pub mod Fast
 pub mod InPlaces

@@ -3,13 +3,13 @@
 ghost use Rattle.std.specs.Prelude.{◌≡◌, ◌∷◌, reverse, slice_get};
 ghost use Rattle.wasm_steps.specs.Configuration.{Configuration, Instance};
 ghost use Rattle.wasm_interp.specs.Machine.{Represents, Snapshot, outcome_of};
-ghost use Rattle.wasm_interp.specs.declared.tables.Prepared.{Prepared as PreparedValue};
+ghost use Rattle.wasm_operands.specs.declared.tables.Prepared.{Prepared as PreparedValue};
 ghost use Rattle.wasm_interp.specs.Frames.{Tells, frames_of, is_inside_at};
 ghost use Rattle.wasm_interp.specs.internal.Running.{snapshot_of};
 
-use crate::activation::Activation;
-use crate::phase::Phase;
 use crate::state::State;
+use wasm_operands::activation::Activation;
+use wasm_operands::phase::Phase;
 use wasm_steps::Outcome;
 
 /// A function at work, and the instruction that it goes on with.

@@ -1,31 +1,21 @@
 //! A fuelled WebAssembly machine over a host that answers its calls.
 #![tactic(auto)]
 
-mod activation;
 mod begin;
 mod fast;
 mod first_entry;
 mod frames;
-mod growth;
 mod invoking;
 mod laws;
-mod least;
-mod loads;
 mod machine;
 mod meaning;
-mod pending;
-mod phase;
-mod places;
 mod plain;
 mod plugin;
+mod run_fast;
 mod running;
 mod shared;
 mod state;
-mod stores;
-mod tables;
-mod unary;
 
-pub use activation::Activation;
 pub use frames::{Frame, frames_are_the_configurations};
 pub use invoking::{
     AskedCall, Event, InvokedMachine, MOST_ARGUMENTS, NotAnswered, NotInvoked, NotWritten,
@@ -35,10 +25,11 @@ pub use laws::{
 };
 pub use machine::{Machine, RefusedInstance};
 pub use meaning::{OwnMeaning, SnapshotMeaning, own_meaning_tells_stores};
-pub use phase::{Ask, Phase};
 pub use plugin::PreparedPlugin;
 pub use shared::{PreparedModule, SharedMachine, shared_machines_cross};
 pub use state::MOST_VALUES;
 pub use wasm_num::Trap;
+pub use wasm_operands::activation::Activation;
+pub use wasm_operands::phase::{Ask, Phase};
 pub use wasm_steps::{Outcome, Pause};
 pub use wasm_store::{Answer, Errno, Host, HostCall, InstanceFault, Memory};

@@ -3,13 +3,6 @@
 //! `perform` has the step of each instruction that stays in its function (`work`, `operands`, `operators`, `accesses` do
 //! what it does to the stack and to memory, `float_operands` and `floats` those on floats), `calls` the steps that lead out of it, and `run_plain` goes on by such steps.
 
-pub mod accesses;
 pub mod calls;
-pub mod float_operands;
-pub mod floats;
-pub mod halt;
-pub mod operands;
-pub mod operators;
 pub mod perform;
 pub mod run_plain;
-pub mod work;

@@ -10,10 +10,10 @@ use crate::begin::{open, open_again};
 use crate::first_entry::make_all_entries;
 use crate::invoking::InvokedMachine;
 use crate::machine::RefusedInstance;
-use crate::tables::Prepared;
 use std::alloc::{AllocError, Global};
 use std::marker::Model;
 use std::sync::Arc;
+use wasm_operands::tables::Prepared;
 use wasm_store::{Host, InstanceFault};
 use wasm_valid::Valid;
 

@@ -15,13 +15,13 @@ use Rattle.wasm_steps.specs.Steps.{tick}
 use Rattle.plugin_steps.specs.Serving.{Exchange, AreOf, ServeStep, serves, in_label as serves_label, in_frame as serves_frame}
 use Rattle.plugin_steps.specs.Asking.{Asks, in_label as asks_label, in_frame as asks_frame}
 use Rattle.wasm_interp.specs.Invoking.{Fit, values_of}
-use Rattle.wasm_interp.specs.internal.Awaited.{Awaited}
-use Rattle.wasm_interp.specs.internal.Standing.{Flat, Program, IsProgram, Ring, Caller, inside, labelled, framed, under, TypedWithin, IsInRange, Stands, CallsNext, served}
-use Rattle.wasm_interp.proofs.Values.{length-numbers, types-append, numbers-append}
-use Rattle.wasm_interp.proofs.PlainSteps.Lists.{all_back, all_both}
-use Rattle.wasm_interp.proofs.PlainSteps.Moving.{some_same}
-use Rattle.wasm_interp.proofs.PlainSteps.Calling.{Calls, args_count, args_stack, args_range, find_call, callee_of, indirect_element}
-use Rattle.wasm_interp.proofs.PlainSteps.Ready.{has_top, indirect_takes_one}
+use Rattle.wasm_operands.specs.internal.Awaited.{Awaited}
+use Rattle.wasm_operands.specs.internal.Standing.{Flat, Program, IsProgram, Ring, Caller, inside, labelled, framed, under, TypedWithin, IsInRange, Stands, CallsNext, served}
+use Rattle.wasm_operands.proofs.Values.{length-numbers, types-append, numbers-append}
+use Rattle.wasm_operands.proofs.PlainSteps.Lists.{all_back, all_both}
+use Rattle.wasm_operands.proofs.PlainSteps.Moving.{some_same}
+use Rattle.wasm_places.proofs.PlainSteps.Calling.{Calls, args_count, args_stack, args_range, find_call, callee_of, indirect_element}
+use Rattle.wasm_places.proofs.PlainSteps.Ready.{has_top, indirect_takes_one}
 use Rattle.wasm_interp.proofs.PlainSteps.Frames.{IsCalled, top_there}
 use Rattle.wasm_interp.proofs.PlainSteps.Arguments.{types_given, numbers_given, given_in_range}
 

@@ -4,7 +4,7 @@ use Rattle.std.specs.List.{AllByRecursion}
 use Rattle.wasm_syntax.specs.declared.instruction.ValueType.{ValueType}
 use Rattle.wasm_steps.specs.Configuration.{numbers, types}
 use Rattle.wasm_interp.specs.Invoking.{Fit, values_of}
-use Rattle.wasm_interp.specs.internal.Standing.{IsInRange}
+use Rattle.wasm_operands.specs.internal.Standing.{IsInRange}
 
 pub types_given : (ts : List ValueType) (ns : List ℕ) → length ns ≡ length ts → types (values_of ts ns) ≡ ts
 types_given [] ns e = refl

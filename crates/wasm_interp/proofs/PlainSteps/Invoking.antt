@@ -11,26 +11,27 @@ use Rattle.wasm_store.specs.Values.{IsInType}
 use Rattle.wasm_steps.specs.Configuration.{Val, numbers, types, signature_of, Instance, code, Configuration, at, store_of, used_by, entered}
 use Rattle.wasm_steps.specs.Steps.{CallsOf}
 use Rattle.plugin_steps.specs.Serving.{with_memory}
-use Rattle.wasm_interp.specs.declared.phase.Phase.{Phase}
-use Rattle.wasm_interp.specs.declared.phase.Phase.TheVariants.{Within as within, Between as between, Asking as asking}
-use Rattle.wasm_interp.specs.declared.phase.Ask.{Ask}
-use Rattle.wasm_interp.specs.declared.tables.Prepared.{Prepared}
+use Rattle.wasm_operands.specs.declared.phase.Phase.{Phase}
+use Rattle.wasm_operands.specs.declared.phase.Phase.TheVariants.{Within as within, Between as between, Asking as asking}
+use Rattle.wasm_operands.specs.declared.phase.Ask.{Ask}
+use Rattle.wasm_operands.specs.declared.tables.Prepared.{Prepared}
 use Rattle.wasm_interp.specs.declared.state.State.{State}
 use Rattle.wasm_interp.specs.Machine.{Represents, Snapshot}
 use Rattle.wasm_interp.specs.Invoking.{Answers, AnswersAt, Fit, invocation_over, Invokes, IsAsked, IsImportType, IsLetGo, IsOwnType, IsWritten, Returns, values_of}
-use Rattle.wasm_interp.specs.internal.Awaited.{Awaited, nothing_awaited}
+use Rattle.wasm_operands.specs.internal.Awaited.{Awaited, nothing_awaited}
 use Rattle.wasm_interp.specs.internal.HeldState.{machine_over}
 use Rattle.wasm_interp.specs.internal.Programs.{program_of}
-use Rattle.wasm_interp.specs.internal.Standing.{CallsNext, Flat, IsInRange, IsStore, Program, served, Stands, StandsBetween}
-use Rattle.wasm_interp.specs.internal.Driving.{outcome_at, Machine, MachineStands, StandsAt}
-use Rattle.wasm_interp.specs.internal.Running.{AsksWithin, CanBeAnswered, flat_of, machine_of, snapshot_of, HasRoom, IsInvocable, IsLive, IsProgramOf}
+use Rattle.wasm_operands.specs.internal.Standing.{CallsNext, Flat, IsInRange, IsStore, Program, served, Stands, StandsBetween}
+use Rattle.wasm_operands.specs.internal.Driving.{outcome_at, Machine, MachineStands, StandsAt}
+use Rattle.wasm_places.specs.internal.Programmed.{IsProgramOf}
+use Rattle.wasm_interp.specs.internal.Running.{AsksWithin, CanBeAnswered, flat_of, machine_of, snapshot_of, HasRoom, IsInvocable, IsLive}
 use Rattle.wasm_interp.specs.internal.Invoking.{Entered, HasLetGo, HasStopped, IsAnswered, Waits}
-use Rattle.wasm_interp.proofs.Anywhere.{reach_anywhere}
-use Rattle.wasm_interp.proofs.Values.{numbers-reverse}
+use Rattle.wasm_operands.proofs.Anywhere.{reach_anywhere}
+use Rattle.wasm_operands.proofs.Values.{numbers-reverse}
 use Rattle.wasm_interp.proofs.PlainSteps.Arguments.{types_given, numbers_given, given_in_range}
-use Rattle.wasm_interp.proofs.PlainSteps.Lists.{all_both, reverse_cons, types-reverse}
-use Rattle.wasm_interp.proofs.PlainSteps.Moving.{some_same}
-use Rattle.wasm_interp.proofs.PlainSteps.Driving.{used_at}
+use Rattle.wasm_operands.proofs.PlainSteps.Lists.{all_both, reverse_cons, types-reverse}
+use Rattle.wasm_operands.proofs.PlainSteps.Moving.{some_same}
+use Rattle.wasm_places.proofs.PlainSteps.Driving.{used_at}
 use Rattle.wasm_interp.proofs.PlainSteps.Turns.{is_running}
 use Rattle.wasm_interp.proofs.PlainSteps.Frames.{args_there, machine_is}
 use Rattle.wasm_interp.proofs.PlainSteps.Answering.{above_there, asked_code, asked_numbers, asks_whole, called_next, exchange, in_types, is_served}

@@ -2,9 +2,9 @@
 use Rattle.std.proofs.Common.{◌≡◌, ℕ, ◌∙◌, [], length, ap, arith}
 use Rattle.std.specs.Global.{Vec}
 use Rattle.std.specs.Prelude.{vec_len, vec_capacity}
-use Rattle.wasm_interp.specs.declared.activation.Activation.{Activation}
+use Rattle.wasm_operands.specs.declared.activation.Activation.{Activation}
 use Rattle.wasm_interp.specs.declared.begin.Stacks.{Stacks}
-use Rattle.wasm_interp.specs.declared.phase.Phase.TheVariants.{Between}
+use Rattle.wasm_operands.specs.declared.phase.Phase.TheVariants.{Between}
 use Rattle.wasm_interp.specs.declared.state.State.{State}
 use Rattle.wasm_interp.specs.internal.Begun.{AreEmpty, IsFirst}
 

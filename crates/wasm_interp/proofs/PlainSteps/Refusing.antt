@@ -7,8 +7,8 @@ use Rattle.wasm_syntax.specs.declared.module.Import.{Import}
 use Rattle.wasm_syntax.specs.declared.module.ImportKind.{ImportKind}
 use Rattle.wasm_syntax.specs.declared.module.ImportKind.TheVariants as imports
 use Rattle.wasm_syntax.specs.declared.module.Module.{Module}
-use Rattle.wasm_interp.specs.declared.phase.Ask.{Ask}
-use Rattle.wasm_interp.specs.declared.phase.Phase.TheVariants.{Asking}
+use Rattle.wasm_operands.specs.declared.phase.Ask.{Ask}
+use Rattle.wasm_operands.specs.declared.phase.Phase.TheVariants.{Asking}
 use Rattle.wasm_interp.specs.Invoking.{IsImportType, IsOwnType}
 
 same_some : {X : Type 0} {u v : X} → Some u ≡ Some v → u ≡ v

@@ -3,12 +3,12 @@ use Rattle.std.specs.Prelude.{◌≡◌, ◌⊎◌, ℕ, suc, ◌+◌, ◌≤◌
 use Rattle.wasm_steps.specs.declared.pause.Pause.{Pause}
 use Rattle.wasm_interp.specs.declared.invoking.Event.{Event}
 use Rattle.wasm_interp.specs.declared.invoking.Event.TheVariants.{Asked, Paused, Returned}
-use Rattle.wasm_interp.specs.declared.phase.Phase.{Phase}
-use Rattle.wasm_interp.specs.declared.phase.Phase.TheVariants.{Within, Between, Asking}
-use Rattle.wasm_interp.specs.declared.phase.Ask.{Ask}
-use Rattle.wasm_interp.specs.declared.tables.Prepared.{Prepared}
+use Rattle.wasm_operands.specs.declared.phase.Phase.{Phase}
+use Rattle.wasm_operands.specs.declared.phase.Phase.TheVariants.{Within, Between, Asking}
+use Rattle.wasm_operands.specs.declared.phase.Ask.{Ask}
+use Rattle.wasm_operands.specs.declared.tables.Prepared.{Prepared}
 use Rattle.wasm_interp.specs.declared.state.State.{State}
-use Rattle.wasm_interp.specs.internal.Awaited.{nothing_awaited}
+use Rattle.wasm_operands.specs.internal.Awaited.{nothing_awaited}
 use Rattle.wasm_interp.specs.internal.Running.{AsksWithin, GoesOn}
 
 -- all that was at work is gone, and this function is entered next with these arguments

@@ -2,18 +2,18 @@
 
 ghost use Rattle.std.specs.Prelude.{◌≡◌, suc, ◌+◌, ◌^◌, ◌<◌, ◌≤◌, [], ◌∷◌, OnOk, IfErr, length, max, reverse, slice_index_or, vec_len, vec_capacity};
 ghost use Rattle.wasm_branch.specs.declared.target.Target.{Target as TargetValue};
-ghost use Rattle.wasm_interp.specs.internal.Standing.{branched};
-ghost use Rattle.wasm_interp.specs.internal.Plain.Performing.{IsReady};
-ghost use Rattle.wasm_interp.specs.internal.Plain.FlatSteps.{BranchesIf, CanBranch, CanBranchIf, CanPick, FlatStep, IsReadyFor, Picks, TestsOne, Works};
+ghost use Rattle.wasm_operands.specs.internal.Standing.{branched};
+ghost use Rattle.wasm_operands.specs.internal.Plain.Performing.{IsReady};
+ghost use Rattle.wasm_places.specs.internal.Plain.FlatSteps.{BranchesIf, CanBranch, CanBranchIf, CanPick, FlatStep, IsReadyFor, Picks, TestsOne, Works};
 ghost use Rattle.wasm_interp.specs.internal.Running.{flat_of, Halts, Pushes, Stays};
 
-use crate::growth::reserve_within;
-use crate::plain::halt::Halt;
-use crate::plain::operands::{operand, pop, push, unwind};
-use crate::plain::work::work;
 use crate::state::State;
 use wasm_branch::{Target, TargetTable as BodyTargets};
 use wasm_module::Instruction;
+use wasm_operands::growth::reserve_within;
+use wasm_operands::halt::Halt;
+use wasm_operands::operands::{operand, pop, push, unwind};
+use wasm_operands::work::work;
 
 impl State {
     /// Goes on at this position of the function, one unit later.

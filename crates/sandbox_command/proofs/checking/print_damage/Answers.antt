@@ -1,9 +1,9 @@
 use Rattle.std.proofs.Common.{◌≡◌, ℕ, List, ◌++◌, ◌∙◌, ap, subst, OnErr, OnOk}
 use Rattle.std.specs.Io.KnownBytes.{Appends}
 use Rattle.std.proofs.KnownBytes.{Keeps-refl}
-use Rattle.vol_commands.specs.Streams.{AppendsPart}
+use Rattle.stream_answers.specs.Printing.{AppendsPart}
 use Rattle.vol_tar.proofs.Results.{on_err}
-use Rattle.vol_tar.proofs.Handed.{part_none}
+use Rattle.stream_answers.proofs.Handed.{part_none}
 use Rattle.sandbox_command.specs.Checking.{damage_lines}
 use Rattle.sandbox_command.proofs.checking.print_damage.Goals as goal
 

@@ -6,7 +6,7 @@ use Rattle.vol_inode.specs.declared.version.Version.{Version}
 use Rattle.vol_tar.proofs.Blamed.{hears_so}
 use Rattle.vol_commands.specs.Blame.{blames_stream}
 use Rattle.vol_commands.specs.declared.failure.Failure.TheVariants as failure
-use Rattle.vol_commands.specs.Streams.{AppendsPart}
+use Rattle.stream_answers.specs.Printing.{AppendsPart}
 use Rattle.vol_commands.specs.Tasks.{summary}
 use Rattle.vol_commands.specs.internal.Lines.{summary_line}
 use Rattle.vol_commands.proofs.Blamed.{blame}

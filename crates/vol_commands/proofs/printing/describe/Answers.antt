@@ -3,11 +3,11 @@ use Rattle.std.specs.Io.KnownBytes.{Appends}
 use Rattle.std.proofs.KnownBytes.{Keeps-refl}
 use Rattle.stream_answers.specs.Hearing.{Moves, Refuses, stays}
 use Rattle.vol_tree.specs.Tree.{Tree, entry}
-use Rattle.vol_commands.specs.Streams.{AppendsPart}
+use Rattle.stream_answers.specs.Printing.{AppendsPart}
 use Rattle.vol_commands.specs.Tasks.{facts_at, serial_named}
 use Rattle.vol_commands.proofs.Described.{facts_told}
 use Rattle.vol_tar.proofs.Blamed.{hears_none, hears_so}
-use Rattle.vol_tar.proofs.Handed.{part_none}
+use Rattle.stream_answers.proofs.Handed.{part_none}
 use Rattle.vol_commands.proofs.Blamed.{blame}
 use Rattle.vol_commands.proofs.Printed.{named_prints, stream_refused, tree_refused, walk_refused}
 use Rattle.path_walk.proofs.Chaining.{asked_then}

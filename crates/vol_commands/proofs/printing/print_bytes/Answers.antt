@@ -14,7 +14,7 @@ use Rattle.vol_commands.proofs.Printed.{stream_refused, tree_refused}
 use Rattle.std.proofs.KnownBytes.{Keeps-refl}
 use Rattle.vol_commands.specs.Blame.{blames_device, blames_stream}
 use Rattle.vol_commands.specs.declared.failure.Failure.TheVariants as failure
-use Rattle.vol_tar.proofs.Handed.{part_none}
+use Rattle.stream_answers.proofs.Handed.{part_none}
 use Rattle.vol_commands.proofs.printing.print_bytes.Goals as goal
 
 pub loop-n-preserved : goal.loop-n-preserved

@@ -11,12 +11,12 @@ use Rattle.path_walk.specs.Walk.{Asked}
 use Rattle.path_walk.proofs.Chaining.{asked_then}
 use Rattle.stream_answers.specs.Hearing.{Moves, Refuses, stays}
 use Rattle.stream_answers.proofs.Hearing.{then}
-use Rattle.vol_commands.specs.Streams.{AppendsPart}
+use Rattle.stream_answers.specs.Printing.{AppendsPart}
 use Rattle.vol_commands.specs.Listing.{line_in, line_of, listing}
 use Rattle.vol_commands.proofs.Asking.{works_on}
 use Rattle.vol_commands.proofs.Listing.{next_child_is, no_child_left}
 use Rattle.vol_tar.proofs.Blamed.{hears_none, hears_so}
-use Rattle.vol_tar.proofs.Handed.{part_then}
+use Rattle.stream_answers.proofs.Handed.{part_then}
 use Rattle.vol_commands.specs.Blame.{blames_stream}
 use Rattle.vol_commands.specs.declared.failure.Failure.TheVariants as failure
 use Rattle.vol_commands.proofs.Blamed.{blame}

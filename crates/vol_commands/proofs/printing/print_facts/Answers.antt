@@ -1,6 +1,6 @@
 use Rattle.std.proofs.Common.{◌≡◌, ℕ, List, ◌∙◌, subst, OnErr, OnOk}
 use Rattle.std.specs.Io.KnownBytes.{Appends}
-use Rattle.vol_commands.specs.Streams.{AppendsPart}
+use Rattle.stream_answers.specs.Printing.{AppendsPart}
 use Rattle.vol_commands.specs.internal.Lines.{stat_facts}
 use Rattle.vol_commands.proofs.printing.print_facts.Goals as goal
 

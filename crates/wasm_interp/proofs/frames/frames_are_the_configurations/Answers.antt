@@ -1,12 +1,12 @@
 use Rattle.std.proofs.Common.{◌≡◌, [], refl, sym, subst, ap, ◌∙◌, arith, inl, inr}
 use Rattle.wasm_steps.specs.declared.pause.Outcome.TheVariants as ends
 use Rattle.wasm_steps.specs.Configuration.{Configuration, at, Instance, code_of, store_of, used_by}
-use Rattle.wasm_interp.specs.declared.phase.Phase.{Phase}
-use Rattle.wasm_interp.specs.declared.phase.Phase.TheVariants.{Within as within, Between as between, Refused as refused, Over as over, Asking as asking}
+use Rattle.wasm_operands.specs.declared.phase.Phase.{Phase}
+use Rattle.wasm_operands.specs.declared.phase.Phase.TheVariants.{Within as within, Between as between, Refused as refused, Over as over, Asking as asking}
 use Rattle.wasm_interp.specs.Frames.{AreFrames, Tells, WereFrames, frames_at, frames_within}
 use Rattle.wasm_interp.specs.Machine.{Represents, Snapshot}
-use Rattle.wasm_interp.specs.internal.Standing.{Flat, Program}
-use Rattle.wasm_interp.specs.internal.Driving.{outcome_at, StandsAt, Stood}
+use Rattle.wasm_operands.specs.internal.Standing.{Flat, Program}
+use Rattle.wasm_operands.specs.internal.Driving.{outcome_at, StandsAt, Stood}
 use Rattle.wasm_interp.specs.internal.HeldState.{IsStateOf, machine_over}
 use Rattle.wasm_interp.specs.internal.Programs.{program_of}
 use Rattle.wasm_interp.proofs.Framing.{frames_told}

@@ -1,4 +1,4 @@
-use Rattle.wasm_interp.proofs.PlainSteps.AtRest.{taken_between}
+use Rattle.wasm_operands.proofs.PlainSteps.AtRest.{taken_between}
 use Rattle.wasm_interp.proofs.invoking.below.Goals as goal
 
 pub returns : goal.returns

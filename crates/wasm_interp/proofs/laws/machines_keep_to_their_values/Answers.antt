@@ -2,17 +2,17 @@ use Rattle.std.proofs.Common.{◌≡◌, ◌++◌, length, reverse, None, Some, 
 use Rattle.std.proofs.lemmas.List.{length-reverse}
 use Rattle.wasm_steps.specs.declared.pause.Outcome.TheVariants as ends
 use Rattle.wasm_steps.specs.Configuration.{Configuration, code, code_of, store_of, values_in}
-use Rattle.wasm_interp.specs.declared.phase.Phase.{Phase}
-use Rattle.wasm_interp.specs.declared.phase.Phase.TheVariants.{Within as within, Between as between, Refused as refused, Over as over, Asking as asking}
+use Rattle.wasm_operands.specs.declared.phase.Phase.{Phase}
+use Rattle.wasm_operands.specs.declared.phase.Phase.TheVariants.{Within as within, Between as between, Refused as refused, Over as over, Asking as asking}
 use Rattle.wasm_interp.specs.Machine.{Represents}
-use Rattle.wasm_interp.specs.internal.Standing.{Flat, Program, Stands, inside, labelled, under}
-use Rattle.wasm_interp.specs.internal.Driving.{outcome_at, StandsAt}
+use Rattle.wasm_operands.specs.internal.Standing.{Flat, Program, Stands, inside, labelled, under}
+use Rattle.wasm_operands.specs.internal.Driving.{outcome_at, StandsAt}
 use Rattle.wasm_interp.specs.internal.HeldState.{machine_over}
 use Rattle.wasm_interp.specs.internal.Programs.{program_of}
-use Rattle.wasm_interp.proofs.Values.{length-numbers}
+use Rattle.wasm_operands.proofs.Values.{length-numbers}
 use Rattle.wasm_interp.proofs.PlainSteps.Large.{values_framed, values_inside}
 use Rattle.wasm_interp.proofs.laws.machines_keep_to_their_values.Goals as goal
-use Rattle.wasm_interp.specs.internal.Awaited.{Awaited}
+use Rattle.wasm_operands.specs.internal.Awaited.{Awaited}
 
 -- the values of a configuration are those on the stack: inside a function
 counted_within : (p : Program) (s : Flat) (pending : Awaited) (c : Configuration) → Stands p pending s c → values_in (code_of c) ≡ length s.stack

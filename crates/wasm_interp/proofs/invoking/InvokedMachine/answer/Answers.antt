@@ -5,12 +5,12 @@ use Rattle.std.specs.Option.{option_to_list}
 use Rattle.wasm_syntax.specs.declared.instruction.ValueType.{ValueType}
 use Rattle.wasm_syntax.specs.declared.module.FuncType.{FuncType}
 use Rattle.wasm_syntax.specs.declared.module.Module.{Module}
-use Rattle.wasm_interp.specs.declared.tables.Prepared.{Prepared}
+use Rattle.wasm_operands.specs.declared.tables.Prepared.{Prepared}
 use Rattle.wasm_interp.specs.Invoking.{Fit, IsImportType}
 use Rattle.wasm_interp.specs.internal.Invoking.{IsAnswered}
 use Rattle.wasm_interp.proofs.PlainSteps.Invoking.{answered_invocable, answers_of, arguments_asked}
 use Rattle.wasm_interp.proofs.PlainSteps.Refusing.{ask_once}
-use Rattle.wasm_interp.specs.declared.phase.Ask.{Ask}
+use Rattle.wasm_operands.specs.declared.phase.Ask.{Ask}
 use Rattle.wasm_interp.proofs.invoking.InvokedMachine.answer.Goals as goal
 
 -- a result, if there is one, as a list

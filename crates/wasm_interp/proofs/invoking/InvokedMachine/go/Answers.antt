@@ -3,11 +3,11 @@ use Rattle.std.specs.Prelude.{◌⊎◌, IfSome, IfNone}
 use Rattle.std.specs.Arc.{arc_value}
 use Rattle.wasm_steps.specs.declared.pause.Pause.{Pause}
 use Rattle.wasm_interp.specs.declared.invoking.Event.TheVariants.{Asked, Paused, Returned}
-use Rattle.wasm_interp.specs.declared.phase.Ask.{Ask}
-use Rattle.wasm_interp.specs.declared.phase.Phase.{Phase}
-use Rattle.wasm_interp.specs.declared.phase.Phase.TheVariants.{Within, Between, Refused, Over, Asking}
+use Rattle.wasm_operands.specs.declared.phase.Ask.{Ask}
+use Rattle.wasm_operands.specs.declared.phase.Phase.{Phase}
+use Rattle.wasm_operands.specs.declared.phase.Phase.TheVariants.{Within, Between, Refused, Over, Asking}
 use Rattle.wasm_interp.specs.declared.state.State.{State}
-use Rattle.wasm_interp.specs.declared.tables.Prepared.{Prepared}
+use Rattle.wasm_operands.specs.declared.tables.Prepared.{Prepared}
 use Rattle.wasm_interp.specs.Invoking.{IsAsked}
 use Rattle.wasm_interp.specs.internal.Invoking.{HasStopped, Waits, event_of}
 use Rattle.wasm_interp.specs.internal.Running.{IsLive, Pauses, snapshot_of}

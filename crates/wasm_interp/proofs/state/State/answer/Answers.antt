@@ -1,6 +1,6 @@
 use Rattle.std.proofs.Common.{◌≡◌, ◌∙◌, ℕ, ◌+◌, suc, List, ◌++◌, drop, ap, arith}
 use Rattle.std.specs.Option.{option_to_list}
-use Rattle.wasm_interp.specs.declared.phase.Phase.TheVariants.{Within}
+use Rattle.wasm_operands.specs.declared.phase.Phase.TheVariants.{Within}
 use Rattle.wasm_interp.specs.declared.state.State.{State}
 use Rattle.wasm_interp.proofs.state.State.answer.Goals as goal
 

@@ -3,7 +3,7 @@ use Rattle.std.specs.Prelude.{◌⊎◌}
 use Rattle.std.proofs.lemmas.Grind.{common_steps}
 use Rattle.wasm_num.specs.declared.trap.Trap.TheVariants as traps
 use Rattle.wasm_steps.specs.declared.pause.Outcome.TheVariants as ends
-use Rattle.wasm_interp.specs.declared.phase.Phase.TheVariants.{Over as over}
+use Rattle.wasm_operands.specs.declared.phase.Phase.TheVariants.{Over as over}
 use Rattle.wasm_interp.specs.declared.state.State.{State}
 use Rattle.wasm_interp.specs.internal.Running.{flat_of, stopped, refused, entered, HasRoom}
 use Rattle.wasm_interp.proofs.PlainSteps.Between.{room_phase, room_widened}

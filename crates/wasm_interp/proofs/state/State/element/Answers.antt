@@ -1,7 +1,7 @@
 use Rattle.std.proofs.Common.{◌≡◌, ◌<◌, Some, length, reverse, refl, sym, ap, ◌∙◌, arith}
 use Rattle.std.specs.Prelude.{slice_get, slice_index}
 use Rattle.std.proofs.lemmas.Option.{slice_get_read}
-use Rattle.wasm_interp.proofs.PlainSteps.Moving.{some_same}
+use Rattle.wasm_operands.proofs.PlainSteps.Moving.{some_same}
 use Rattle.wasm_interp.proofs.state.State.element.Goals as goal
 
 pub index-signature-requires : goal.index-signature-requires

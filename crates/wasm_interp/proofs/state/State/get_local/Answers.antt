@@ -3,7 +3,7 @@ use Rattle.std.specs.Prelude.{slice_get}
 use Rattle.std.proofs.lemmas.List.{reverse-reverse}
 use Rattle.std.proofs.lemmas.Option.{slice_get_read}
 use Rattle.wasm_interp.specs.declared.state.State.{State}
-use Rattle.wasm_interp.specs.internal.Standing.{worked}
+use Rattle.wasm_operands.specs.internal.Standing.{worked}
 use Rattle.wasm_interp.specs.internal.Running.{Pushes, flat_of}
 use Rattle.wasm_interp.proofs.state.State.get_local.Goals as goal
 

@@ -1,6 +1,0 @@
-use Rattle.std.proofs.Common.{arith}
-use Rattle.std.proofs.lemmas.Grind.{common_steps}
-use Rattle.wasm_interp.proofs.growth.grow.Goals as goal
-
-pub returns-clause-bound : goal.returns-clause-bound
-returns-clause-bound c = grind (arith, common_steps)

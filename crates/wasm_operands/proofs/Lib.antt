@@ -1,0 +1,4 @@
+pub mod Anywhere
+pub mod Values
+pub mod PlainSteps
+pub mod Alike

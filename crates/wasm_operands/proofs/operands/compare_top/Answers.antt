@@ -1,0 +1,12 @@
+use Rattle.std.proofs.Common.{arith}
+use Rattle.std.proofs.lemmas.Grind.{common_steps}
+use Rattle.wasm_operands.proofs.operands.compare_top.Goals as goal
+
+pub operand-first-requires : goal.operand-first-requires
+operand-first-requires c = grind (arith, common_steps)
+
+pub operand-second-requires : goal.operand-second-requires
+operand-second-requires c = grind (arith, common_steps)
+
+pub replace-requires-clause-there : goal.replace-requires-clause-there
+replace-requires-clause-there c = grind (arith, common_steps)

@@ -1,0 +1,15 @@
+use Rattle.std.proofs.Common.{arith}
+use Rattle.std.proofs.lemmas.Grind.{common_steps}
+use Rattle.wasm_operands.proofs.operands.select_top.Goals as goal
+
+pub operand-condition-requires : goal.operand-condition-requires
+operand-condition-requires c = grind (arith, common_steps)
+
+pub operand-first-requires : goal.operand-first-requires
+operand-first-requires c = grind (arith, common_steps)
+
+pub operand-second-requires : goal.operand-second-requires
+operand-second-requires c = grind (arith, common_steps)
+
+pub replace-requires-clause-there : goal.replace-requires-clause-there
+replace-requires-clause-there c = grind (arith, common_steps)

@@ -1,0 +1,9 @@
+-- Definitions that only private contracts and proofs cite, and those that `Machine.antt` names. `Plain` is of the plain
+-- machine (of which the fast one shares `chosen`), `Fast` of the fast machine alone.
+pub mod Awaited
+pub mod BranchTables
+pub mod Standing
+pub mod Driving
+pub mod Plain
+pub mod Signatures
+pub mod Keys

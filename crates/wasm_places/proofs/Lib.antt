@@ -1,0 +1,4 @@
+pub mod Typings
+pub mod PlainSteps
+pub mod FastSteps
+pub mod PlaceSteps

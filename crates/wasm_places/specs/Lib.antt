@@ -1,0 +1,2 @@
+pub mod FunctionTypes
+pub mod internal
