@@ -1,17 +1,9 @@
 -- One node's line more.
-use Rattle.std.proofs.Common.{◌≡◌, ◌<◌, ◌+◌, ℕ, suc, List, [], ◌∷◌, ◌++◌, Option, Some, None, length, slice_index, drop, append_assoc, append-nil, refl, sym, ap, subst, ◌∙◌, arith}
-use Rattle.std.specs.Io.KnownBytes.{Appends}
+use Rattle.std.proofs.Common.{◌≡◌, ◌<◌, ◌+◌, ℕ, suc, List, [], ◌∷◌, ◌++◌, length, slice_index, drop, append_assoc, append-nil, refl, sym, ap, subst, ◌∙◌, arith}
 use Rattle.run_profile.specs.declared.stacks.Call.{Call}
 use Rattle.run_profile.specs.Stacks.{IsStack}
 use Rattle.run_profile.specs.Folded.{Text, line_text, IsFolded, nothing, none, some}
 use Rattle.run_profile.proofs.Trees.{split}
-
--- two texts, one after the other
-pub appends_on : (a b c : Option (List ℕ)) (x y : List ℕ) → Appends a b x → Appends b c y → Appends a c (x ++ y)
-appends_on None b c x y first next = tt
-appends_on (Some xs) None c x y first next = absurd first
-appends_on (Some xs) (Some ys) None x y first next = absurd next
-appends_on (Some xs) (Some ys) (Some zs) x y first next = next ∙ ap (λ (front : List ℕ). front ++ y) first ∙ append_assoc xs x y
 
 module _ (calls : List Call) (name : ℕ → Text) (units : List ℕ) where
   -- with the text of the nodes from here on it is the text of all

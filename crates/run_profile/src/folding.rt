@@ -1,7 +1,7 @@
 //! A profile as text: folded stacks, a line each.
 
 ghost use Rattle.std.specs.Prelude.{◌≡◌, ◌<◌, ◌++◌, ℕ, List, OnOk, length, slice_index};
-ghost use Rattle.std.specs.Io.KnownBytes.{Appends};
+ghost use Rattle.stream_answers.specs.Printing.{IsPrinted};
 ghost use Rattle.run_profile.specs.Folded.{IsFolded, cut_text, line_text, stack_text};
 ghost use Rattle.run_profile.specs.Stacks.{IsStack};
 
@@ -9,6 +9,7 @@ use crate::stacks::FuelProfile;
 use std::alloc::Global;
 use std::io;
 use std::io::Write;
+use stream_answers::{Outlet, print_all};
 
 /// What functions are called.
 pub trait Names {
@@ -43,7 +44,7 @@ fn cut_line(is_cut: bool) -> &'static [u8]
 
 impl FuelProfile {
     /// Prints the line of a node with units.
-    fn print_node<N: Names, W: Write>(
+    fn print_node<N: Names, W: Outlet>(
         &self,
         alloc: Global,
         names: &N,
@@ -52,25 +53,25 @@ impl FuelProfile {
     ) -> io::Result<()>
         requires { node < length self.now.units }
         ensures { OnOk result ((functions : List ℕ) × IsStack self.now.calls node functions
-            × Appends (W.contents out.old) (W.contents out.new)
-            (line_text (N.text names.now) functions (slice_index self.now.units node))) }
+            × IsPrinted W.took W.contents out.old
+            (line_text (N.text names.now) functions (slice_index self.now.units node)) out.new) }
     {
         let functions = self.functions_at(alloc, node)?;
         let mut line = Vec::new(alloc);
         add_stack(names, &mut line, functions.as_slice())?;
         writeln!(line, " {}", self.units_at(node))?;
-        out.write_all(line.as_slice())
+        print_all(out, line.as_slice())
     }
 
     /// Prints the lines of all nodes with units.
-    fn print_stacks<N: Names, W: Write>(
+    fn print_stacks<N: Names, W: Outlet>(
         &self,
         alloc: Global,
         names: &N,
         out: &mut W,
     ) -> io::Result<()>
         ensures { OnOk result ((text : List ℕ) × IsFolded self.now.calls (N.text names.now) 0
-            self.now.units text × Appends (W.contents out.old) (W.contents out.new) text) }
+            self.now.units text × IsPrinted W.took W.contents out.old text out.new) }
     {
         for node in 0..self.nodes() {
             if self.units_at(node) > 0 {
@@ -84,12 +85,17 @@ impl FuelProfile {
     /// first, with a semicolon between two, a blank, and the units. The units of all lines are those that were added. Where some were
     /// added to a function below the one that took them, a line `[cut] 0` comes last; no other line has 0. Where it fails, some of it may
     /// have been printed.
-    pub fn print<N: Names, W: Write>(&self, alloc: Global, names: &N, out: &mut W) -> io::Result<()>
+    pub fn print<N: Names, W: Outlet>(
+        &self,
+        alloc: Global,
+        names: &N,
+        out: &mut W,
+    ) -> io::Result<()>
         ensures { OnOk result ((text : List ℕ) × IsFolded self.now.calls (N.text names.now) 0
-            self.now.units text × Appends (W.contents out.old) (W.contents out.new)
-            (text ++ cut_text self.now.is_cut)) }
+            self.now.units text × IsPrinted W.took W.contents out.old
+            (text ++ cut_text self.now.is_cut) out.new) }
     {
         self.print_stacks(alloc, names, out)?;
-        out.write_all(cut_line(self.is_cut()))
+        print_all(out, cut_line(self.is_cut()))
     }
 }

@@ -4,11 +4,7 @@ use Rattle.std.specs.Io.KnownBytes.{Appends}
 use Rattle.std.specs.IoError.{error_kind}
 use Rattle.std.specs.declared.io.Error.{Error}
 use Rattle.sandbox_args.specs.Request.{Text}
-use Rattle.sandbox_command.specs.Places.{Access, Took, WasRefused, took, was_refused}
-
-pub taken : {X : Type 0} (name text : Text) (r : Result X Error) → OnOk r (Took name text)
-taken name text (Ok x) = took name text
-taken name text (Err e) = tt
+use Rattle.sandbox_command.specs.Places.{Access, WasRefused, was_refused}
 
 -- of a file that doesn't tell its bytes nothing is known
 pub nothing_told : {X : Type 0} (text : Text) (r : Result X Error) → OnOk r (Appends None None text)

@@ -13,7 +13,7 @@ use Rattle.sandbox_device.specs.Written.{CutsOnce, CutsUnless, WasCut}
 use Rattle.sandbox_args.specs.Request.{Text}
 use Rattle.stream_answers.specs.System.{HasRefused, WasGiven as Gave}
 use Rattle.sandbox_command.specs.declared.host_volume.HostVolume.{HostVolume}
-use Rattle.sandbox_command.specs.Reading.{AtLast, IsWhole}
+use Rattle.stream_answers.specs.Pieces.{AtLast, IsWhole}
 use Rattle.sandbox_command.specs.System.{IsImageOfName, IsOutput, IsRead, IsVolume, WasGiven}
 
 -- what holds of a success holds of it where it is passed on

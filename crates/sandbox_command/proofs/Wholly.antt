@@ -1,6 +1,6 @@
 -- A stream that is read whole.
 use Rattle.std.proofs.Common.{◌≡◌, ◌+◌, ◌-◌, ◌≤◌, ◌++◌, ◌∙◌, ℕ, List, [], ◌∷◌, length, length-append, append-nil, sym, ap, refl, subst, arith}
-use Rattle.sandbox_command.specs.Reading.{Gives}
+use Rattle.stream_answers.specs.Pieces.{Gives}
 
 no_bytes : (xs : List ℕ) → length xs ≡ 0 → xs ≡ []
 no_bytes [] none = refl

@@ -24,7 +24,6 @@ pub mod Archive
 pub mod Alone
 pub mod ListOfTests
 pub mod Formatting
-pub mod Reading
 pub mod System
 pub mod Files
 pub mod internal

@@ -1,8 +1,8 @@
 -- What is asked of `Places`, through which all is done with files, by name
 -- (`crates/sandbox_command/src/places.rt`): contracts over any `Places` say by `Chain` what was asked for between two
--- of its states, in which order. `Took`, `WasRefused` and `WasEnded` stand for what the system did
--- with a named file, and for what a command gave up; only the proofs of `HostPlaces` introduce them. Of files that are opened, and of a
--- volume or a tree that is given, `System` has the evidence.
+-- of its states, in which order. `WasRefused` and `WasEnded` stand for what the system refused,
+-- and for what a command gave up; only the proofs of `HostPlaces` introduce them. Of files that are opened, of what is printed into
+-- them, and of a volume or a tree that is given, `System` has the evidence.
 use Rattle.std.specs.Prelude.{◌≡◌, ◌⊎◌, ◌≤◌, ◌++◌, ℕ, Bool, true, false, List, [], ◌∷◌, Option, Some, None}
 use Rattle.std.specs.Borrow.{Bor}
 use Rattle.std.specs.declared.io.ErrorKind.{ErrorKind}
@@ -108,16 +108,8 @@ abbrev pub IsOfRandom : (Text → Text → Type 0) → Option (Bor Text) → Tex
 IsOfRandom is_beginning None bytes = bytes ≡ []
 IsOfRandom is_beginning (Some file) bytes = is_beginning file.now bytes
 
--- The system took this text into the file that it gave for the name; or refused this, and why; or this was given up as it is. No contract says
--- which bytes a named file has, nor what the system refuses, so `took` and the like show it of anything; but only
--- the proofs of `HostPlaces` cite these, and all others see relations of which they know nothing.
-pub Took : Text → Text → Type 0
-Took name text = Unit {0}
-
-pub took : (name text : Text) → Took name text
-unfolding Took
-took name text = tt
-
+-- The system refused this, and why; or this was given up as it is. No contract says what the system refuses, so `was_refused` and
+-- `was_ended` show it of anything; but only the proofs of `HostPlaces` cite these, and all others see relations of which they know nothing.
 pub WasRefused : Access → ErrorKind → Type 0
 WasRefused access kind = Unit {0}
 

@@ -12,11 +12,16 @@ use Rattle.sandbox_device.specs.Written.{CutsOnce, WasCut}
 use Rattle.sandbox_args.specs.Request.{Text}
 use Rattle.stream_answers.specs.System.{HasRefused, WasGiven as Gave}
 use Rattle.sandbox_command.specs.declared.host_volume.HostVolume.{HostVolume}
-use Rattle.sandbox_command.specs.Reading.{AtLast, IsWhole}
+use Rattle.stream_answers.specs.Pieces.{AtLast, Gives, IsWhole}
+use Rattle.sandbox_command.specs.Flushing.{FileTook}
 
 -- It was opened or made under this name, and at the most cut since.
 abbrev pub IsOutput : Text → FileOutput → Type 0
 IsOutput name it = WasOpened name it.on.file ⊎ ((made : FileOutput) × WasOpened name made.on.file × CutsOnce WasCut made.on it.on)
+
+-- A file that was opened or made under this name, and at the most cut since, took this text, piece by piece.
+abbrev pub WasPrinted : (name text : Text) → Type 0
+WasPrinted name text = (it : FileOutput) × IsOutput name it × (after : FileOutput) × Gives FileTook it text after
 
 -- It was opened under this name and locked, and its sectors are those that were read of it.
 abbrev pub IsVolume : Text → HostVolume → Type 0

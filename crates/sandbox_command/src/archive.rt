@@ -14,7 +14,7 @@ use sandbox_args::Run;
 use sandbox_device::RamDevice;
 use sandbox_report::{Fault, Summary, VolumeEnd};
 use std::alloc::Global;
-use std::io::Write;
+use stream_answers::Outlet;
 use vol_commands::{Failure, ImportFailure, format_as, import_into};
 use vol_inode::Version;
 use vol_sector::VolumeFault;
@@ -157,7 +157,7 @@ fn import_reason(failure: &ImportFailure) -> Fault
 }
 
 /// Prints why the tar stream of a run is refused, as `import` says it, and gives the status.
-pub(crate) fn refuse_archive<W: Write>(err: &mut W, run: &Run<'_>, failure: &ImportFailure) -> u8
+pub(crate) fn refuse_archive<W: Outlet>(err: &mut W, run: &Run<'_>, failure: &ImportFailure) -> u8
     ensures status { result ≡ import_status failure.now }
     ensures lines { AppendsSome (W.contents err.old) (W.contents err.new) }
 {

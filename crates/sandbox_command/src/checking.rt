@@ -9,7 +9,6 @@ ghost use Rattle.sandbox_command.specs.Status.{ended_status, failure_status};
 
 use crate::ending::ended;
 use crate::explaining::About;
-use crate::output::print_all;
 use crate::program::{Executed, FAULT, left_with};
 use crate::streams::Streams;
 use arrayvec::ArrayVec;
@@ -17,7 +16,7 @@ use sandbox_args::Task;
 use sandbox_report::rule_text;
 use std::io::Write;
 use std::{fmt, io};
-use stream_answers::Outlet;
+use stream_answers::{Outlet, print_all};
 use vol_commands::Failure;
 use vol_sector::{Damage, VolumeFault};
 
@@ -52,7 +51,7 @@ fn add_damage(lines: &mut PrintedLines, damage: Damage) -> io::Result<()>
 }
 
 /// Prints the lines of a damage. Where that fails, a beginning of them may have been printed.
-fn print_damage<W: Write>(err: &mut W, damage: Damage) -> io::Result<()>
+fn print_damage<W: Outlet>(err: &mut W, damage: Damage) -> io::Result<()>
     ensures all { OnOk result
         (Appends (W.contents err.old) (W.contents err.new) (damage_lines damage)) }
     ensures part { OnErr result
@@ -64,7 +63,7 @@ fn print_damage<W: Write>(err: &mut W, damage: Damage) -> io::Result<()>
 }
 
 /// Prints the lines of a damage, or a beginning of them.
-fn tell_damage<W: Write>(err: &mut W, damage: Damage)
+fn tell_damage<W: Outlet>(err: &mut W, damage: Damage)
     ensures { AppendsPart (W.contents err.old) (W.contents err.new) (damage_lines damage) }
 {
     let _ = print_damage(err, damage);
@@ -82,7 +81,7 @@ fn checked_damage(task: Task<'_>, done: Result<(), Failure>) -> Option<Damage>
 
 /// Ends a task as `ended` does, but where a volume that is checked is damaged it also tells where and how, before it says what the
 /// fault means.
-pub(crate) fn ended_task<D: Drop, R: Drop, W1: Outlet + Drop, W2: Write + Drop>(
+pub(crate) fn ended_task<D: Drop, R: Drop, W1: Outlet + Drop, W2: Outlet + Drop>(
     task: Task<'_>,
     done: Result<(), Failure>,
     device: D,

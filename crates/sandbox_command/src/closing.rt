@@ -34,7 +34,8 @@ use sandbox_device::{Hindrance, RamDevice};
 use sandbox_report::{End, Fault, Summary, VolumeEnd};
 use std::alloc::Global;
 use std::io;
-use std::io::{ErrorKind, Write};
+use std::io::ErrorKind;
+use stream_answers::Outlet;
 use vol_commands::{ExportFailure, export_from};
 use vol_tar::TarReason;
 
@@ -63,7 +64,7 @@ pub(crate) struct Ending {
 }
 
 /// Prints the lines of how a run of a module ended, and what they mean, if that is said.
-fn tell_ending<W: Write>(
+fn tell_ending<W: Outlet>(
     alloc: Global,
     err: &mut W,
     run: &Run<'_>,
@@ -83,7 +84,7 @@ fn tell_ending<W: Write>(
 }
 
 /// Prints the lines of how a run of a module ended, and gives that, where it stopped, and all that the run had.
-pub(crate) fn finished<D: Drop, I: Drop, O: Write + Drop, R: Drop, W1: Drop, W2: Write + Drop>(
+pub(crate) fn finished<D: Drop, I: Drop, O: Outlet + Drop, R: Drop, W1: Drop, W2: Outlet + Drop>(
     alloc: Global,
     run: &Run<'_>,
     module: &[u8],
@@ -134,7 +135,7 @@ fn has_begun(summary: &Option<Summary>) -> bool
 }
 
 /// Says that a file was written in place, and why, where it was.
-fn tell_hindrance<W: Write>(err: &mut W, path: &str, hindrance: Option<Hindrance>)
+fn tell_hindrance<W: Outlet>(err: &mut W, path: &str, hindrance: Option<Hindrance>)
     ensures { AppendsSome (W.contents err.old) (W.contents err.new) }
 {
     match hindrance {
@@ -170,7 +171,7 @@ fn not_kept(summary: Option<Summary>) -> Option<Summary>
 }
 
 /// Says how a run ended, in the place of this, of which this file couldn't get what it was to get.
-fn undelivered<W: Write>(err: &mut W, path: &str, kind: ErrorKind, ending: Ending) -> Ending
+fn undelivered<W: Outlet>(err: &mut W, path: &str, kind: ErrorKind, ending: Ending) -> Ending
     ensures status { result.status ≡ 124 }
     ensures summary { result.summary ≡ option_map lost ending.summary }
     ensures lines { AppendsSome (W.contents err.old) (W.contents err.new) }
@@ -184,7 +185,7 @@ fn undelivered<W: Write>(err: &mut W, path: &str, kind: ErrorKind, ending: Endin
 }
 
 /// Hands out the volume of a run that began, as it has ended, where that is asked for.
-pub(crate) fn handed_out<P: Places, W: Write>(
+pub(crate) fn handed_out<P: Places, W: Outlet>(
     places: &mut P,
     name: Option<&str>,
     device: &RamDevice,
@@ -244,7 +245,7 @@ fn not_given(summary: Option<Summary>, failure: ExportFailure, status: u8) -> Op
 }
 
 /// Says how a run ended, in the place of this, whose tree couldn't be printed for this file.
-fn ungiven<W: Write>(err: &mut W, path: &str, failure: ExportFailure, ending: Ending) -> Ending
+fn ungiven<W: Outlet>(err: &mut W, path: &str, failure: ExportFailure, ending: Ending) -> Ending
     ensures status { result.status ≡ export_status failure }
     ensures summary { result.summary ≡ option_map (ungiven failure) ending.summary }
     ensures lines { AppendsSome (W.contents err.old) (W.contents err.new) }
@@ -262,7 +263,7 @@ fn ungiven<W: Write>(err: &mut W, path: &str, failure: ExportFailure, ending: En
 }
 
 /// Hands over all that an export printed, and gives how the run ended then.
-fn given_over<P: Places, W: Write>(
+fn given_over<P: Places, W: Outlet>(
     places: &mut P,
     path: &str,
     stream: &[u8],
@@ -283,7 +284,7 @@ fn given_over<P: Places, W: Write>(
 }
 
 /// Hands over what an export printed, where it printed all, and gives how the run ended then.
-fn handed_over<P: Places, W: Write>(
+fn handed_over<P: Places, W: Outlet>(
     places: &mut P,
     path: &str,
     stream: &[u8],
@@ -302,7 +303,7 @@ fn handed_over<P: Places, W: Write>(
 }
 
 /// Gives the tree of the volume of a run that began as a tar stream, as it has ended, where that is asked for. Gives the device back.
-fn given<P: Places, W: Write>(
+fn given<P: Places, W: Outlet>(
     alloc: Global,
     places: &mut P,
     name: Option<&str>,
@@ -327,7 +328,7 @@ fn given<P: Places, W: Write>(
 }
 
 /// Hands out the volume of a run that began, and gives its tree, as it has ended, where that is asked for.
-pub(crate) fn delivered<P: Places, R: Drop, W1: Drop, W2: Write + Drop>(
+pub(crate) fn delivered<P: Places, R: Drop, W1: Drop, W2: Outlet + Drop>(
     alloc: Global,
     places: &mut P,
     run: &Run<'_>,
@@ -399,7 +400,7 @@ fn print_stacks<P: Places>(
 }
 
 /// Prints where the fuel of a run of a module of these bytes went into its file, and gives how the run ended then.
-fn print_use<P: Places, W: Write>(
+fn print_use<P: Places, W: Outlet>(
     alloc: Global,
     places: &mut P,
     name: &str,
@@ -439,7 +440,7 @@ fn fuel_use_in(stopped: Option<Stopped>) -> Option<FuelUse>
 
 /// Prints the profile of a run of a module of these bytes into its file, where one is named, and gives how the run ended then: with
 /// the status 124 where it can't be printed. The file of a run that didn't begin is given up as it is.
-pub(crate) fn profiled<P: Places, W: Write>(
+pub(crate) fn profiled<P: Places, W: Outlet>(
     alloc: Global,
     places: &mut P,
     run: &Run<'_>,
@@ -468,7 +469,7 @@ pub(crate) fn profiled<P: Places, W: Write>(
 }
 
 /// Prints the report of a run, with these lines of where it stopped, into its file, and gives the status: that of the run, or 124 where the report can't be printed.
-pub(crate) fn told<P: Places, W: Write>(
+pub(crate) fn told<P: Places, W: Outlet>(
     places: &mut P,
     name: Option<&str>,
     report: Option<P::Output>,
@@ -507,7 +508,7 @@ pub(crate) fn unread(run: &Run<'_>, error: &io::Error) -> Summary
 }
 
 /// Prints which file was refused, and why, where its name is known.
-fn tell_refused<P: Places, W: Write>(places: &P, error: &io::Error, err: &mut W)
+fn tell_refused<P: Places, W: Outlet>(places: &P, error: &io::Error, err: &mut W)
     ensures { AppendsSome (W.contents err.old) (W.contents err.new) }
 {
     tell_of_kind(
@@ -518,7 +519,7 @@ fn tell_refused<P: Places, W: Write>(places: &P, error: &io::Error, err: &mut W)
 }
 
 /// Refuses a file that can't be read or written, by lines that go into none of the command's files.
-pub(crate) fn refuse<P: Places, W: Write>(places: &P, error: &io::Error, err: &mut W) -> u8
+pub(crate) fn refuse<P: Places, W: Outlet>(places: &P, error: &io::Error, err: &mut W) -> u8
     ensures status { result ≡ file_status (error_kind error.now) }
     ensures line { AppendsSome (W.contents err.old) (W.contents err.new) }
 {

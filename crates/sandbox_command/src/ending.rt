@@ -11,7 +11,6 @@ use crate::output::{tell, tell_of_member};
 use crate::program::{Executed, FAULT, left_with, out_of_memory, refuse_file};
 use crate::streams::Streams;
 use meanings::{errno_cure, errno_text};
-use std::io::Write;
 use stream_answers::Outlet;
 use tar_stream::TarFault;
 use vol_commands::{ExportFailure, Failure, ImportFailure};
@@ -24,13 +23,13 @@ pub(crate) trait Failed {
     ghost fails_with: { Self → ℕ };
 
     /// Prints its line, what it means for this command, and gives the status.
-    fn say<W: Write>(&self, err: &mut W, about: &About<'_>) -> u8
+    fn say<W: Outlet>(&self, err: &mut W, about: &About<'_>) -> u8
         ensures status { result ≡ fails_with self.now }
         ensures line { AppendsSome (W.contents err.old) (W.contents err.new) };
 }
 
 /// Prints the line of a failure, and gives the status.
-fn say_failure<W: Write>(err: &mut W, failure: Failure) -> u8
+fn say_failure<W: Outlet>(err: &mut W, failure: Failure) -> u8
     ensures status { result ≡ failure_status failure }
     ensures line { AppendsSome (W.contents err.old) (W.contents err.new) }
 {
@@ -44,7 +43,7 @@ fn say_failure<W: Write>(err: &mut W, failure: Failure) -> u8
 }
 
 /// Prints what a failure means for a command.
-fn tell_of_failure<W: Write>(err: &mut W, failure: Failure, about: &About<'_>)
+fn tell_of_failure<W: Outlet>(err: &mut W, failure: Failure, about: &About<'_>)
     ensures { AppendsSome (W.contents err.old) (W.contents err.new) }
 {
     match failure {
@@ -57,7 +56,7 @@ fn tell_of_failure<W: Write>(err: &mut W, failure: Failure, about: &About<'_>)
 impl Failed for Failure {
     ghost fails_with = { failure_status };
 
-    fn say<W: Write>(&self, err: &mut W, about: &About<'_>) -> u8 {
+    fn say<W: Outlet>(&self, err: &mut W, about: &About<'_>) -> u8 {
         let status = say_failure(err, *self);
         tell_of_failure(err, *self, about);
         status
@@ -67,7 +66,7 @@ impl Failed for Failure {
 impl Failed for ImportFailure {
     ghost fails_with = { import_status };
 
-    fn say<W: Write>(&self, err: &mut W, about: &About<'_>) -> u8 {
+    fn say<W: Outlet>(&self, err: &mut W, about: &About<'_>) -> u8 {
         match self {
             ImportFailure::Volume(fault) => Failure::Volume(*fault).say(err, about),
             ImportFailure::Path(errno) => Failure::Tree(*errno).say(err, about),
@@ -79,7 +78,7 @@ impl Failed for ImportFailure {
 impl Failed for ExportFailure {
     ghost fails_with = { export_status };
 
-    fn say<W: Write>(&self, err: &mut W, about: &About<'_>) -> u8 {
+    fn say<W: Outlet>(&self, err: &mut W, about: &About<'_>) -> u8 {
         match self {
             ExportFailure::Volume(fault) => Failure::Volume(*fault).say(err, about),
             ExportFailure::Path(errno) => Failure::Tree(*errno).say(err, about),
@@ -89,7 +88,7 @@ impl Failed for ExportFailure {
 }
 
 /// Prints the line of an archive that is refused, and gives the status.
-fn say_why<W: Write>(err: &mut W, why: TarReason) -> u8
+fn say_why<W: Outlet>(err: &mut W, why: TarReason) -> u8
     ensures status { result ≡ why_status why }
     ensures line { AppendsSome (W.contents err.old) (W.contents err.new) }
 {
@@ -103,7 +102,7 @@ fn say_why<W: Write>(err: &mut W, why: TarReason) -> u8
 }
 
 /// Prints why an archive is refused, and gives the status.
-fn refuse_why<W: Write>(err: &mut W, why: TarReason, about: &About<'_>) -> u8
+fn refuse_why<W: Outlet>(err: &mut W, why: TarReason, about: &About<'_>) -> u8
     ensures status { result ≡ why_status why }
     ensures line { AppendsSome (W.contents err.old) (W.contents err.new) }
 {
@@ -113,7 +112,7 @@ fn refuse_why<W: Write>(err: &mut W, why: TarReason, about: &About<'_>) -> u8
 }
 
 /// Prints what it means that an archive is refused so.
-fn tell_of_archive<W: Write>(err: &mut W, why: TarReason, about: &About<'_>)
+fn tell_of_archive<W: Outlet>(err: &mut W, why: TarReason, about: &About<'_>)
     ensures { AppendsSome (W.contents err.old) (W.contents err.new) }
 {
     match why {
@@ -133,7 +132,7 @@ fn tell_of_archive<W: Write>(err: &mut W, why: TarReason, about: &About<'_>)
 }
 
 /// Prints why a member is refused, behind its name where that is known, and gives the status.
-fn refuse_member<W: Write>(err: &mut W, refusal: &Refusal, about: &About<'_>) -> u8
+fn refuse_member<W: Outlet>(err: &mut W, refusal: &Refusal, about: &About<'_>) -> u8
     ensures status { result ≡ why_status refusal.now.why }
     ensures line { AppendsSome (W.contents err.old) (W.contents err.new) }
 {
@@ -148,7 +147,7 @@ fn refuse_member<W: Write>(err: &mut W, refusal: &Refusal, about: &About<'_>) ->
 }
 
 /// Prints what it means that a member is refused so.
-fn tell_of_refused_member<W: Write>(err: &mut W, name: &[u8], why: TarReason)
+fn tell_of_refused_member<W: Outlet>(err: &mut W, name: &[u8], why: TarReason)
     ensures { AppendsSome (W.contents err.old) (W.contents err.new) }
 {
     match why {
@@ -167,7 +166,7 @@ fn tell_of_refused_member<W: Write>(err: &mut W, name: &[u8], why: TarReason)
 }
 
 /// Prints the line of an output that can't be flushed, and gives its status.
-fn refuse_output<W: Write>(err: &mut W) -> u8
+fn refuse_output<W: Outlet>(err: &mut W) -> u8
     ensures status { result ≡ 124 }
     ensures line { AppendsSome (W.contents err.old) (W.contents err.new) }
 {
@@ -183,7 +182,7 @@ pub(crate) fn ended<
     D: Drop,
     R: Drop,
     W1: Outlet + Drop,
-    W2: Write + Drop,
+    W2: Outlet + Drop,
 >(
     done: Result<X, F>,
     device: D,

@@ -9,7 +9,8 @@ use crate::work::VolumeWork;
 use meanings::{errno_cure, errno_text, fault_cure, fault_text};
 use sandbox_args::{Change, Task};
 use sandbox_report::Fault;
-use std::io::{ErrorKind, Write};
+use std::io::ErrorKind;
+use stream_answers::Outlet;
 use vol_inode::Version;
 use vol_sector::VolumeFault;
 use vol_tree::Errno;
@@ -28,7 +29,7 @@ pub(crate) struct About<'a> {
 }
 
 /// Prints a part of a line behind another one, where it has bytes.
-pub(crate) fn say_part<W: Write>(err: &mut W, part: &[u8])
+pub(crate) fn say_part<W: Outlet>(err: &mut W, part: &[u8])
     ensures { AppendsSome (W.contents err.old) (W.contents err.new) }
 {
     if part.is_empty() {
@@ -39,7 +40,7 @@ pub(crate) fn say_part<W: Write>(err: &mut W, part: &[u8])
 }
 
 /// Prints what a name means, and what helps, where that is known, as the end of a line.
-pub(crate) fn say_meaning<W: Write>(err: &mut W, meaning: &str, cure: &str)
+pub(crate) fn say_meaning<W: Outlet>(err: &mut W, meaning: &str, cure: &str)
     ensures { AppendsSome (W.contents err.old) (W.contents err.new) }
 {
     say_part(err, meaning.as_bytes());
@@ -48,14 +49,14 @@ pub(crate) fn say_meaning<W: Write>(err: &mut W, meaning: &str, cure: &str)
 }
 
 /// Prints a line about something that has a name.
-pub(crate) fn tell_words<W: Write>(err: &mut W, name: &str, meaning: &str, cure: &str)
+pub(crate) fn tell_words<W: Outlet>(err: &mut W, name: &str, meaning: &str, cure: &str)
     ensures { AppendsSome (W.contents err.old) (W.contents err.new) }
 {
     tell_bytes(err, name.as_bytes(), meaning, cure);
 }
 
 /// The same about a name that may not be text.
-pub(crate) fn tell_bytes<W: Write>(err: &mut W, name: &[u8], meaning: &str, cure: &str)
+pub(crate) fn tell_bytes<W: Outlet>(err: &mut W, name: &[u8], meaning: &str, cure: &str)
     ensures { AppendsSome (W.contents err.old) (W.contents err.new) }
 {
     say(err, b"sandbox: ");
@@ -64,7 +65,7 @@ pub(crate) fn tell_bytes<W: Write>(err: &mut W, name: &[u8], meaning: &str, cure
 }
 
 /// Prints what a fault of a file means.
-pub(crate) fn tell_of_fault<W: Write>(err: &mut W, name: &str, fault: Fault)
+pub(crate) fn tell_of_fault<W: Outlet>(err: &mut W, name: &str, fault: Fault)
     ensures { AppendsSome (W.contents err.old) (W.contents err.new) }
 {
     match fault.number() {
@@ -79,7 +80,7 @@ pub(crate) fn tell_of_fault<W: Write>(err: &mut W, name: &str, fault: Fault)
 }
 
 /// Prints why a file of the host is refused, by the kind of the error.
-pub(crate) fn tell_of_kind<W: Write>(err: &mut W, name: &str, kind: ErrorKind)
+pub(crate) fn tell_of_kind<W: Outlet>(err: &mut W, name: &str, kind: ErrorKind)
     ensures { AppendsSome (W.contents err.old) (W.contents err.new) }
 {
     let (meaning, cure) = match kind {
@@ -145,7 +146,7 @@ fn is_of_input(work: VolumeWork<'_>) -> bool {
 }
 
 /// Prints that an output can't be written.
-pub(crate) fn tell_of_output<W: Write>(err: &mut W, name: &str)
+pub(crate) fn tell_of_output<W: Outlet>(err: &mut W, name: &str)
     ensures { AppendsSome (W.contents err.old) (W.contents err.new) }
 {
     tell_words(
@@ -157,7 +158,7 @@ pub(crate) fn tell_of_output<W: Write>(err: &mut W, name: &str)
 }
 
 /// Prints a line about two paths.
-fn tell_of_two<W: Write>(err: &mut W, from: &str, to: &str, meaning: &str, cure: &str)
+fn tell_of_two<W: Outlet>(err: &mut W, from: &str, to: &str, meaning: &str, cure: &str)
     ensures { AppendsSome (W.contents err.old) (W.contents err.new) }
 {
     say(err, b"sandbox: ");
@@ -194,7 +195,7 @@ impl<'a> About<'a> {
     }
 
     /// Prints what an errno means that its paths were answered with.
-    pub(crate) fn tell_of_errno<W: Write>(&self, err: &mut W, errno: Errno)
+    pub(crate) fn tell_of_errno<W: Outlet>(&self, err: &mut W, errno: Errno)
         ensures { AppendsSome (W.contents err.old) (W.contents err.new) }
     {
         let number = u32::from(errno.number());
@@ -212,7 +213,7 @@ impl<'a> About<'a> {
     }
 
     /// Prints why its volume is refused.
-    pub(crate) fn tell_of_volume<W: Write>(&self, err: &mut W, fault: VolumeFault)
+    pub(crate) fn tell_of_volume<W: Outlet>(&self, err: &mut W, fault: VolumeFault)
         ensures { AppendsSome (W.contents err.old) (W.contents err.new) }
     {
         let fault = Fault::Volume(fault);
@@ -228,7 +229,7 @@ impl<'a> About<'a> {
     }
 
     /// Prints that its stream failed.
-    pub(crate) fn tell_of_stream<W: Write>(&self, err: &mut W)
+    pub(crate) fn tell_of_stream<W: Outlet>(&self, err: &mut W)
         ensures { AppendsSome (W.contents err.old) (W.contents err.new) }
     {
         if is_of_input(self.work) {
@@ -242,7 +243,7 @@ impl<'a> About<'a> {
 }
 
 /// Prints which number of a volume that is to be formatted is out of its range.
-fn tell_of_range<W: Write>(err: &mut W, version: Version, sectors: u32, slots: u32)
+fn tell_of_range<W: Outlet>(err: &mut W, version: Version, sectors: u32, slots: u32)
     ensures { AppendsSome (W.contents err.old) (W.contents err.new) }
 {
     let meaning = fault_text(RANGE);

@@ -1,15 +1,17 @@
 //! The files of the system, as a command holds them.
 
-ghost use Rattle.std.specs.Prelude.{◌≡◌, ◌≤◌, IfOk, Ok, OnOk, false, length, min, string_bytes};
+ghost use Rattle.std.specs.Prelude.{◌≡◌, ◌≤◌, ◌++◌, IfOk, Ok, OnOk, false, length, min, string_bytes};
 ghost use Rattle.sandbox_device.specs.Contents.{bytes_of};
 ghost use Rattle.sandbox_device.specs.FileEvidence.{WasLocked};
 ghost use Rattle.sandbox_device.specs.Named.{WasOpened};
 ghost use Rattle.sandbox_device.specs.Ram.{joined_sectors};
+ghost use Rattle.sandbox_report.specs.Reporting.{report_text};
 ghost use Rattle.sandbox_args.specs.Request.{Text};
 ghost use Rattle.sandbox_command.specs.Files.{file_disk};
 ghost use Rattle.sandbox_command.specs.Profiling.{IsProfile};
-ghost use Rattle.sandbox_command.specs.Places.{HasRoom, Took, WasEnded, WasRefused};
-ghost use Rattle.sandbox_command.specs.System.{IsImageOfName, IsOutput, IsRead, IsVolume, WasGiven};
+ghost use Rattle.sandbox_command.specs.Places.{HasRoom, WasEnded, WasRefused};
+ghost use Rattle.stream_answers.specs.Printing.{IsPrinted};
+ghost use Rattle.sandbox_command.specs.System.{IsImageOfName, IsOutput, IsRead, IsVolume, WasGiven, WasPrinted};
 
 use crate::clashing::clashes;
 use crate::host_volume::HostVolume;
@@ -27,6 +29,7 @@ use std::alloc::Global;
 use std::fs::File;
 use std::io::{ErrorKind, Write};
 use std::{fs, io};
+use stream_answers::{Outlet, print_all};
 use vol_commands::MAGIC;
 
 /// The most bytes of a list of tests.
@@ -310,10 +313,14 @@ impl<'a> HostPlaces<'a> {
     /// Prints a report into a file that has no other part in its line, and ends the line.
     fn print_apart(
         &mut self,
+        name: &str,
         file: &mut FileOutput,
         summary: &Summary,
         lines: &[u8],
-    ) -> io::Result<()> {
+    ) -> io::Result<()>
+        requires { IsOutput name.now file.old }
+        ensures { OnOk result (WasPrinted name.now (report_text summary.now ++ lines.now)) }
+    {
         let report = match file.identity() {
             Ok(it) if self.held.is_apart(it) => it,
             _ => {
@@ -322,19 +329,30 @@ impl<'a> HostPlaces<'a> {
             }
         };
         self.held.end_line(report, summary)?;
-        summary.print(file)?;
-        file.write_all(lines)
+        print_report(file, summary, lines)
     }
+}
+
+/// Prints a report, and further lines of it.
+fn print_report<W: Outlet>(out: &mut W, summary: &Summary, lines: &[u8]) -> io::Result<()>
+    ensures { OnOk result (IsPrinted W.took W.contents out.old
+        (report_text summary.now ++ lines.now) out.new) }
+{
+    summary.print(out)?;
+    print_all(out, lines)
 }
 
 /// Prints a profile, also one that has no line: then its file is cut.
 fn print_stacks<N: Names>(
     alloc: Global,
+    name: &str,
     file: &mut FileOutput,
     stacks: &FuelProfile,
     names: &N,
 ) -> io::Result<()>
-    ensures { OnOk result ((text : Text) × IsProfile (N.text names.now) stacks.now text) }
+    requires { IsOutput name.now file.old }
+    ensures { OnOk result ((text : Text) × IsProfile (N.text names.now) stacks.now text
+        × WasPrinted name.now text) }
 {
     stacks.print(alloc, names, file)?;
     file.flush()
@@ -363,7 +381,7 @@ impl<'a> Places for HostPlaces<'a> {
 
     ghost is_beginning = { IsRead };
 
-    ghost printed = { λ name text before after. Took name text };
+    ghost printed = { λ name text before after. WasPrinted name text };
 
     ghost handed_out = { λ name device before after. WasGiven name (joined_sectors device.sectors) };
 
@@ -435,23 +453,23 @@ impl<'a> Places for HostPlaces<'a> {
 
     fn print(
         &mut self,
-        _name: &str,
+        name: &str,
         file: &mut FileOutput,
         summary: &Summary,
         lines: &[u8],
     ) -> io::Result<()> {
-        self.print_apart(file, summary, lines)
+        self.print_apart(name, file, summary, lines)
     }
 
     fn print_profile<N: Names>(
         &mut self,
         alloc: Global,
-        _name: &str,
+        name: &str,
         file: &mut FileOutput,
         stacks: &FuelProfile,
         names: &N,
     ) -> io::Result<()> {
-        print_stacks(alloc, file, stacks, names)
+        print_stacks(alloc, name, file, stacks, names)
     }
 
     fn end<X: Drop>(&mut self, it: X) {

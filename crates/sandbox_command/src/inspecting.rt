@@ -12,7 +12,7 @@ use crate::streams::Streams;
 use sandbox_inspect::{Links, survey};
 use std::alloc::Global;
 use std::io;
-use std::io::{ErrorKind, Write};
+use std::io::ErrorKind;
 use stream_answers::Outlet;
 use wasi_calls::call_of;
 use wasm_module::{FuncType, LoadFault, Profile};
@@ -32,7 +32,7 @@ impl Links for Served {
 }
 
 /// Prints the line of memory or of an output that is refused, and gives the status.
-fn refuse_survey<W: Write>(err: &mut W, error: &io::Error) -> u8
+fn refuse_survey<W: Outlet>(err: &mut W, error: &io::Error) -> u8
     ensures status { result ≡ refused_status (error_kind error.now) }
     ensures line { AppendsSome (W.contents err.old) (W.contents err.new) }
 {
@@ -44,7 +44,7 @@ fn refuse_survey<W: Write>(err: &mut W, error: &io::Error) -> u8
 
 /// Prints the line of memory or of an output that is refused, and gives the status. A module that is refused has no line of
 /// its own: it stands on the output.
-fn survey_ended<W: Write>(
+fn survey_ended<W: Outlet>(
     surveyed: io::Result<Result<(), LoadFault>>,
     flushed: bool,
     err: &mut W,
@@ -62,7 +62,7 @@ fn survey_ended<W: Write>(
 }
 
 /// Prints what the bytes of a module are, with what the profile takes, or why they are refused, and gives the status with the streams.
-pub(crate) fn inspect<R: Drop, W1: Outlet + Drop, W2: Write + Drop>(
+pub(crate) fn inspect<R: Drop, W1: Outlet + Drop, W2: Outlet + Drop>(
     alloc: Global,
     bytes: &[u8],
     profile: Profile,

@@ -31,7 +31,6 @@ use sandbox_device::RamDevice;
 use sandbox_report::{End, Fault, Summary};
 use std::alloc::Global;
 use std::io;
-use std::io::Write;
 use stream_answers::{Inlet, Outlet};
 
 /// The names of a test's files.
@@ -263,7 +262,7 @@ fn run_all<'m, P: Places>(
 }
 
 /// Prints the line of what refuses all tests of a module of these bytes, and what it means.
-fn refuse_all<W: Write>(alloc: Global, err: &mut W, run: &Run<'_>, module: &[u8], fault: Fault)
+fn refuse_all<W: Outlet>(alloc: Global, err: &mut W, run: &Run<'_>, module: &[u8], fault: Fault)
     ensures { AppendsSome (W.contents err.old) (W.contents err.new) }
 {
     tell_fault(err, fault);
@@ -283,7 +282,7 @@ fn wrong_line(list: &str) -> Option<usize> {
 }
 
 /// Prints which line of a list is no test, or what else the fault of a list means.
-fn tell_of_list<W: Write>(err: &mut W, list: &str, text: &str, fault: Fault)
+fn tell_of_list<W: Outlet>(err: &mut W, list: &str, text: &str, fault: Fault)
     ensures { AppendsSome (W.contents err.old) (W.contents err.new) }
 {
     match (fault, wrong_line(text)) {
@@ -293,7 +292,7 @@ fn tell_of_list<W: Write>(err: &mut W, list: &str, text: &str, fault: Fault)
 }
 
 /// Prints the line of a list that isn't taken, and what it means, and gives the status.
-fn refuse_list<W: Write>(err: &mut W, list: &str, text: &str, fault: SessionFault) -> u8
+fn refuse_list<W: Outlet>(err: &mut W, list: &str, text: &str, fault: SessionFault) -> u8
     ensures status { result ≡ session_status fault }
     ensures line { AppendsSome (W.contents err.old) (W.contents err.new) }
 {
@@ -303,7 +302,7 @@ fn refuse_list<W: Write>(err: &mut W, list: &str, text: &str, fault: SessionFaul
 }
 
 /// Prints that not each test has run, and gives the status.
-fn refuse_tests<W: Write>(err: &mut W, run: &Run<'_>) -> u8
+fn refuse_tests<W: Outlet>(err: &mut W, run: &Run<'_>) -> u8
     ensures status { result ≡ 124 }
     ensures line { AppendsSome (W.contents err.old) (W.contents err.new) }
 {
@@ -318,7 +317,7 @@ fn refuse_tests<W: Write>(err: &mut W, run: &Run<'_>) -> u8
 }
 
 /// Decodes a module, prepares it once, and runs it on these tests, and gives the status.
-fn run_tests<P: Places, W: Write>(
+fn run_tests<P: Places, W: Outlet>(
     alloc: Global,
     places: &mut P,
     run: &Run<'_>,
@@ -374,7 +373,7 @@ fn list_and_files<P: Places>(
 
 /// Runs a module on the tests of a list, each on the files that its line names. Where a line is no test, nothing is run. The
 /// program's own line goes to `err`.
-fn run_lines<P: Places, W: Write>(
+fn run_lines<P: Places, W: Outlet>(
     alloc: Global,
     places: &mut P,
     run: &Run<'_>,

@@ -109,7 +109,7 @@ fn volume_status(fault: VolumeFault) -> u8
 
 /// Prints the line of words that can't be read, one that isn't UTF-8 among them, and gives the
 /// status.
-pub fn refuse_words<W: Write>(err: &mut W, error: &io::Error) -> u8
+pub fn refuse_words<W: Outlet>(err: &mut W, error: &io::Error) -> u8
     ensures { result ≡ words_status (error_kind error.now) }
 {
     if error.kind() == io::ErrorKind::OutOfMemory {
@@ -120,7 +120,7 @@ pub fn refuse_words<W: Write>(err: &mut W, error: &io::Error) -> u8
 }
 
 /// Prints why a command line is refused, or what it asks for of help, and gives the status.
-pub fn refuse_command_line<W: Write>(err: &mut W, refused: &clap::Error) -> u8
+pub fn refuse_command_line<W: Outlet>(err: &mut W, refused: &clap::Error) -> u8
     ensures { result ≡ command_line_status (kind_of refused.now) }
 {
     if refused.kind() == clap::error::ErrorKind::OutOfMemory {
@@ -131,7 +131,7 @@ pub fn refuse_command_line<W: Write>(err: &mut W, refused: &clap::Error) -> u8
 }
 
 /// Prints that it is out of memory, and gives the status of that.
-pub fn out_of_memory<W: Write>(err: &mut W) -> u8
+pub fn out_of_memory<W: Outlet>(err: &mut W) -> u8
     ensures status { result ≡ 122 }
     ensures line { AppendsSome (W.contents err.old) (W.contents err.new) }
 {
@@ -141,7 +141,7 @@ pub fn out_of_memory<W: Write>(err: &mut W) -> u8
 
 /// Prints the line of a file that can't be read, or of a stream that can't be flushed, and gives
 /// its status.
-pub fn refuse_file<W: Write>(err: &mut W) -> u8
+pub fn refuse_file<W: Outlet>(err: &mut W) -> u8
     ensures status { result ≡ 124 }
     ensures line { AppendsSome (W.contents err.old) (W.contents err.new) }
 {
@@ -150,7 +150,7 @@ pub fn refuse_file<W: Write>(err: &mut W) -> u8
 }
 
 /// Prints the line of a wrong setting, and gives its status.
-pub(crate) fn refuse_setting<W: Write>(err: &mut W) -> u8
+pub(crate) fn refuse_setting<W: Outlet>(err: &mut W) -> u8
     ensures status { result ≡ 124 }
     ensures line { AppendsSome (W.contents err.old) (W.contents err.new) }
 {
@@ -173,7 +173,7 @@ fn outcome_status(outcome: Outcome) -> u8
 
 /// Prints the lines of a run that ended so: why it could not begin; or the outcome's line, if it has one, and behind it
 /// that its calls couldn't be committed or its output not be flushed.
-pub(crate) fn tell_end<W: Write>(err: &mut W, summary: &Summary)
+pub(crate) fn tell_end<W: Outlet>(err: &mut W, summary: &Summary)
     ensures { AppendsSome (W.contents err.old) (W.contents err.new) }
 {
     match summary.end {
@@ -521,7 +521,7 @@ pub(crate) fn run<D: Device + Drop, R: Inlet + Drop, W1: Outlet + Drop, W2: Outl
 /// Does something with the volume on a device, and gives the exit status, the device and the streams. What is put into the
 /// volume comes from the input, what is told of it goes to the output, and the program's own lines to the errors, which call the
 /// volume by this name of its file.
-pub fn execute<D: Device + Drop, R: Inlet + Drop, W1: Outlet + Drop, W2: Write + Drop>(
+pub fn execute<D: Device + Drop, R: Inlet + Drop, W1: Outlet + Drop, W2: Outlet + Drop>(
     alloc: Global,
     file: &str,
     work: VolumeWork<'_>,

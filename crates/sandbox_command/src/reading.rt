@@ -1,7 +1,7 @@
 //! Streams that are read whole.
 
 ghost use Rattle.std.specs.Prelude.{◌≡◌, ◌≤◌, ◌++◌, ℕ, List, IfOk, length, take};
-ghost use Rattle.sandbox_command.specs.Reading.{AtLast, IsWhole};
+ghost use Rattle.stream_answers.specs.Pieces.{AtLast, IsWhole};
 
 use std::alloc::Global;
 use std::io;

@@ -16,6 +16,7 @@ use sandbox_report::Fault;
 use std::alloc::Global;
 use std::io;
 use std::io::Write;
+use stream_answers::Outlet;
 use wasm_module::{LoadFault, Module, Profile, decode_with};
 use wasm_store::InstanceFault;
 
@@ -26,7 +27,7 @@ const SETTING: &str = "a setting that can't be";
 const GREATEST: u32 = 119;
 
 /// Prints a line about a module and a part of it.
-fn tell_of_part<W: Write>(err: &mut W, name: &str, part: &[u8], meaning: &str, cure: &str)
+fn tell_of_part<W: Outlet>(err: &mut W, name: &str, part: &[u8], meaning: &str, cure: &str)
     ensures { AppendsSome (W.contents err.old) (W.contents err.new) }
 {
     say(err, b"sandbox: ");
@@ -60,7 +61,7 @@ fn cure_of(bytes: &[u8], part: &[u8], fault: Fault, number: u32) -> &'static str
 }
 
 /// Prints what a fault of a module means, and which part of it is to blame.
-fn tell_of_module<W: Write>(
+fn tell_of_module<W: Outlet>(
     alloc: Global,
     err: &mut W,
     name: &str,
@@ -112,7 +113,7 @@ fn uncut_directory<'a>(run: &Run<'a>) -> Option<&'a str> {
 }
 
 /// Prints which setting of a run is wrong.
-fn tell_of_setting<W: Write>(err: &mut W, run: &Run<'_>)
+fn tell_of_setting<W: Outlet>(err: &mut W, run: &Run<'_>)
     ensures { AppendsSome (W.contents err.old) (W.contents err.new) }
 {
     let argument_0 = run.name.unwrap_or(run.module);
@@ -155,7 +156,7 @@ fn tell_of_setting<W: Write>(err: &mut W, run: &Run<'_>)
 }
 
 /// Prints which line of a list of tests is none.
-pub(crate) fn tell_of_line<W: Write>(err: &mut W, list: &str, number: usize)
+pub(crate) fn tell_of_line<W: Outlet>(err: &mut W, list: &str, number: usize)
     ensures { AppendsSome (W.contents err.old) (W.contents err.new) }
 {
     let mut part = ArrayVec::<u8, 32>::new();
@@ -170,7 +171,7 @@ pub(crate) fn tell_of_line<W: Write>(err: &mut W, list: &str, number: usize)
 }
 
 /// Prints what it means that a run could not begin, whose module has these bytes.
-pub(crate) fn tell_of_refusal<W: Write>(
+pub(crate) fn tell_of_refusal<W: Outlet>(
     alloc: Global,
     err: &mut W,
     run: &Run<'_>,
@@ -202,7 +203,7 @@ pub(crate) fn tell_of_refusal<W: Write>(
 }
 
 /// Prints what it means that a guest ended so, where it ended for want of something, or with a status that can't be its own.
-pub(crate) fn tell_of_outcome<W: Write>(err: &mut W, run: &Run<'_>, outcome: Outcome)
+pub(crate) fn tell_of_outcome<W: Outlet>(err: &mut W, run: &Run<'_>, outcome: Outcome)
     ensures { AppendsSome (W.contents err.old) (W.contents err.new) }
 {
     match outcome {
@@ -279,7 +280,7 @@ fn clash_of(run: &Run<'_>) -> (&'static str, &'static str) {
 }
 
 /// Prints which options of a command don't go together.
-pub(crate) fn tell_of_clash<W: Write>(err: &mut W, invocation: &Invocation<'_>)
+pub(crate) fn tell_of_clash<W: Outlet>(err: &mut W, invocation: &Invocation<'_>)
     ensures { AppendsSome (W.contents err.old) (W.contents err.new) }
 {
     let (what, cure) = match invocation {

@@ -16,6 +16,7 @@ use sandbox_inspect::add_site;
 use std::alloc::Global;
 use std::io;
 use std::io::Write;
+use stream_answers::Outlet;
 use wasm_module::Module;
 
 /// The functions that were at work when a run stopped, how its calls were answered, and where its fuel went.
@@ -205,7 +206,7 @@ pub(crate) fn lines_of(
 }
 
 /// Prints the line of a frame.
-fn tell_frame<W: Write>(err: &mut W, site: &str)
+fn tell_frame<W: Outlet>(err: &mut W, site: &str)
     ensures { AppendsSome (W.contents err.old) (W.contents err.new) }
 {
     say(err, b"sandbox: at ");
@@ -214,7 +215,7 @@ fn tell_frame<W: Write>(err: &mut W, site: &str)
 }
 
 /// Prints a line of a report that tells of a frame as a line of the program's own.
-fn tell_site<W: Write>(err: &mut W, line: &str)
+fn tell_site<W: Outlet>(err: &mut W, line: &str)
     ensures { AppendsSome (W.contents err.old) (W.contents err.new) }
 {
     match line.strip_prefix("frame:") {
@@ -224,7 +225,7 @@ fn tell_site<W: Write>(err: &mut W, line: &str)
 }
 
 /// Prints the lines of a report that tell of frames as lines of the program's own.
-fn tell_lines<W: Write>(err: &mut W, lines: &str)
+fn tell_lines<W: Outlet>(err: &mut W, lines: &str)
     ensures { AppendsSome (W.contents err.old) (W.contents err.new) }
 {
     for line in lines.lines() {
@@ -233,7 +234,7 @@ fn tell_lines<W: Write>(err: &mut W, lines: &str)
 }
 
 /// Prints how many functions were at work beside those that are told.
-fn tell_others<W: Write>(err: &mut W, depth: usize, told: usize)
+fn tell_others<W: Outlet>(err: &mut W, depth: usize, told: usize)
     ensures { AppendsSome (W.contents err.old) (W.contents err.new) }
 {
     if told > 0 && depth > told {
@@ -242,7 +243,7 @@ fn tell_others<W: Write>(err: &mut W, depth: usize, told: usize)
 }
 
 /// Prints where a run stopped, by the lines that its report has of it.
-pub(crate) fn tell_frames<W: Write>(err: &mut W, stopped: &Option<Stopped>, lines: &[u8])
+pub(crate) fn tell_frames<W: Outlet>(err: &mut W, stopped: &Option<Stopped>, lines: &[u8])
     ensures { AppendsSome (W.contents err.old) (W.contents err.new) }
 {
     match (stopped, str::from_utf8(lines)) {

@@ -1,14 +1,15 @@
 //! The report as text.
 
-ghost use Rattle.std.specs.Prelude.{◌≡◌, ◌++◌, Some, OnOk};
-ghost use Rattle.std.specs.Io.KnownBytes.{Appends};
+ghost use Rattle.std.specs.Prelude.{◌≡◌, ◌++◌, Some, IfOk, OnOk};
+ghost use Rattle.stream_answers.specs.Printing.{IsPrinted};
 ghost use Rattle.sandbox_report.specs.Faults.{Text};
-ghost use Rattle.sandbox_report.specs.Reporting.{ending_text, number_text, report_text, use_text};
+ghost use Rattle.sandbox_report.specs.Reporting.{ending_text, last_text, number_text, report_text, use_text};
 
 use crate::summary::Summary;
 use arrayvec::ArrayVec;
 use std::io::Write;
 use std::{fmt, io};
+use stream_answers::{Outlet, print_all};
 
 /// What is printed as a text.
 pub trait Printed {
@@ -16,8 +17,8 @@ pub trait Printed {
     ghost text: { Self → Text };
 
     /// Prints it. Where that fails, some of it may have been printed.
-    fn print<W: Write>(&self, out: &mut W) -> io::Result<()>
-        ensures { OnOk result (Appends (W.contents out.old) (W.contents out.new) (text self.now)) };
+    fn print<W: Outlet>(&self, out: &mut W) -> io::Result<()>
+        ensures { OnOk result (IsPrinted W.took W.contents out.old (text self.now) out.new) };
 }
 
 /// A report before it is printed, with room for any.
@@ -72,20 +73,35 @@ fn add_use(text: &mut ReportLines, summary: &Summary) -> io::Result<()>
     )
 }
 
+/// Adds what became of the volume, who is to blame, and which streams were cut.
+fn add_rest(text: &mut ReportLines, summary: &Summary) -> io::Result<()>
+    ensures { OnOk result (text.new.items ≡ text.old.items ++ last_text summary.now) }
+{
+    write!(
+        text,
+        "volume:{}\nblame:{}\ncut:{}\n",
+        summary.volume.text(),
+        summary.blame(),
+        summary.cut.text()
+    )
+}
+
+/// All lines of a report.
+fn lines_of(summary: &Summary) -> io::Result<ReportLines>
+    ensures { IfOk result (λ text. text.items ≡ report_text summary.now) }
+{
+    let mut text = ReportLines::new();
+    add_ending(&mut text, summary)?;
+    add_use(&mut text, summary)?;
+    add_rest(&mut text, summary)?;
+    Ok(text)
+}
+
 impl Printed for Summary {
     ghost text = { report_text };
 
-    fn print<W: Write>(&self, out: &mut W) -> io::Result<()> {
-        let mut text = ReportLines::new();
-        add_ending(&mut text, self)?;
-        add_use(&mut text, self)?;
-        write!(
-            text,
-            "volume:{}\nblame:{}\ncut:{}\n",
-            self.volume.text(),
-            self.blame(),
-            self.cut.text()
-        )?;
-        out.write_all(text.as_slice())
+    fn print<W: Outlet>(&self, out: &mut W) -> io::Result<()> {
+        let text = lines_of(self)?;
+        print_all(out, text.as_slice())
     }
 }

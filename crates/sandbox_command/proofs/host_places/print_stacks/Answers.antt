@@ -9,4 +9,4 @@ on_any (Err e) x = tt
 pub returns : goal.returns
 returns g c =
     let printed = c.in_ok-print.ensures in
-    on_any c.flush.result (printed.0 ++ cut_text c.args.stacks.now.is_cut, (printed.0, printed.1, refl))
+    on_any c.flush.result (printed.0 ++ cut_text c.args.stacks.now.is_cut, (printed.0, printed.1, refl), (c.args.file.now, c.requires, c.print.new.out, printed.2.1))

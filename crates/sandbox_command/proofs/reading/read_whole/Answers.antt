@@ -1,5 +1,5 @@
 use Rattle.std.proofs.Common.{◌≡◌, ◌≤◌, length, inl, inr, arith, rules}
-use Rattle.sandbox_command.specs.Reading.{AtLast, nothing, gives}
+use Rattle.stream_answers.specs.Pieces.{AtLast, nothing, gives}
 use Rattle.sandbox_command.proofs.Wholly.{at_end, in_all}
 use Rattle.sandbox_command.proofs.reading.read_whole.Goals as goal
 

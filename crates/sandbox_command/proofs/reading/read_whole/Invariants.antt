@@ -1,5 +1,5 @@
 use Rattle.std.proofs.Common.{◌≡◌, ◌+◌, vec_len, length}
-use Rattle.sandbox_command.specs.Reading.{AtLast, Gives}
+use Rattle.stream_answers.specs.Pieces.{AtLast, Gives}
 use Rattle.sandbox_command.proofs.reading.read_whole.Given as goal
 
 abbrev pub invariant-loop-left : goal.invariant-loop-left

@@ -2,19 +2,21 @@ use Rattle.std.proofs.Common.{ℕ, Result, Ok, Err, None, OnOk}
 use Rattle.std.specs.Io.KnownBytes.{Appends}
 use Rattle.run_profile.specs.Stacks.{Stacks}
 use Rattle.sandbox_args.specs.Request.{Text}
-use Rattle.sandbox_command.specs.Places.{Prints, Took, took}
+use Rattle.sandbox_command.specs.Places.{Prints}
 use Rattle.sandbox_command.specs.Profiling.{IsProfile}
+use Rattle.sandbox_command.specs.System.{WasPrinted}
 use Rattle.sandbox_command.proofs.Given.{refused}
 use Rattle.sandbox_command.proofs.host_places.HostPlacesPlaces.print_profile.Goals as goal
 
-profile_taken : {U E : Type 0} (names : ℕ → Text) (stacks : Stacks) (name : Text) (r : Result U E) → OnOk r ((text : Text) × IsProfile names stacks text)
-    → OnOk r ((text : Text) × IsProfile names stacks text × Took name text × Appends None None text)
-profile_taken names stacks name (Ok u) (text, is) = (text, is, took name text, tt)
-profile_taken names stacks name (Err e) is = tt
+profile_printed : {U E : Type 0} (names : ℕ → Text) (stacks : Stacks) (name : Text) (r : Result U E)
+    → OnOk r ((text : Text) × IsProfile names stacks text × WasPrinted name text)
+    → OnOk r ((text : Text) × IsProfile names stacks text × WasPrinted name text × Appends None None text)
+profile_printed names stacks name (Ok u) (text, is, printed) = (text, is, printed, tt)
+profile_printed names stacks name (Err e) is = tt
 
 pub returns : goal.returns
 returns g c = record {
   asked = tt;
-  refused = refused (Prints c.args._name.now) c.print_stacks.result;
-  printed = profile_taken _ c.args.stacks.now c.args._name.now c.print_stacks.result c.print_stacks.ensures;
+  refused = refused (Prints c.args.name.now) c.print_stacks.result;
+  printed = profile_printed _ c.args.stacks.now c.args.name.now c.print_stacks.result c.print_stacks.ensures;
 }
