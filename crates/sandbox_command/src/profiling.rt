@@ -50,10 +50,11 @@ pub(crate) fn no_stacks(alloc: Global) -> Result<FuelProfile, AllocError>
 fn add_byte(line: &mut Vec<u8>, byte: u8) -> io::Result<()>
     ensures { OnOk result (line.new.items ≡ line.old.items ++ stack_byte byte) }
 {
+    let itself = [byte];
     let shown: &[u8] = match byte {
         b';' => b"\\3b",
         b'#' => b"\\23",
-        _ => &[byte],
+        _ => &itself,
     };
     line.extend_from_slice(shown)?;
     Ok(())

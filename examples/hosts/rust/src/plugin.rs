@@ -225,6 +225,11 @@ impl<'i, 'a, 's> Call<'i, 'a, 's> {
         })
     }
 
+    /// The functions at work, the innermost first: where it stopped when its units were used, or at a call of WASI.
+    pub fn frames(&mut self) -> Vec<Frame> {
+        self.instance.frames()
+    }
+
     /// Goes on until it returns or ends, or as many units are used by it; `serve` answers each function of the host.
     pub fn run(self, units: u64, mut serve: impl FnMut(&mut Question<'i, 'a, 's>) -> Option<u64>) -> Result<Step<'i, 'a, 's>, Refused> {
         let end = self.instance.used.saturating_add(units);
@@ -260,6 +265,11 @@ impl<'i, 'a, 's> Question<'i, 'a, 's> {
     /// The first one first.
     pub fn arguments(&self) -> &[u64] {
         &self.arguments
+    }
+
+    /// The functions at work, the innermost first: the one that calls the host stands at its call.
+    pub fn frames(&mut self) -> Vec<Frame> {
+        self.call.frames()
     }
 
     /// As [`Instance::read`].

@@ -39,12 +39,16 @@ fn a_call_is_answered_once() {
     let call = instance.call("ask", &[5]).expect("it is called");
     let Ok(Step::Asked(mut question)) = call.go(100) else { panic!("it asks") };
     assert_eq!((question.import(), question.arguments()), (0, [5].as_slice()));
+    assert_eq!(question.frames(), [Frame { function: 3, offset: 0x83 }]);
     question.write(8, &[7, 0, 0, 0]).expect("it is written");
     let Err((refused, question)) = question.answer(None) else { panic!("a result is wanted") };
     assert_eq!(refused.number, 109);
     let call = question.answer(Some(10)).map_err(|_| ()).expect("it is answered");
     assert!(matches!(call.go(100), Ok(Step::Returned(Some(17)))));
     assert_eq!(instance.used(), 10);
+    let Ok(Step::Spent(mut call)) = instance.call("count", &[]).expect("it is called").go(2) else { panic!("its units are used") };
+    assert_eq!(call.frames(), [Frame { function: 5, offset: 0x96 }]);
+    assert!(matches!(call.go(9), Ok(Step::Returned(Some(41)))));
 }
 
 #[test]
