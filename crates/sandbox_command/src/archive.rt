@@ -6,13 +6,13 @@ ghost use Rattle.sandbox_command.specs.Archive.{Fills, IsFormatted, IsImported, 
 ghost use Rattle.sandbox_runs.specs.Status.{import_status};
 ghost use Rattle.sandbox_telling.specs.Streams.{AppendsSome};
 
+use sandbox_args::Run;
+use sandbox_device::RamDevice;
+use sandbox_report::{Fault, Summary, VolumeEnd};
 use sandbox_runs::ending::Failed;
 use sandbox_telling::explaining::About;
 use sandbox_telling::reporting::not_run;
 use sandbox_telling::work::VolumeWork;
-use sandbox_args::Run;
-use sandbox_device::RamDevice;
-use sandbox_report::{Fault, Summary, VolumeEnd};
 use std::alloc::Global;
 use stream_answers::Outlet;
 use vol_commands::{Failure, ImportFailure, format_as, import_into};

@@ -7,9 +7,9 @@ ghost use Rattle.sandbox_runs.specs.Flushing.{Answered};
 ghost use Rattle.sandbox_runs.specs.Inspecting.{Inspects, refused_status, survey_status};
 ghost use Rattle.sandbox_telling.specs.Streams.{AppendsSome};
 
+use sandbox_inspect::{Links, survey};
 use sandbox_runs::program::{Executed, FAULT, left_with, out_of_memory, refuse_file};
 use sandbox_telling::streams::Streams;
-use sandbox_inspect::{Links, survey};
 use std::alloc::Global;
 use std::io;
 use std::io::ErrorKind;

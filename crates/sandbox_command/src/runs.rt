@@ -15,12 +15,14 @@ use crate::archive::{filled, refuse_archive, unfilled};
 use crate::closing::{Ending, RunLeft, delivered, finished, profiled, refuse, told, unread};
 use crate::opening::{Ledger, Medium, RunFiles, made_report, open_all};
 use crate::places::Places;
-use sandbox_runs::program;
-use sandbox_telling::stopping::no_lines;
-use sandbox_telling::streams::{InputSource, Sink, SpareStreams, Streams, apart, sink_of, source_of};
 use run_profile::FuelProfile;
 use sandbox_args::Run;
 use sandbox_device::RamDevice;
+use sandbox_runs::program;
+use sandbox_telling::stopping::no_lines;
+use sandbox_telling::streams::{
+    InputSource, Sink, SpareStreams, Streams, apart, sink_of, source_of,
+};
 use std::alloc::Global;
 use std::io;
 use stream_answers::{Inlet, Outlet};

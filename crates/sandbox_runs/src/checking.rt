@@ -8,12 +8,12 @@ ghost use Rattle.sandbox_runs.specs.Flushing.{Answered};
 ghost use Rattle.sandbox_runs.specs.Status.{ended_status, failure_status};
 
 use crate::ending::ended;
-use sandbox_telling::explaining::About;
 use crate::program::{Executed, FAULT, left_with};
-use sandbox_telling::streams::Streams;
 use arrayvec::ArrayVec;
 use sandbox_args::Task;
 use sandbox_report::rule_text;
+use sandbox_telling::explaining::About;
+use sandbox_telling::streams::Streams;
 use std::io::Write;
 use std::{fmt, io};
 use stream_answers::{Outlet, print_all};

@@ -6,11 +6,11 @@ ghost use Rattle.sandbox_runs.specs.Flushing.{Answered};
 ghost use Rattle.sandbox_runs.specs.Status.{ended_status, export_status, failure_status, import_status, why_status};
 ghost use Rattle.sandbox_telling.specs.Streams.{AppendsSome};
 
+use crate::program::{Executed, FAULT, left_with, out_of_memory, refuse_file};
+use meanings::{errno_cure, errno_text};
 use sandbox_telling::explaining::{About, tell_bytes, tell_of_output, tell_words};
 use sandbox_telling::output::{tell, tell_of_member};
-use crate::program::{Executed, FAULT, left_with, out_of_memory, refuse_file};
 use sandbox_telling::streams::Streams;
-use meanings::{errno_cure, errno_text};
 use stream_answers::Outlet;
 use tar_stream::TarFault;
 use vol_commands::{ExportFailure, Failure, ImportFailure};
@@ -176,14 +176,7 @@ fn refuse_output<W: Outlet>(err: &mut W) -> u8
 }
 
 /// Ends what is no run: flushes the output, prints a failure's line, and gives the status with the device and the streams.
-pub fn ended<
-    X: Drop,
-    F: Failed + Drop,
-    D: Drop,
-    R: Drop,
-    W1: Outlet + Drop,
-    W2: Outlet + Drop,
->(
+pub fn ended<X: Drop, F: Failed + Drop, D: Drop, R: Drop, W1: Outlet + Drop, W2: Outlet + Drop>(
     done: Result<X, F>,
     device: D,
     given: Streams<R, W1, W2>,

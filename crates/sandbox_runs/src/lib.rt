@@ -1,4 +1,4 @@
-//! (to be written)
+//! A run or a task on one device and three streams, and the status that it ends with. Which files those are no item here knows.
 
 #![tactic(auto)]
 

@@ -24,22 +24,24 @@ ghost use Rattle.sandbox_runs.specs.Execution.{RunsOn, Runs, Executes, StaysWith
 
 use crate::checking::ended_task;
 use crate::ending::ended;
-use sandbox_telling::explaining::About;
-use sandbox_telling::modules::profile_for;
-use sandbox_telling::output::{GREATEST, NOT_COMMITTED, tell, tell_after, tell_fault, tell_outcome};
-use sandbox_telling::reporting::{
-    kept_after_run, kept_where_not_begun, kept_where_refused, not_run, receiver_of, session_reason,
-};
-use sandbox_telling::runnable::Runnable;
 use crate::sessions::{launch_bare, launch_prepared};
-use sandbox_telling::stopping::{Stopped, lines_of, no_lines};
-use sandbox_telling::streams::Streams;
-use sandbox_telling::supplies::{GuestTexts, settings, supplied};
-use sandbox_telling::work::VolumeWork;
 use run_profile::FuelProfile;
 use sandbox_args::Run;
 use sandbox_core::{HostParts, LoadFault, Outcome, Report, SessionFault, Tally, Volume, load_with};
 use sandbox_report::{Counted, CutStreams, End, Fault, Summary, VolumeEnd};
+use sandbox_telling::explaining::About;
+use sandbox_telling::modules::profile_for;
+use sandbox_telling::output::{
+    GREATEST, NOT_COMMITTED, tell, tell_after, tell_fault, tell_outcome,
+};
+use sandbox_telling::reporting::{
+    kept_after_run, kept_where_not_begun, kept_where_refused, not_run, receiver_of, session_reason,
+};
+use sandbox_telling::runnable::Runnable;
+use sandbox_telling::stopping::{Stopped, lines_of, no_lines};
+use sandbox_telling::streams::Streams;
+use sandbox_telling::supplies::{GuestTexts, settings, supplied};
+use sandbox_telling::work::VolumeWork;
 use std::alloc::Global;
 use std::io;
 use std::io::Write;
@@ -54,8 +56,10 @@ const TRAPPED: u8 = 120;
 
 const OUT_OF_FUEL: u8 = 121;
 
+/// The status where memory was refused.
 pub const OUT_OF_MEMORY: u8 = 122;
 
+/// The status of a refusal that has a fault.
 pub const FAULT: u8 = 124;
 
 /// The status where the command line is refused, or help or the version is asked for.
@@ -433,13 +437,7 @@ fn no_volume<D: Drop, R: Drop, W1: Drop, W2: Drop>(
 }
 
 /// Runs a valid module on the volume of a device, with random bytes, and gives the module and the device back.
-pub fn run_valid<
-    'a,
-    D: Device + Drop,
-    R: Inlet + Drop,
-    W1: Outlet + Drop,
-    W2: Outlet + Drop,
->(
+pub fn run_valid<'a, D: Device + Drop, R: Inlet + Drop, W1: Outlet + Drop, W2: Outlet + Drop>(
     alloc: Global,
     run: &Run<'_>,
     runnable: Runnable<'a>,

@@ -12,10 +12,7 @@ ghost use Rattle.sandbox_telling.specs.Supplies.{terminals_of};
 ghost use Rattle.sandbox_runs.specs.internal.Seeds.{prepared_by, with_seed, with_terminals};
 ghost use Rattle.sandbox_runs.specs.internal.Sessions.{RunsSession};
 
-use sandbox_telling::profiling::{FuelUse, slice_of};
 use crate::program::{Executed, no_session, reported};
-use sandbox_telling::stopping::{room_for, stopped_with};
-use sandbox_telling::supplies::terminals_of;
 use observed_run::{ToldRun, run_profiled, run_told};
 use run_profile::FuelProfile;
 use sandbox_args::Run;
@@ -24,6 +21,9 @@ use sandbox_core::{
     SharedSession, Valid,
 };
 use sandbox_report::Counted;
+use sandbox_telling::profiling::{FuelUse, slice_of};
+use sandbox_telling::stopping::{room_for, stopped_with};
+use sandbox_telling::supplies::terminals_of;
 use std::alloc::Global;
 use stream_answers::{Inlet, Outlet};
 use vol_sector::Device;
@@ -239,13 +239,7 @@ fn counted_parts<'s, 't, D: Device, R, W1, W2>(
 
 /// Runs a valid module, of which nothing is prepared, with these settings on an open volume. Gives the module and the volume's device
 /// back. Where there are stacks, they get the units of the run.
-pub fn launch_bare<
-    'a,
-    D: Device + Drop,
-    R: Inlet + Drop,
-    W1: Outlet + Drop,
-    W2: Outlet + Drop,
->(
+pub fn launch_bare<'a, D: Device + Drop, R: Inlet + Drop, W1: Outlet + Drop, W2: Outlet + Drop>(
     alloc: Global,
     run: &Run<'_>,
     valid: Valid<'a>,
@@ -281,12 +275,7 @@ pub fn launch_bare<
 }
 
 /// Runs a prepared module in the same way. Gives the volume's device back.
-pub fn launch_prepared<
-    D: Device + Drop,
-    R: Inlet + Drop,
-    W1: Outlet + Drop,
-    W2: Outlet + Drop,
->(
+pub fn launch_prepared<D: Device + Drop, R: Inlet + Drop, W1: Outlet + Drop, W2: Outlet + Drop>(
     alloc: Global,
     run: &Run<'_>,
     shared: &SharedModule<'_>,

@@ -1,4 +1,4 @@
-//! (to be written)
+//! What the program tells of a command: its lines, reports, stops and profiles; and what a guest is given by the words.
 
 #![tactic(auto)]
 

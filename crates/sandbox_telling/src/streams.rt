@@ -116,10 +116,7 @@ pub struct SpareStreams<R, W1, W2> {
 }
 
 /// A file to be read, or the stream that was given; and the one that is spared.
-pub fn source_of<F: Drop, R: Drop>(
-    file: Option<F>,
-    input: R,
-) -> (InputSource<F, R>, Option<R>)
+pub fn source_of<F: Drop, R: Drop>(file: Option<F>, input: R) -> (InputSource<F, R>, Option<R>)
     ensures source { result.0 ≡ source_of file input }
     ensures spare { result.1 ≡ spare_of file input }
 {
