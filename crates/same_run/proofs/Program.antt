@@ -10,8 +10,8 @@ use Rattle.sandbox_core.specs.Devices.{Devices}
 use Rattle.sandbox_args.specs.declared.request.Run.{Run}
 use Rattle.sandbox_args.specs.Request.{Text}
 use Rattle.sandbox_report.specs.declared.counted.Counted.{Counted}
-use Rattle.sandbox_command.specs.RunHost.{counted_devices, counting}
-use Rattle.sandbox_command.specs.Supplies.{AreSettings, names_of as named, split_at_equals, terminals_of}
+use Rattle.sandbox_telling.specs.RunHost.{counted_devices, counting}
+use Rattle.sandbox_telling.specs.Supplies.{AreSettings, names_of as named, split_at_equals, terminals_of}
 use Rattle.same_run.specs.SameRun.{AreSameSupplies}
 use Rattle.same_run.specs.SameProgram.{HandOutTheSame, SameProgramRun}
 use Rattle.same_run.proofs.Sameness.{begin_alike, same_from_one, show_alike}

@@ -12,10 +12,10 @@ use Rattle.sandbox_core.specs.Devices.{Devices}
 use Rattle.sandbox_args.specs.declared.request.Run.{Run}
 use Rattle.sandbox_args.specs.Request.{Text, texts, arguments_of}
 use Rattle.sandbox_report.specs.declared.counted.Counted.{Counted}
-use Rattle.sandbox_command.specs.declared.program.Executed.{Executed}
-use Rattle.sandbox_command.specs.Supplies.{AreSettings, directories_of, terminals_of}
-use Rattle.sandbox_command.specs.RunHost.{counted_devices}
-use Rattle.sandbox_command.specs.Guest.{GuestRan}
+use Rattle.sandbox_runs.specs.declared.program.Executed.{Executed}
+use Rattle.sandbox_telling.specs.Supplies.{AreSettings, directories_of, terminals_of}
+use Rattle.sandbox_telling.specs.RunHost.{counted_devices}
+use Rattle.sandbox_runs.specs.Guest.{GuestRan}
 use Rattle.same_run.specs.Alike.{AreServed, RunAlike}
 
 -- What the words of two runs hand out is the same: arguments, environment, directories, moment, seed, pages and fuel; and both are
