@@ -17,7 +17,7 @@ use Rattle.wasm_store.specs.Instantiation.{Instantiates}
 use Rattle.wasm_steps.specs.declared.pause.Outcome.{Outcome}
 use Rattle.wasm_steps.specs.declared.pause.Outcome.TheVariants.{Exited, Trapped, OutOfFuel, OutOfMemory}
 use Rattle.wasm_steps.specs.Configuration.{Instance, Configuration, at, first_configuration}
-use Rattle.wasm_interp.specs.Snapshots.{StandsFor}
+use Rattle.wasm_operands.specs.Snapshots.{StandsFor}
 use Rattle.wasm_interp.specs.Promises.{StartsBy}
 use Rattle.wasm_interp.specs.Machine.{Represents}
 use Rattle.wasi_calls.specs.declared.host.settings.Preopen.{Preopen}

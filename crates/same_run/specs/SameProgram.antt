@@ -5,7 +5,7 @@ use Rattle.vol_sector.specs.Disk.{Disk}
 use Rattle.vol_tree.specs.Opened.{geometry}
 use Rattle.wasm_syntax.specs.declared.module.Module.{Module}
 use Rattle.wasm_valid.specs.Validity.{IsValid}
-use Rattle.wasm_interp.specs.Snapshots.{StandsFor}
+use Rattle.wasm_operands.specs.Snapshots.{StandsFor}
 use Rattle.wasi_calls.specs.declared.host.wasi_host.HostParts.{HostParts}
 use Rattle.wasi_calls.specs.host.Worlds.{Hearing}
 use Rattle.sandbox_core.specs.Devices.{Devices}
