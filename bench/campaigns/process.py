@@ -266,6 +266,7 @@ def room_items():
 
 
 ON_FULL = ["--volume-out v", "--volume-out i", "--volume-out new", "--out-to o", "--out-to new", "--stdout new", "--report new", "--stdout o --report r"]
+ON_FULL += [f"{option} {name}" for option in ("--volume-out", "--out-to") for name in ("linked", "mounted")]
 
 
 def full_disk(setting, options):
@@ -279,10 +280,21 @@ def full_disk(setting, options):
         try:
             return on_full_disk(it, disk, options.split())
         finally:
+            subprocess.run(["umount", f"{disk}/mounted"])
             subprocess.run(["umount", disk], check=True)
 
 
+def written_in_place(disk):
+    """Files that are written in place, with fewer bytes than they are to have: one has another name, and one is mounted by itself."""
+    for name in ("linked", "real", "mounted"):
+        with open(f"{disk}/{name}", "xb") as file:
+            file.write(b"kept\n")
+    os.link(f"{disk}/linked", f"{disk}/other")
+    subprocess.run(["mount", "--bind", f"{disk}/real", f"{disk}/mounted"], check=True)
+
+
 def on_full_disk(it, disk, options):
+    written_in_place(disk)
     for name in ("m", "i", "v", "o", "t"):
         shutil.copyfile(f"{it.folder}/{name}", f"{disk}/{name}")
     with contextlib.suppress(OSError), open(f"{disk}/fill", "wb", buffering=0) as fill:

@@ -22,23 +22,23 @@ use Rattle.sandbox_args.specs.declared.request.Invocation.TheVariants as asked
 use Rattle.sandbox_args.specs.Request.{Text}
 use Rattle.sandbox_args.specs.CommandLine.{AsksFor, program}
 use Rattle.stream_answers.specs.Hearing.{Hears, Moves, Refuses}
-use Rattle.sandbox_command.specs.declared.program.Executed.{Executed}
-use Rattle.sandbox_command.specs.declared.work.VolumeWork.{VolumeWork}
-use Rattle.sandbox_command.specs.declared.work.VolumeWork.TheVariants as work
+use Rattle.sandbox_runs.specs.declared.program.Executed.{Executed}
+use Rattle.sandbox_telling.specs.declared.work.VolumeWork.{VolumeWork}
+use Rattle.sandbox_telling.specs.declared.work.VolumeWork.TheVariants as work
 use Rattle.sandbox_command.specs.declared.host_places.HostPlaces.{HostPlaces}
 use Rattle.sandbox_command.specs.declared.host_volume.HostVolume.{HostVolume}
-use Rattle.sandbox_command.specs.declared.streams.Streams.{Streams}
+use Rattle.sandbox_telling.specs.declared.streams.Streams.{Streams}
 use Rattle.sandbox_command.specs.Alone.{RunsAlone}
 use Rattle.sandbox_command.specs.Around.{Around, Calling, EndsGiven, Flushes}
-use Rattle.sandbox_command.specs.Execution.{StaysWithin, Executes}
-use Rattle.sandbox_command.specs.Flushing.{Answered}
-use Rattle.sandbox_command.specs.Formatting.{room_for, version_for}
-use Rattle.sandbox_command.specs.Modules.{profile_for}
-use Rattle.sandbox_command.specs.Inspecting.{Inspects}
-use Rattle.sandbox_command.specs.Places.{Access, HasRoom, Locks, Reads, Took, WasEnded, WasRefused, lengthens}
-use Rattle.sandbox_command.specs.Status.{command_line_status, file_status, words_status}
-use Rattle.sandbox_command.specs.Streams.{AppendsSome}
-use Rattle.sandbox_command.specs.System.{IsImageOfName, IsOutput, IsRead, IsVolume, WasGiven}
+use Rattle.sandbox_runs.specs.Execution.{StaysWithin, Executes}
+use Rattle.sandbox_runs.specs.Flushing.{Answered}
+use Rattle.sandbox_telling.specs.Formatting.{room_for, version_for}
+use Rattle.sandbox_telling.specs.Modules.{profile_for}
+use Rattle.sandbox_runs.specs.Inspecting.{Inspects}
+use Rattle.sandbox_command.specs.Places.{Access, HasRoom, Locks, Reads, WasEnded, WasRefused, lengthens}
+use Rattle.sandbox_runs.specs.Status.{command_line_status, file_status, words_status}
+use Rattle.sandbox_telling.specs.Streams.{AppendsSome}
+use Rattle.sandbox_command.specs.System.{IsImageOfName, IsOutput, IsRead, IsVolume, WasGiven, WasPrinted}
 use Rattle.sandbox_command.specs.ListOfTests.{RunsList}
 pub use Rattle.sandbox_command.specs.Beginning.{IsImage, memory_disk}
 
@@ -141,7 +141,7 @@ module _ {P I O V R W1 W2 : Type 0} (on : Around P I O V R W1 W2) where
 abbrev pub file_disk : HostVolume → Disk
 file_disk d = kept d.device.sectors d.device.moments.unsynced d.device.moments.times
 
--- What a file of a name is, by the evidence of who opened, read and gave it (`System`). What was asked for is known to the code alone that
+-- What a file of a name is, by the evidence of who opened, read, printed and gave it (`System`). What was asked for is known to the code alone that
 -- asked for it.
 abbrev pub system : {R W1 W2 : Type 0} → Reader R → Writer W1 → Writer W2 → Flushes FileOutput W1 W2 → Calling File FileOutput R W1 W2 → Around HostPlaces File FileOutput HostVolume R W1 W2
 system input out err flushes calls = record {
@@ -154,7 +154,7 @@ system input out err flushes calls = record {
     is_image = IsImageOfName;
     is_text = λ name text. IsRead name 67108865 text;
     is_beginning = IsRead;
-    printed = λ name text before after. Took name text;
+    printed = λ name text before after. WasPrinted name text;
     handed_out = λ name device before after. WasGiven name (joined_sectors device.sectors);
     handed_over = λ name bytes before after. WasGiven name bytes;
     ended = λ {X} it before after. WasEnded it;

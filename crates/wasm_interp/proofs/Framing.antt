@@ -19,7 +19,8 @@ use Rattle.wasm_lowering.proofs.Making.{drop_here}
 use Rattle.wasm_interp.specs.Stands.{IsInstanceOf}
 use Rattle.wasm_interp.specs.Frames.{Frame, flat, by_end, by_else, IsLeft, IsFrameOf, AreFrames, AreCalls, AreFramesOf, frame_of}
 use Rattle.wasm_operands.specs.internal.BranchTables.{OwnFunction, HasTargets, Ends}
-use Rattle.wasm_operands.specs.internal.Standing.{Activation, Flat, Program, Ring, inside, Within, Caller, framed, under, IsActive, Back, Stands}
+use Rattle.wasm_operands.specs.internal.Standing.{Flat, Program, Ring, inside, Within, Caller, framed, under, IsActive, Back, Stands}
+use Rattle.wasm_operands.specs.declared.activation.Activation.{Activation}
 use Rattle.wasm_interp.specs.internal.Programs.{program_of}
 use Rattle.wasm_interp.proofs.PlainSteps.Programs.{text_at, is_text}
 use Rattle.wasm_operands.specs.internal.Awaited.{Awaited}
