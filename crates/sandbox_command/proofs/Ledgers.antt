@@ -2,7 +2,7 @@
 use Rattle.std.proofs.Common.{◌≡◌, Option, Some, None, sym, subst}
 use Rattle.std.specs.Prelude.{IfSome}
 use Rattle.std.specs.Borrow.{Bor}
-use Rattle.run_profile.specs.Stacks.{Stacks}
+use Rattle.observed_run.specs.Stacks.{Stacks}
 use Rattle.sandbox_args.specs.Request.{Text}
 use Rattle.sandbox_command.specs.declared.opening.Ledger.{Ledger}
 use Rattle.sandbox_telling.specs.declared.stopping.Stopped.{Stopped}

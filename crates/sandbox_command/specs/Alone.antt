@@ -37,7 +37,7 @@ use Rattle.sandbox_command.specs.Archive.{Fills, unfilled}
 use Rattle.sandbox_command.specs.Beginning.{IsImage, unread}
 use Rattle.sandbox_runs.specs.Execution.{Runs}
 use Rattle.sandbox_command.specs.Places.{Chain, HandsOut, HandsOver, IsOfImage, IsOfName, IsOfRandom, IsRefusedAmong, IsRefusedOfAll, Prints, report_accesses, run_accesses}
-use Rattle.run_profile.specs.Stacks.{Stacks}
+use Rattle.observed_run.specs.Stacks.{Stacks}
 use Rattle.sandbox_telling.specs.declared.profiling.FuelUse.{FuelUse}
 use Rattle.sandbox_telling.specs.declared.stopping.Stopped.{Stopped}
 use Rattle.sandbox_telling.specs.Profiling.{IsProfileOf, no_stacks}

@@ -19,7 +19,7 @@ use crate::places::Places;
 use crate::possession::{HeldFiles, refuse_errors, refuse_errors_of};
 use crate::reading::read_whole;
 use crate::receiver::Receiver;
-use run_profile::{FuelProfile, Names};
+use observed_run::{FuelProfile, Names};
 use sandbox_args::{Invocation, Run};
 use sandbox_device::{
     Contents, FileDevice, FileOutput, Hindrance, Identity, RamDevice, open_image, open_to_read,

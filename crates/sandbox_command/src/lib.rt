@@ -22,8 +22,8 @@ mod runs;
 pub use files::{exit_code, perform, perform_in};
 pub use host_volume::HostVolume;
 pub use list_of_tests::run_list;
+pub use observed_run::{FuelProfile, Names};
 pub use places::Places;
-pub use run_profile::{FuelProfile, Names};
 pub use sandbox_args::{
     Change, GivenTerminals, GuestLimits, Invocation, ListForm, Run, Task, invocation,
 };

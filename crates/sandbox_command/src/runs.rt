@@ -15,7 +15,7 @@ use crate::archive::{filled, refuse_archive, unfilled};
 use crate::closing::{Ending, RunLeft, delivered, finished, profiled, refuse, told, unread};
 use crate::opening::{Ledger, Medium, RunFiles, made_report, open_all};
 use crate::places::Places;
-use run_profile::FuelProfile;
+use observed_run::FuelProfile;
 use sandbox_args::Run;
 use sandbox_device::RamDevice;
 use sandbox_runs::program;

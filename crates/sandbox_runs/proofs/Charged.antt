@@ -1,6 +1,6 @@
 -- Where the fuel of a run went: its stacks, and what is told of them.
 use Rattle.std.proofs.Common.{◌≡◌, ℕ, List, Option, Some, None, length, refl, sym, subst}
-use Rattle.run_profile.specs.Stacks.{Stacks}
+use Rattle.observed_run.specs.Stacks.{Stacks}
 use Rattle.wasm_syntax.specs.declared.module.Module.{Module}
 use Rattle.sandbox_core.specs.Session.{SessionState, History}
 use Rattle.sandbox_core.specs.Devices.{Devices}

@@ -25,7 +25,7 @@ ghost use Rattle.sandbox_runs.specs.Execution.{RunsOn, Runs, Executes, StaysWith
 use crate::checking::ended_task;
 use crate::ending::ended;
 use crate::sessions::{launch_bare, launch_prepared};
-use run_profile::FuelProfile;
+use observed_run::FuelProfile;
 use sandbox_args::Run;
 use sandbox_core::{HostParts, LoadFault, Outcome, Report, SessionFault, Tally, Volume, load_with};
 use sandbox_report::{Counted, CutStreams, End, Fault, Summary, VolumeEnd};

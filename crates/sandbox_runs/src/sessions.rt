@@ -13,8 +13,7 @@ ghost use Rattle.sandbox_runs.specs.internal.Seeds.{prepared_by, with_seed, with
 ghost use Rattle.sandbox_runs.specs.internal.Sessions.{RunsSession};
 
 use crate::program::{Executed, no_session, reported};
-use observed_run::{ToldRun, run_profiled, run_told};
-use run_profile::FuelProfile;
+use observed_run::{FuelProfile, ToldRun, run_profiled, run_told};
 use sandbox_args::Run;
 use sandbox_core::{
     Frame, HostParts, RefusedParts, RefusedSession, Resumable, Session, SharedModule,

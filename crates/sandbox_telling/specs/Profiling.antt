@@ -1,12 +1,12 @@
 -- Where the fuel of a run went, and the text of its profile (`docs/USING.md`, "Where the fuel went"). What is charged to which stack
--- says `ChargesRun` (`crates/observed_run/specs`), what the lines of stacks are `IsFolded` (`crates/run_profile/specs`).
+-- says `ChargesRun` (`crates/observed_run/specs`), what the lines of stacks are `IsFolded` (`crates/observed_run/specs`).
 use Rattle.std.specs.Prelude.{◌≡◌, ◌+◌, ◌-◌, ◌^◌, ◌==◌, ℕ, List, [], ◌∷◌, ◌++◌, Option, Some, None, false, if◌then◌else◌, length, min, take, unwrap_or}
 use Rattle.std.specs.List.{flat_map}
 use Rattle.wasm_syntax.specs.declared.module.Module.{Module}
 use Rattle.sandbox_inspect.specs.Places.{called}
 use Rattle.sandbox_inspect.specs.Words.{called_text}
-use Rattle.run_profile.specs.Folded.{IsFolded, cut_text}
-use Rattle.run_profile.specs.Stacks.{Stacks}
+use Rattle.observed_run.specs.Folded.{IsFolded, cut_text}
+use Rattle.observed_run.specs.Stacks.{Stacks}
 use Rattle.sandbox_core.specs.Devices.{Devices}
 use Rattle.sandbox_core.specs.Session.{SessionState, History}
 use Rattle.sandbox_core.specs.declared.report.Report.{Report}

@@ -2,11 +2,11 @@
 
 ghost use Rattle.std.specs.Prelude.{◌≡◌, ◌++◌, IfOk, OnOk};
 ghost use Rattle.std.specs.List.{flat_map};
-ghost use Rattle.run_profile.specs.Stacks.{Stacks};
+ghost use Rattle.observed_run.specs.Stacks.{Stacks};
 ghost use Rattle.sandbox_telling.specs.Profiling.{no_stacks, slice_of, stack_byte, stack_name};
 
 use indexmap::IndexMap;
-use run_profile::{FuelProfile, Names};
+use observed_run::{FuelProfile, Names};
 use sandbox_args::Run;
 use sandbox_inspect::add_called;
 use std::alloc::{AllocError, Global};

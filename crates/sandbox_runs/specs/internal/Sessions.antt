@@ -10,7 +10,7 @@ use Rattle.sandbox_core.specs.declared.report.Report.{Report}
 use Rattle.sandbox_core.specs.declared.tally.Tally.{Tally}
 use Rattle.sandbox_core.specs.Session.{SessionState, limited_to}
 use Rattle.observed_run.specs.Telling.{TellsFrames}
-use Rattle.run_profile.specs.Stacks.{Stacks}
+use Rattle.observed_run.specs.Stacks.{Stacks}
 use Rattle.sandbox_report.specs.declared.counted.Counted.{Counted}
 use Rattle.sandbox_args.specs.declared.request.Run.{Run}
 use Rattle.sandbox_runs.specs.declared.program.Executed.{Executed}

@@ -1,10 +1,10 @@
 use Rattle.std.proofs.Common.{◌≡◌, ◌<◌, [], ◌++◌, length, slice_index, sym, subst, arith}
 use Rattle.stream_answers.specs.Printing.{IsPrinted}
 use Rattle.stream_answers.proofs.Pieces.{none_printed, printed_then}
-use Rattle.run_profile.specs.Folded.{line_text}
-use Rattle.run_profile.proofs.Lines.{printed_first, printed_none, printed_some, printed_all}
-use Rattle.run_profile.proofs.stacks.FuelProfile.print_stacks.Goals as goal
-use Rattle.run_profile.proofs.stacks.FuelProfile.print_stacks.Goals.{then-units_at-gt0+in_ok-print_node, else-units_at-gt0}
+use Rattle.observed_run.specs.Folded.{line_text}
+use Rattle.observed_run.proofs.Lines.{printed_first, printed_none, printed_some, printed_all}
+use Rattle.observed_run.proofs.stacks.FuelProfile.print_stacks.Goals as goal
+use Rattle.observed_run.proofs.stacks.FuelProfile.print_stacks.Goals.{then-units_at-gt0+in_ok-print_node, else-units_at-gt0}
 
 pub loop-node-init : goal.loop-node-init
 loop-node-init g c = ([], none_printed g.W.Outlet.took g.W.Write.contents c.args.out.now, printed_first c.args.self.now.calls (g.N.Names.text c.args.names.now) c.args.self.now.units)

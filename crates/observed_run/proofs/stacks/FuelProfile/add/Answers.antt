@@ -1,7 +1,7 @@
 use Rattle.std.proofs.Common.{◌≡◌, ◌<◌, ◌+◌, ◌^◌, ℕ, List, length, slice_set, sum, sym, ap, subst, arith}
-use Rattle.run_profile.specs.Stacks.{Stacks, AddsUnits}
-use Rattle.run_profile.proofs.Trees.{adds, units_fit}
-use Rattle.run_profile.proofs.stacks.FuelProfile.add.Goals as goal
+use Rattle.observed_run.specs.Stacks.{Stacks, AddsUnits}
+use Rattle.observed_run.proofs.Trees.{adds, units_fit}
+use Rattle.observed_run.proofs.stacks.FuelProfile.add.Goals as goal
 
 pub overflow_add-index_mut : goal.overflow_add-index_mut
 overflow_add-index_mut c =

@@ -1,7 +1,7 @@
 //! Stacks of functions as a tree.
 
 ghost use Rattle.std.specs.Prelude.{ℕ, ◌≡◌, ◌+◌, ◌-◌, ◌<◌, ◌^◌, ◌≤◌, [], ◌∷◌, ◌++◌, ◌⊎◌, Some, suc, true, false, IfOk, IfSome, length, slice_get, slice_index, sum, drop, length, option_map, replicate};
-ghost use Rattle.run_profile.specs.Stacks.{AddsUnits, Grows, IsNodeOf, IsStack};
+ghost use Rattle.observed_run.specs.Stacks.{AddsUnits, Grows, IsNodeOf, IsStack};
 
 use indexmap::IndexSet;
 use std::alloc::{AllocError, Global};
@@ -28,8 +28,8 @@ pub struct FuelProfile {
 
 impl Model for FuelProfile {
     ghost use Rattle.std.specs.Prelude.{◌≡◌, ◌≤◌, ℕ, suc, Some, length, slice_get};
-    ghost use Rattle.run_profile.specs.Stacks.{Stacks};
-    ghost use Rattle.run_profile.specs.declared.stacks.Call.{Call};
+    ghost use Rattle.observed_run.specs.Stacks.{Stacks};
+    ghost use Rattle.observed_run.specs.declared.stacks.Call.{Call};
 
     ghost Value = { Stacks };
 

@@ -1,9 +1,9 @@
 -- One node's line more.
 use Rattle.std.proofs.Common.{◌≡◌, ◌<◌, ◌+◌, ℕ, suc, List, [], ◌∷◌, ◌++◌, length, slice_index, drop, append_assoc, append-nil, refl, sym, ap, subst, ◌∙◌, arith}
-use Rattle.run_profile.specs.declared.stacks.Call.{Call}
-use Rattle.run_profile.specs.Stacks.{IsStack}
-use Rattle.run_profile.specs.Folded.{Text, line_text, IsFolded, nothing, none, some}
-use Rattle.run_profile.proofs.Trees.{split}
+use Rattle.observed_run.specs.declared.stacks.Call.{Call}
+use Rattle.observed_run.specs.Stacks.{IsStack}
+use Rattle.observed_run.specs.Folded.{Text, line_text, IsFolded, nothing, none, some}
+use Rattle.observed_run.proofs.Trees.{split}
 
 module _ (calls : List Call) (name : ℕ → Text) (units : List ℕ) where
   -- with the text of the nodes from here on it is the text of all

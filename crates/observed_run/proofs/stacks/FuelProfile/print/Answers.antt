@@ -2,8 +2,8 @@ use Rattle.std.proofs.Common.{◌≡◌, ◌++◌, List, ℕ, ap, subst, ◌∙�
 use Rattle.std.proofs.lemmas.Result.{on_ok_weaker}
 use Rattle.stream_answers.specs.Printing.{IsPrinted}
 use Rattle.stream_answers.proofs.Pieces.{all_printed, printed_then}
-use Rattle.run_profile.specs.Folded.{cut_text}
-use Rattle.run_profile.proofs.stacks.FuelProfile.print.Goals as goal
+use Rattle.observed_run.specs.Folded.{cut_text}
+use Rattle.observed_run.proofs.stacks.FuelProfile.print.Goals as goal
 
 -- the lines, and behind them the last one
 pub returns : goal.returns

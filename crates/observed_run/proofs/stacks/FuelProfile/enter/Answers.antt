@@ -1,6 +1,6 @@
 use Rattle.std.proofs.Common.{refl, ◌∙◌, ◌-◌, length}
-use Rattle.run_profile.proofs.Trees.{grows_none, grows_on, at_bottom, further, keeps_stack, cut_grows, cut_node, still_there}
-use Rattle.run_profile.proofs.stacks.FuelProfile.enter.Goals as goal
+use Rattle.observed_run.proofs.Trees.{grows_none, grows_on, at_bottom, further, keeps_stack, cut_grows, cut_node, still_there}
+use Rattle.observed_run.proofs.stacks.FuelProfile.enter.Goals as goal
 
 -- no function yet
 pub loop-depth-init : goal.loop-depth-init

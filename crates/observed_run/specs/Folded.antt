@@ -1,8 +1,8 @@
 -- A profile as folded stacks, the text that tools for flame graphs read: a line for each stack in which units were taken, with its
 -- functions, the outermost first, and its units. Where units went to a function below the one that took them, a last line tells so.
 use Rattle.std.specs.Prelude.{ℕ, zero, suc, Bool, true, false, ◌<◌, List, [], ◌∷◌, ◌++◌, codes, decimal}
-use Rattle.run_profile.specs.declared.stacks.Call.{Call}
-use Rattle.run_profile.specs.Stacks.{IsStack}
+use Rattle.observed_run.specs.declared.stacks.Call.{Call}
+use Rattle.observed_run.specs.Stacks.{IsStack}
 
 abbrev pub Text : Type 0
 Text = List ℕ

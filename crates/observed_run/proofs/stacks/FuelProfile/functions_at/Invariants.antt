@@ -1,6 +1,6 @@
 use Rattle.std.proofs.Common.{◌++◌, ◌<◌, List, ℕ, length}
-use Rattle.run_profile.specs.Stacks.{IsStack}
-use Rattle.run_profile.proofs.stacks.FuelProfile.functions_at.Given as goal
+use Rattle.observed_run.specs.Stacks.{IsStack}
+use Rattle.observed_run.proofs.stacks.FuelProfile.functions_at.Given as goal
 
 -- what is found stands on the functions of the node that is next
 abbrev pub invariant-loop-at : goal.invariant-loop-at

@@ -1,7 +1,7 @@
 use Rattle.std.proofs.Common.{sym, ap, ℕ, ◌∙◌, List, [], ◌∷◌, ◌++◌, arith, subst, ◌≡◌, ◌<◌, length, Some, not, slice_get, is_some, rules}
-use Rattle.run_profile.specs.Stacks.{Stacks}
-use Rattle.run_profile.proofs.Trees.{found_at, grown, grown_tree, goes_last}
-use Rattle.run_profile.proofs.stacks.FuelProfile.called.Goals as goal
+use Rattle.observed_run.specs.Stacks.{Stacks}
+use Rattle.observed_run.proofs.Trees.{found_at, grown, grown_tree, goes_last}
+use Rattle.observed_run.proofs.stacks.FuelProfile.called.Goals as goal
 
 -- a node that was there
 pub returns-in-Some-clause-found : goal.returns-in-Some-clause-found

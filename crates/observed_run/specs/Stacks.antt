@@ -1,7 +1,7 @@
 -- Stacks of functions that were at work, as a tree: a node stands for a function on top of the functions of the node that called
 -- it. So two stacks share what they have in common, and a deep recursion takes one node for each call.
 use Rattle.std.specs.Prelude.{◌≡◌, ◌≢◌, ◌+◌, ◌≤◌, ℕ, suc, List, [], ◌∷◌, ◌++◌, Bool, false, Some, length, slice_get, slice_index, drop, replicate, sum}
-use Rattle.run_profile.specs.declared.stacks.Call.{Call}
+use Rattle.observed_run.specs.declared.stacks.Call.{Call}
 
 -- Node 0 is the bottom, where no function is at work, and the k-th of these calls is node k + 1. Of each node, the bottom's first,
 -- the units that were taken there.

@@ -2,8 +2,8 @@
 
 ghost use Rattle.std.specs.Prelude.{◌≡◌, ◌<◌, ◌++◌, ℕ, List, OnOk, length, slice_index};
 ghost use Rattle.stream_answers.specs.Printing.{IsPrinted};
-ghost use Rattle.run_profile.specs.Folded.{IsFolded, cut_text, line_text, stack_text};
-ghost use Rattle.run_profile.specs.Stacks.{IsStack};
+ghost use Rattle.observed_run.specs.Folded.{IsFolded, cut_text, line_text, stack_text};
+ghost use Rattle.observed_run.specs.Stacks.{IsStack};
 
 use crate::stacks::FuelProfile;
 use std::alloc::Global;

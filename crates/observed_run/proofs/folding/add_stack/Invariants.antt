@@ -1,6 +1,6 @@
 use Rattle.std.proofs.Common.{◌≡◌, ◌++◌, ◌-◌, drop, length}
-use Rattle.run_profile.specs.Folded.{stack_text}
-use Rattle.run_profile.proofs.folding.add_stack.Given as goal
+use Rattle.observed_run.specs.Folded.{stack_text}
+use Rattle.observed_run.proofs.folding.add_stack.Given as goal
 
 -- the outermost functions so far are added
 abbrev pub invariant-loop-depth : goal.invariant-loop-depth

@@ -1,7 +1,7 @@
 use Rattle.std.proofs.Common.{List, ℕ}
 use Rattle.stream_answers.specs.Printing.{IsPrinted}
-use Rattle.run_profile.proofs.Lines.{Printed}
-use Rattle.run_profile.proofs.stacks.FuelProfile.print_stacks.Given as goal
+use Rattle.observed_run.proofs.Lines.{Printed}
+use Rattle.observed_run.proofs.stacks.FuelProfile.print_stacks.Given as goal
 
 -- the lines of the nodes so far are printed
 abbrev pub invariant-loop-node : goal.invariant-loop-node

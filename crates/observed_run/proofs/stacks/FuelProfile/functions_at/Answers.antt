@@ -1,6 +1,6 @@
 use Rattle.std.proofs.Common.{arith}
-use Rattle.run_profile.proofs.Trees.{found_below, found_all}
-use Rattle.run_profile.proofs.stacks.FuelProfile.functions_at.Goals as goal
+use Rattle.observed_run.proofs.Trees.{found_below, found_all}
+use Rattle.observed_run.proofs.stacks.FuelProfile.functions_at.Goals as goal
 
 -- one function more
 pub loop-at-preserved : goal.loop-at-preserved

@@ -1,6 +1,6 @@
 use Rattle.std.proofs.Common.{◌≡◌, ◌-◌, ◌<◌, drop, length}
-use Rattle.run_profile.specs.Stacks.{Grows, IsStack}
-use Rattle.run_profile.proofs.stacks.FuelProfile.enter.Given as goal
+use Rattle.observed_run.specs.Stacks.{Grows, IsStack}
+use Rattle.observed_run.proofs.stacks.FuelProfile.enter.Given as goal
 
 -- the outermost functions so far have the node
 abbrev pub invariant-loop-depth : goal.invariant-loop-depth

@@ -6,8 +6,8 @@ use Rattle.std.proofs.lemmas.List.Quantifiers.{position-Some}
 use Rattle.std.proofs.lemmas.Option.{slice_get-get_or}
 use Rattle.std.proofs.lemmas.List.{get_or-set_same, get_or-set_other, length-set}
 use Rattle.std.proofs.lemmas.List.Sums.{sum_by-set, get_or-le-sum_by}
-use Rattle.run_profile.specs.declared.stacks.Call.{Call}
-use Rattle.run_profile.specs.Stacks.{Stacks, AddsUnits, Grows, IsNodeOf, IsStack, bottom, above}
+use Rattle.observed_run.specs.declared.stacks.Call.{Call}
+use Rattle.observed_run.specs.Stacks.{Stacks, AddsUnits, Grows, IsNodeOf, IsStack, bottom, above}
 
 some_same : {X : Type 0} {a b : X} → Some a ≡ Some b → a ≡ b
 some_same {X} {a} {b} e = ap (λ o. unwrap_or o a) e
