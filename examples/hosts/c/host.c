@@ -9,19 +9,6 @@
 
 enum { RUNS = 1000, SECTORS = 1000, SLOTS = 16 };
 
-static sandbox_bytes file(const char *path) {
-  FILE *opened = fopen(path, "rb");
-  if (!opened || fseek(opened, 0, SEEK_END))
-    fail(path, 0);
-  long size = ftell(opened);
-  uint8_t *at = malloc(size + 1);
-  rewind(opened);
-  if (!at || fread(at, 1, size, opened) != (size_t)size)
-    fail(path, 0);
-  fclose(opened);
-  return (sandbox_bytes){at, size};
-}
-
 /* What a guest is given: its words, its input, and the volume's root as the directory `/`. */
 static sandbox_supplies supplies_of(const sandbox_bytes *args, size_t count, sandbox_bytes input) {
   static const sandbox_preopen root = {{(const uint8_t *)"/", 1}, {(const uint8_t *)"/", 1}};
