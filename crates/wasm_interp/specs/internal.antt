@@ -1,8 +1,6 @@
--- Definitions that only private contracts and proofs cite, and those that `Machine.antt` names. `Plain` is of the plain
--- machine (of which the fast one shares `chosen`), `Fast` of the fast machine alone.
+-- Definitions that only private contracts and proofs cite, and those that `Machine.antt` names. `Fast` is of the fast machine alone.
 pub mod Programs
 pub mod HeldState
-pub mod Plain
 pub mod Running
 pub mod Begun
 pub mod Invoking
