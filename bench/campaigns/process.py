@@ -307,7 +307,10 @@ def on_full_disk(it, disk, options):
     after = {name: content(f"{disk}/{name}") for name in os.listdir(disk)}
     what = f"{' '.join(words)} on a full disk: status {done.returncode}, {done.stderr.decode()[:200]!r}"
     if options[0] in begun:
-        is_done = done.returncode == 0 and after == {**before, **given_out(words)}
+        expected = {**before, **given_out(words)}
+        for name, other in (("linked", "other"), ("mounted", "real")):
+            expected[other] = expected[name]
+        is_done = done.returncode == 0 and after == expected
         wanted(is_done or done.returncode in (123, 124) and after == before, f"{what}: {[name for name in {*after, *before} if after.get(name) != before.get(name)]}")
     else:
         wanted(done.returncode in (2, 124), what)

@@ -2,9 +2,9 @@
 use Rattle.std.proofs.Common.{◌≡◌, ◌≤◌, ◌<◌, ◌+◌, ◌-◌, ◌^◌, ◌==◌, ℕ, zero, suc, Bool, true, false, if◌then◌else◌, List, [], ◌∷◌, ◌++◌, length, slice_index, drop, replicate, fold, sum, refl, sym, ap, subst, ◌∙◌, inl, inr, arith}
 use Rattle.std.proofs.lemmas.Bool.Decides.{eqb_tells}
 use Rattle.std.proofs.lemmas.List.Sums.{fold-append}
-use Rattle.run_profile.specs.declared.stacks.Call.{Call}
-use Rattle.run_profile.specs.Stacks.{Stacks, AddsUnits, Grows, IsNodeOf, IsStack}
-use Rattle.run_profile.proofs.Trees.{at_bottom, cut_node, still_stack}
+use Rattle.observed_run.specs.declared.stacks.Call.{Call}
+use Rattle.observed_run.specs.Stacks.{Stacks, AddsUnits, Grows, IsNodeOf, IsStack}
+use Rattle.observed_run.proofs.Trees.{at_bottom, cut_node, still_stack}
 use Rattle.observed_run.specs.Charging.{Slice, Charges, charged, functions_of}
 
 -- ---- units of nodes that were added

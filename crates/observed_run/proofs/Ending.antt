@@ -10,7 +10,7 @@ use Rattle.sandbox_core.specs.Session.{SessionState, History, used_by}
 use Rattle.sandbox_core.specs.Tally.{Tallies}
 use Rattle.sandbox_core.specs.Slices.{ReportsStop, RunsSlice, Stops, StopsAfter, outcome_after, stop_of}
 use Rattle.sandbox_core.proofs.Stopping.{slice_spends, stops_after, stops_at_end}
-use Rattle.run_profile.specs.Stacks.{Stacks}
+use Rattle.observed_run.specs.Stacks.{Stacks}
 use Rattle.observed_run.specs.Telling.{ReportsTold, TellsFrames}
 use Rattle.observed_run.specs.Charging.{ChargesRun, ReportsProfiled}
 

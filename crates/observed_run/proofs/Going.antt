@@ -13,8 +13,8 @@ use Rattle.sandbox_core.specs.Session.{SessionState, History, Follow, used_by}
 use Rattle.sandbox_core.specs.Tally.{Tallies}
 use Rattle.sandbox_core.specs.Slices.{AreCalls, RunsSlice}
 use Rattle.sandbox_core.proofs.Stopping.{follow_append, slice_rises, slice_spends, slice_follows, stops_after}
-use Rattle.run_profile.specs.declared.stacks.Call.{Call}
-use Rattle.run_profile.specs.Stacks.{Stacks, AddsUnits, Grows, IsNodeOf}
+use Rattle.observed_run.specs.declared.stacks.Call.{Call}
+use Rattle.observed_run.specs.Stacks.{Stacks, AddsUnits, Grows, IsNodeOf}
 use Rattle.observed_run.specs.Charging.{Slice, Charges, charged, functions_of, slice, slices_from}
 use Rattle.observed_run.specs.internal.Going.{ChargesSlice, GoesInSlices, RunsInSlices}
 use Rattle.observed_run.proofs.Charging.{same_units, same_sum, adds_there, charges_kept, charges_to, charges_more}

@@ -9,8 +9,8 @@ use Rattle.sandbox_core.specs.declared.report.Report.{Report}
 use Rattle.sandbox_core.specs.declared.tally.Tally.{Tally}
 use Rattle.sandbox_core.specs.Devices.{Devices}
 use Rattle.sandbox_core.specs.Session.{SessionState, History, used_by}
-use Rattle.run_profile.specs.declared.stacks.Call.{Call}
-use Rattle.run_profile.specs.Stacks.{Stacks, IsNodeOf}
+use Rattle.observed_run.specs.declared.stacks.Call.{Call}
+use Rattle.observed_run.specs.Stacks.{Stacks, IsNodeOf}
 use Rattle.observed_run.specs.Telling.{ReportsTold}
 
 -- a slice: the session where it began, and the units that it took

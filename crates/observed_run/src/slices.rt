@@ -5,12 +5,12 @@ ghost use Rattle.std.specs.Bool.{OnTrue};
 ghost use Rattle.sandbox_core.specs.Devices.{devices};
 ghost use Rattle.sandbox_core.specs.Session.{used_by};
 ghost use Rattle.sandbox_core.specs.Slices.{RunsSlice, stop_of};
-ghost use Rattle.run_profile.specs.Stacks.{Grows, IsNodeOf};
+ghost use Rattle.observed_run.specs.Stacks.{Grows, IsNodeOf};
 ghost use Rattle.observed_run.specs.Charging.{ReportsProfiled, functions_of};
 ghost use Rattle.observed_run.specs.internal.Going.{ChargesSlice, RunsInSlices};
 
+use crate::stacks::FuelProfile;
 use crate::telling::{ToldRun, tell_frames};
-use run_profile::FuelProfile;
 use sandbox_core::{Frame, Outcome, Resumable, Tally, finish_run, run_slice};
 use std::alloc::Global;
 use stream_answers::{Inlet, Outlet};

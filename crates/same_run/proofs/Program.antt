@@ -7,9 +7,9 @@ use Rattle.wasi_calls.specs.host.Worlds.{Hearing, given_of}
 use Rattle.sandbox_core.specs.Session.{given}
 use Rattle.sandbox_args.specs.declared.request.Run.{Run}
 use Rattle.sandbox_args.specs.Request.{Text}
-use Rattle.sandbox_command.specs.Reporting.{counting}
-use Rattle.sandbox_command.specs.Running.{counted_devices}
-use Rattle.sandbox_command.specs.Supplies.{AreSettings, names_of as named, split_at_equals, terminals_of}
+use Rattle.sandbox_telling.specs.Reporting.{counting}
+use Rattle.sandbox_runs.specs.Running.{counted_devices}
+use Rattle.sandbox_telling.specs.Supplies.{AreSettings, names_of as named, split_at_equals, terminals_of}
 use Rattle.same_run.specs.SameRun.{AreSameSupplies}
 use Rattle.same_run.specs.SameProgram.{HandOutTheSame, SameProgramRun}
 use Rattle.same_run.proofs.Sameness.{same_report}

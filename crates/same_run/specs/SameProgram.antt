@@ -10,9 +10,9 @@ use Rattle.wasi_calls.specs.host.Worlds.{Hearing}
 use Rattle.sandbox_core.specs.Session.{given}
 use Rattle.sandbox_args.specs.declared.request.Run.{Run}
 use Rattle.sandbox_args.specs.Request.{Text, texts, arguments_of}
-use Rattle.sandbox_command.specs.declared.program.Executed.{Executed}
-use Rattle.sandbox_command.specs.Supplies.{AreSettings, directories_of, terminals_of}
-use Rattle.sandbox_command.specs.Running.{Ran, counted_devices}
+use Rattle.sandbox_runs.specs.declared.program.Executed.{Executed}
+use Rattle.sandbox_telling.specs.Supplies.{AreSettings, directories_of, terminals_of}
+use Rattle.sandbox_runs.specs.Running.{Ran, counted_devices}
 use Rattle.same_run.specs.SameRun.{TellTheSame}
 
 -- What the words of two runs hand out is the same: arguments, environment, directories, moment, seed, pages and fuel; and both are

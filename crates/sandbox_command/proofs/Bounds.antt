@@ -20,9 +20,9 @@ use Rattle.vol_commands.specs.declared.exporting.ExportFailure.TheVariants as ex
 use Rattle.sandbox_args.specs.Request.{Text}
 use Rattle.sandbox_args.specs.declared.request.Run.{Run}
 use Rattle.wasi_calls.specs.host.Worlds.{Hearing}
-use Rattle.sandbox_command.specs.declared.program.Executed.{Executed}
-use Rattle.sandbox_command.specs.Execution.{Runs}
-use Rattle.sandbox_command.specs.Status.{EndsWith, export_status, failure_status, import_status, load_status, session_status, status_of, volume_status, why_status}
+use Rattle.sandbox_runs.specs.declared.program.Executed.{Executed}
+use Rattle.sandbox_runs.specs.Execution.{Runs}
+use Rattle.sandbox_runs.specs.Status.{EndsWith, export_status, failure_status, import_status, load_status, session_status, status_of, volume_status, why_status}
 
 pub of_session : (f : SessionFault) (n : ℕ) → n ≡ session_status f → n ≤ 124
 of_session opening.Memory n is = omega (arith, is)

@@ -8,7 +8,7 @@ use Rattle.std.specs.declared.io.Error.{Error}
 use Rattle.std.specs.declared.io.ErrorKind.{ErrorKind}
 use Rattle.sandbox_args.specs.Request.{Text}
 use Rattle.sandbox_args.specs.declared.request.Run.{Run}
-use Rattle.sandbox_command.specs.Reporting.{receiver_of}
+use Rattle.sandbox_telling.specs.Reporting.{receiver_of}
 use Rattle.sandbox_command.specs.Places.{Access, Makes, Opens, Reads, Receives, Chain, ChainWithFailure, IsRefusedAmong, IsRefusedOfAll, medium_accesses, reads_of, run_accesses, where_named}
 use Rattle.sandbox_command.specs.internal.Tests.{AllEndAs, OneEndsAs}
 

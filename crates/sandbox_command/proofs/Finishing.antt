@@ -15,30 +15,30 @@ use Rattle.sandbox_args.specs.declared.request.Invocation.TheVariants as asked
 use Rattle.sandbox_args.specs.Request.{Text}
 use Rattle.wasi_calls.specs.host.Worlds.{StreamCalls}
 use Rattle.sandbox_command.specs.declared.places.Places.{Ghosts}
-use Rattle.sandbox_command.specs.declared.program.Executed.{Executed}
+use Rattle.sandbox_runs.specs.declared.program.Executed.{Executed}
 use Rattle.sandbox_command.specs.declared.closing.RunLeft.{RunLeft}
 use Rattle.sandbox_command.specs.declared.opening.RunFiles.{RunFiles}
 use Rattle.sandbox_command.specs.declared.opening.Medium.{Medium}
 use Rattle.sandbox_command.specs.declared.opening.Medium.TheVariants as medium
-use Rattle.sandbox_command.specs.declared.streams.InputSource.{InputSource}
-use Rattle.sandbox_command.specs.declared.streams.Sink.{Sink}
-use Rattle.sandbox_command.specs.declared.streams.SpareStreams.{SpareStreams}
-use Rattle.sandbox_command.specs.declared.streams.Streams.{Streams}
-use Rattle.sandbox_command.specs.declared.profiling.FuelUse.{FuelUse}
-use Rattle.sandbox_command.specs.declared.stopping.Stopped.{Stopped}
+use Rattle.sandbox_telling.specs.declared.streams.InputSource.{InputSource}
+use Rattle.sandbox_telling.specs.declared.streams.Sink.{Sink}
+use Rattle.sandbox_telling.specs.declared.streams.SpareStreams.{SpareStreams}
+use Rattle.sandbox_telling.specs.declared.streams.Streams.{Streams}
+use Rattle.sandbox_telling.specs.declared.profiling.FuelUse.{FuelUse}
+use Rattle.sandbox_telling.specs.declared.stopping.Stopped.{Stopped}
 use Rattle.sandbox_command.specs.Alone.{Gives, Hands, HandsAll, IsHandedOver, IsProfiled, IsTold, KeepsIt, PrintsUse, RunsAlone, RunsInMemory, RunsOnMedium, RunsWith, left_of, of_buffer}
 use Rattle.sandbox_command.specs.Around.{Around, in_memory}
-use Rattle.sandbox_command.specs.Execution.{Runs}
+use Rattle.sandbox_runs.specs.Execution.{Runs}
 use Rattle.sandbox_command.specs.Files.{Clashes, IsPerformed, RunsNamed}
-use Rattle.sandbox_command.specs.Flushing.{RunAnswered}
-use Rattle.sandbox_command.specs.Sources.{calls_of_run, own_of, sink_answered, sink_contents, source_remaining}
-use Rattle.sandbox_command.specs.Status.{export_status, file_status, import_status}
-use Rattle.sandbox_command.specs.Modules.{profile_for}
-use Rattle.sandbox_command.specs.Stopping.{TellsLines}
-use Rattle.sandbox_command.specs.Streams.{AppendsSome}
+use Rattle.sandbox_runs.specs.Flushing.{RunAnswered}
+use Rattle.sandbox_telling.specs.Sources.{calls_of_run, own_of, sink_answered, sink_contents, source_remaining}
+use Rattle.sandbox_runs.specs.Status.{export_status, file_status, import_status}
+use Rattle.sandbox_telling.specs.Modules.{profile_for}
+use Rattle.sandbox_telling.specs.Stopping.{TellsLines}
+use Rattle.sandbox_telling.specs.Streams.{AppendsSome}
 use Rattle.sandbox_command.specs.ListOfTests.{RunsLines}
 use Rattle.sandbox_command.proofs.Bounds.{export_within, import_within, of_load, of_session, runs_within}
-use Rattle.sandbox_command.proofs.Lines.{lines_then}
+use Rattle.sandbox_telling.proofs.Lines.{lines_then}
 
 -- ---- what it had
 

@@ -9,14 +9,14 @@ use Rattle.vol_inode.specs.declared.version.Version.TheVariants.{One, Two, Four}
 use Rattle.sandbox_args.specs.Request.{Text}
 use Rattle.sandbox_args.specs.declared.request.Invocation.{Invocation}
 use Rattle.sandbox_args.specs.declared.request.Invocation.TheVariants as asked
-use Rattle.sandbox_command.specs.declared.streams.Streams.{Streams}
-use Rattle.sandbox_command.specs.declared.work.VolumeWork.{VolumeWork}
-use Rattle.sandbox_command.specs.declared.work.VolumeWork.TheVariants as work
+use Rattle.sandbox_telling.specs.declared.streams.Streams.{Streams}
+use Rattle.sandbox_telling.specs.declared.work.VolumeWork.{VolumeWork}
+use Rattle.sandbox_telling.specs.declared.work.VolumeWork.TheVariants as work
 use Rattle.sandbox_command.specs.Around.{Around, EndsGiven}
 use Rattle.sandbox_command.specs.Files.{Clashes, DoesFormat, DoesOn, HasExecuted, IsPerformed}
-use Rattle.sandbox_command.specs.Formatting.{most_sectors, room_for, version_for}
+use Rattle.sandbox_telling.specs.Formatting.{most_sectors, room_for, version_for}
 use Rattle.sandbox_command.specs.Places.{Access, HasRoom, lengthens}
-use Rattle.sandbox_command.specs.Status.{file_status}
+use Rattle.sandbox_runs.specs.Status.{file_status}
 
 most_within : (version : Version) → most_sectors version ≤ 16777216
 most_within One = omega arith

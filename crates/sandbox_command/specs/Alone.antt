@@ -21,11 +21,11 @@ use Rattle.vol_commands.specs.declared.exporting.ExportFailure.TheVariants as ex
 use Rattle.vol_commands.specs.Exporting.{PerformsExport}
 use Rattle.sandbox_args.specs.declared.request.Run.{Run}
 use Rattle.sandbox_args.specs.Request.{Text}
-use Rattle.sandbox_command.specs.declared.program.Executed.{Executed}
-use Rattle.sandbox_command.specs.declared.streams.InputSource.{InputSource}
-use Rattle.sandbox_command.specs.declared.streams.Sink.{Sink}
-use Rattle.sandbox_command.specs.declared.streams.SpareStreams.{SpareStreams}
-use Rattle.sandbox_command.specs.declared.streams.Streams.{Streams}
+use Rattle.sandbox_runs.specs.declared.program.Executed.{Executed}
+use Rattle.sandbox_telling.specs.declared.streams.InputSource.{InputSource}
+use Rattle.sandbox_telling.specs.declared.streams.Sink.{Sink}
+use Rattle.sandbox_telling.specs.declared.streams.SpareStreams.{SpareStreams}
+use Rattle.sandbox_telling.specs.declared.streams.Streams.{Streams}
 use Rattle.sandbox_command.specs.declared.places.Places.{Ghosts}
 use Rattle.sandbox_command.specs.declared.opening.Ledger.{Ledger}
 use Rattle.sandbox_command.specs.declared.opening.RunFiles.{RunFiles}
@@ -35,18 +35,18 @@ use Rattle.sandbox_command.specs.declared.closing.RunLeft.{RunLeft}
 use Rattle.sandbox_command.specs.Around.{Around, EndsGiven, in_memory}
 use Rattle.sandbox_command.specs.Archive.{Fills, unfilled}
 use Rattle.sandbox_command.specs.Beginning.{IsImage, unread}
-use Rattle.sandbox_command.specs.Execution.{Runs}
+use Rattle.sandbox_runs.specs.Execution.{Runs}
 use Rattle.sandbox_command.specs.Places.{Chain, HandsOut, HandsOver, IsOfImage, IsOfName, IsOfRandom, IsRefusedAmong, IsRefusedOfAll, Prints, report_accesses, run_accesses}
-use Rattle.run_profile.specs.Stacks.{Stacks}
-use Rattle.sandbox_command.specs.declared.profiling.FuelUse.{FuelUse}
-use Rattle.sandbox_command.specs.declared.stopping.Stopped.{Stopped}
-use Rattle.sandbox_command.specs.Profiling.{IsProfileOf, no_stacks}
-use Rattle.sandbox_command.specs.Flushing.{RunAnswered}
-use Rattle.sandbox_command.specs.Sources.{calls_of_run, guest_of, own_of, sink_answered, sink_contents, sink_of, source_of, source_remaining, spare_of}
-use Rattle.sandbox_command.specs.Status.{export_status, file_status, import_status}
-use Rattle.sandbox_command.specs.Modules.{profile_for}
-use Rattle.sandbox_command.specs.Stopping.{AreLinesOfNone, TellsLines}
-use Rattle.sandbox_command.specs.Streams.{AppendsSome}
+use Rattle.observed_run.specs.Stacks.{Stacks}
+use Rattle.sandbox_telling.specs.declared.profiling.FuelUse.{FuelUse}
+use Rattle.sandbox_telling.specs.declared.stopping.Stopped.{Stopped}
+use Rattle.sandbox_telling.specs.Profiling.{IsProfileOf, no_stacks}
+use Rattle.sandbox_runs.specs.Flushing.{RunAnswered}
+use Rattle.sandbox_telling.specs.Sources.{calls_of_run, guest_of, own_of, sink_answered, sink_contents, sink_of, source_of, source_remaining, spare_of}
+use Rattle.sandbox_runs.specs.Status.{export_status, file_status, import_status}
+use Rattle.sandbox_telling.specs.Modules.{profile_for}
+use Rattle.sandbox_telling.specs.Stopping.{AreLinesOfNone, TellsLines}
+use Rattle.sandbox_telling.specs.Streams.{AppendsSome}
 
 -- It begins with an empty volume in memory.
 abbrev pub IsFresh : Run → Type 0

@@ -30,8 +30,8 @@ use Rattle.sandbox_report.specs.declared.summary.VolumeEnd.TheVariants as became
 use Rattle.sandbox_report.specs.declared.summary.Summary.{Summary}
 use Rattle.sandbox_args.specs.declared.request.Run.{Run}
 use Rattle.sandbox_command.specs.Around.{in_memory}
-use Rattle.sandbox_command.specs.Reporting.{not_run}
-use Rattle.sandbox_command.specs.Status.{import_status}
+use Rattle.sandbox_telling.specs.Reporting.{not_run}
+use Rattle.sandbox_runs.specs.Status.{import_status}
 
 -- ---- how large it is
 

@@ -11,9 +11,10 @@ use Rattle.vol_sector.specs.Past.{LeavesPast}
 use Rattle.wasi_calls.specs.host.Worlds.{Hearing, StreamCalls, hearing}
 use Rattle.sandbox_device.specs.declared.ram_device.RamDevice.{RamDevice}
 use Rattle.sandbox_command.specs.declared.places.Places.{Ghosts}
-use Rattle.sandbox_command.specs.declared.streams.Streams.{Streams}
+use Rattle.sandbox_telling.specs.declared.streams.Streams.{Streams}
 use Rattle.sandbox_command.specs.Beginning.{memory_disk}
-use Rattle.sandbox_command.specs.Streams.{AppendsSome}
+use Rattle.sandbox_telling.specs.Streams.{AppendsSome}
+pub use Rattle.sandbox_runs.specs.StreamCalling.{calls_of}
 
 -- what is known of how outputs answer that are flushed: the files of `Places`, and those that were given
 pub record Flushes (O W1 W2 : Type 0) : Type 1 where
@@ -39,9 +40,6 @@ pub record Calling (I O R W1 W2 : Type 0) : Type 1 where
   pub reads : StreamCalls I
   pub writes : StreamCalls O
   pub given : Hearing R W1 W2
-
-abbrev pub calls_of : {S : Type 0} → (S → List ℕ → S → Type 0) → (S → S → Type 0) → StreamCalls S
-calls_of moved refused = record { moved = moved; refused = refused }
 
 abbrev pub calling : {I O R W1 W2 : Type 0} → (I → List ℕ → I → Type 0) → (I → I → Type 0) → (O → List ℕ → O → Type 0) → (O → O → Type 0)
     → (R → List ℕ → R → Type 0) → (R → R → Type 0) → (W1 → List ℕ → W1 → Type 0) → (W1 → W1 → Type 0) → (W2 → List ℕ → W2 → Type 0) → (W2 → W2 → Type 0)

@@ -12,7 +12,7 @@ use Rattle.sandbox_report.specs.declared.summary.VolumeEnd.TheVariants as became
 use Rattle.sandbox_report.specs.declared.summary.Summary.{Summary}
 use Rattle.sandbox_args.specs.declared.request.Run.{Run}
 use Rattle.sandbox_args.specs.Request.{Text}
-use Rattle.sandbox_command.specs.Reporting.{not_run}
+use Rattle.sandbox_telling.specs.Reporting.{not_run}
 
 -- what is known of the disk of a device in memory
 abbrev pub memory_disk : RamDevice → Disk

@@ -22,22 +22,22 @@ use Rattle.sandbox_args.specs.declared.request.Invocation.TheVariants as asked
 use Rattle.sandbox_args.specs.Request.{Text}
 use Rattle.sandbox_args.specs.CommandLine.{AsksFor, program}
 use Rattle.stream_answers.specs.Hearing.{Hears, Moves, Refuses}
-use Rattle.sandbox_command.specs.declared.program.Executed.{Executed}
-use Rattle.sandbox_command.specs.declared.work.VolumeWork.{VolumeWork}
-use Rattle.sandbox_command.specs.declared.work.VolumeWork.TheVariants as work
+use Rattle.sandbox_runs.specs.declared.program.Executed.{Executed}
+use Rattle.sandbox_telling.specs.declared.work.VolumeWork.{VolumeWork}
+use Rattle.sandbox_telling.specs.declared.work.VolumeWork.TheVariants as work
 use Rattle.sandbox_command.specs.declared.host_places.HostPlaces.{HostPlaces}
 use Rattle.sandbox_command.specs.declared.host_volume.HostVolume.{HostVolume}
-use Rattle.sandbox_command.specs.declared.streams.Streams.{Streams}
+use Rattle.sandbox_telling.specs.declared.streams.Streams.{Streams}
 use Rattle.sandbox_command.specs.Alone.{RunsAlone}
 use Rattle.sandbox_command.specs.Around.{Around, Calling, EndsGiven, Flushes}
-use Rattle.sandbox_command.specs.Execution.{StaysWithin, Executes}
-use Rattle.sandbox_command.specs.Flushing.{Answered}
-use Rattle.sandbox_command.specs.Formatting.{room_for, version_for}
-use Rattle.sandbox_command.specs.Modules.{profile_for}
-use Rattle.sandbox_command.specs.Inspecting.{Inspects}
+use Rattle.sandbox_runs.specs.Execution.{StaysWithin, Executes}
+use Rattle.sandbox_runs.specs.Flushing.{Answered}
+use Rattle.sandbox_telling.specs.Formatting.{room_for, version_for}
+use Rattle.sandbox_telling.specs.Modules.{profile_for}
+use Rattle.sandbox_runs.specs.Inspecting.{Inspects}
 use Rattle.sandbox_command.specs.Places.{Access, HasRoom, Locks, Reads, WasEnded, WasRefused, lengthens}
-use Rattle.sandbox_command.specs.Status.{command_line_status, file_status, words_status}
-use Rattle.sandbox_command.specs.Streams.{AppendsSome}
+use Rattle.sandbox_runs.specs.Status.{command_line_status, file_status, words_status}
+use Rattle.sandbox_telling.specs.Streams.{AppendsSome}
 use Rattle.sandbox_command.specs.System.{IsImageOfName, IsOutput, IsRead, IsVolume, WasGiven, WasPrinted}
 use Rattle.sandbox_command.specs.ListOfTests.{RunsList}
 pub use Rattle.sandbox_command.specs.Beginning.{IsImage, memory_disk}

@@ -11,7 +11,7 @@ use Rattle.vol_commands.specs.Formatting.{BeginsAsVolume}
 use Rattle.sandbox_device.specs.declared.ram_device.RamDevice.{RamDevice}
 use Rattle.sandbox_args.specs.declared.request.Run.{Run}
 use Rattle.sandbox_args.specs.Request.{Text}
-use Rattle.sandbox_command.specs.Reporting.{receiver_of}
+use Rattle.sandbox_telling.specs.Reporting.{receiver_of}
 
 -- A file of this name is opened to read; or opened or made, to be written from its beginning; or one that was made is cut
 -- to nothing; or a file is read whole and not written; or it is that of a volume, which is locked and read, or made or

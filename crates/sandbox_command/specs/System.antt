@@ -13,7 +13,7 @@ use Rattle.sandbox_args.specs.Request.{Text}
 use Rattle.stream_answers.specs.System.{HasRefused, WasGiven as Gave}
 use Rattle.sandbox_command.specs.declared.host_volume.HostVolume.{HostVolume}
 use Rattle.stream_answers.specs.Pieces.{AtLast, Gives, IsWhole}
-use Rattle.sandbox_command.specs.Flushing.{FileTook}
+use Rattle.sandbox_runs.specs.Flushing.{FileTook}
 
 -- It was opened or made under this name, and at the most cut since.
 abbrev pub IsOutput : Text → FileOutput → Type 0

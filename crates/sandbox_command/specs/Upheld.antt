@@ -10,9 +10,9 @@ use Rattle.wasi_calls.specs.declared.host.wasi_host.HostParts.{HostParts}
 use Rattle.wasi_calls.specs.host.Worlds.{Hearing}
 use Rattle.sandbox_core.specs.Headline.{Upholds}
 use Rattle.sandbox_args.specs.declared.request.Run.{Run}
-use Rattle.sandbox_command.specs.declared.program.Executed.{Executed}
-use Rattle.sandbox_command.specs.RunHost.{counted_devices}
-use Rattle.sandbox_command.specs.Guest.{GuestRan}
+use Rattle.sandbox_runs.specs.declared.program.Executed.{Executed}
+use Rattle.sandbox_telling.specs.RunHost.{counted_devices}
+use Rattle.sandbox_runs.specs.Guest.{GuestRan}
 
 module _ {D R W1 W2 : Type 0} (Stands : StandsFor) (is_honest : D → Type 0) (disk : D → Disk) (sectors_on failures : D → ℕ)
     (goes_on : ℕ → D → D → Type 0) (remaining : R → Option (List ℕ)) (out_contents : W1 → Option (List ℕ))

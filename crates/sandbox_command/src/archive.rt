@@ -3,16 +3,16 @@
 ghost use Rattle.std.specs.Prelude.{◌≡◌, ℕ, Err, IfErr, IfOk, MatchResult, Ok, length, replicate};
 ghost use Rattle.sandbox_device.specs.declared.ram_device.RamDevice.{RamDevice as RamDeviceValue};
 ghost use Rattle.sandbox_command.specs.Archive.{Fills, IsFormatted, IsImported, IsUnmade, blocks_of, import_reason, of_formatting, reason_of_why, sectors_of, slots_of, unfilled, version_of};
-ghost use Rattle.sandbox_command.specs.Status.{import_status};
-ghost use Rattle.sandbox_command.specs.Streams.{AppendsSome};
+ghost use Rattle.sandbox_runs.specs.Status.{import_status};
+ghost use Rattle.sandbox_telling.specs.Streams.{AppendsSome};
 
-use crate::ending::Failed;
-use crate::explaining::About;
-use crate::reporting::not_run;
-use crate::work::VolumeWork;
 use sandbox_args::Run;
 use sandbox_device::RamDevice;
 use sandbox_report::{Fault, Summary, VolumeEnd};
+use sandbox_runs::ending::Failed;
+use sandbox_telling::explaining::About;
+use sandbox_telling::reporting::not_run;
+use sandbox_telling::work::VolumeWork;
 use std::alloc::Global;
 use stream_answers::Outlet;
 use vol_commands::{Failure, ImportFailure, format_as, import_into};

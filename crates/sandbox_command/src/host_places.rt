@@ -8,7 +8,7 @@ ghost use Rattle.sandbox_device.specs.Ram.{joined_sectors};
 ghost use Rattle.sandbox_report.specs.Reporting.{report_text};
 ghost use Rattle.sandbox_args.specs.Request.{Text};
 ghost use Rattle.sandbox_command.specs.Files.{file_disk};
-ghost use Rattle.sandbox_command.specs.Profiling.{IsProfile};
+ghost use Rattle.sandbox_telling.specs.Profiling.{IsProfile};
 ghost use Rattle.sandbox_command.specs.Places.{HasRoom, WasEnded, WasRefused};
 ghost use Rattle.stream_answers.specs.Printing.{IsPrinted};
 ghost use Rattle.sandbox_command.specs.System.{IsImageOfName, IsOutput, IsRead, IsVolume, WasGiven, WasPrinted};
@@ -19,7 +19,7 @@ use crate::places::Places;
 use crate::possession::{HeldFiles, refuse_errors, refuse_errors_of};
 use crate::reading::read_whole;
 use crate::receiver::Receiver;
-use run_profile::{FuelProfile, Names};
+use observed_run::{FuelProfile, Names};
 use sandbox_args::{Invocation, Run};
 use sandbox_device::{
     Contents, FileDevice, FileOutput, Hindrance, Identity, RamDevice, open_image, open_to_read,

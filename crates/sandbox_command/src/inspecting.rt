@@ -3,13 +3,13 @@
 ghost use Rattle.std.specs.Prelude.{◌≡◌, Bool, IfErr, IfOk};
 ghost use Rattle.std.specs.IoError.{error_kind};
 ghost use Rattle.stream_answers.specs.Hearing.{Hears, Moves, Refuses};
-ghost use Rattle.sandbox_command.specs.Flushing.{Answered};
-ghost use Rattle.sandbox_command.specs.Inspecting.{Inspects, refused_status, survey_status};
-ghost use Rattle.sandbox_command.specs.Streams.{AppendsSome};
+ghost use Rattle.sandbox_runs.specs.Flushing.{Answered};
+ghost use Rattle.sandbox_runs.specs.Inspecting.{Inspects, refused_status, survey_status};
+ghost use Rattle.sandbox_telling.specs.Streams.{AppendsSome};
 
-use crate::program::{Executed, FAULT, left_with, out_of_memory, refuse_file};
-use crate::streams::Streams;
 use sandbox_inspect::{Links, survey};
+use sandbox_runs::program::{Executed, FAULT, left_with, out_of_memory, refuse_file};
+use sandbox_telling::streams::Streams;
 use std::alloc::Global;
 use std::io;
 use std::io::ErrorKind;

@@ -2,7 +2,7 @@
 
 ghost use Rattle.wasi_calls.specs.host.Worlds.{hearing};
 ghost use Rattle.sandbox_command.specs.Archive.{BeginsWithItsStream, GivesItsTree};
-ghost use Rattle.sandbox_command.specs.Running.{RunsAreGuests};
+ghost use Rattle.sandbox_runs.specs.Running.{RunsAreGuests};
 ghost use Rattle.sandbox_command.specs.Upheld.{RunUpholds};
 
 use sandbox_core::laws::{SnapshotMeaning, headline_opened, turns_are_safe};

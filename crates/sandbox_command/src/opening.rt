@@ -8,11 +8,11 @@ ghost use Rattle.sandbox_command.specs.Beginning.{IsImage};
 ghost use Rattle.sandbox_command.specs.Places.{Chain, IsOfImage, IsOfName, IsOfRandom, IsRefusedAmong, IsRefusedOfAll, Makes, Opens, Reads, Receives, file_accesses, medium_accesses, reads_of, report_accesses, run_accesses, where_named};
 
 use crate::places::Places;
-use crate::profiling::no_stacks;
-use crate::reporting::receiver_of;
-use run_profile::FuelProfile;
+use observed_run::FuelProfile;
 use sandbox_args::Run;
 use sandbox_device::RamDevice;
+use sandbox_telling::profiling::no_stacks;
+use sandbox_telling::reporting::receiver_of;
 use std::alloc::Global;
 use std::io;
 use vol_commands::FRESH_SECTORS;

@@ -7,10 +7,10 @@ ghost use Rattle.std.specs.declared.io.ErrorKind.{ErrorKind as Kind};
 ghost use Rattle.sandbox_report.specs.Reporting.{report_text};
 ghost use Rattle.sandbox_args.specs.Request.{Text};
 ghost use Rattle.sandbox_device.specs.declared.ram_device.RamDevice.{RamDevice as RamDeviceValue};
-ghost use Rattle.sandbox_command.specs.Profiling.{IsProfile};
+ghost use Rattle.sandbox_telling.specs.Profiling.{IsProfile};
 ghost use Rattle.sandbox_command.specs.Places.{Access, Cuts, HandsOut, HandsOver, HasRoom, Locks, Makes, Opens, Prints, Reads, Receives, lengthens};
 
-use run_profile::{FuelProfile, Names};
+use observed_run::{FuelProfile, Names};
 use sandbox_device::{Hindrance, RamDevice};
 use sandbox_report::Summary;
 use std::alloc::Global;

@@ -1,18 +1,18 @@
 //! What is said in words of a run that could not begin, or that ended for want of something.
 
-ghost use Rattle.sandbox_command.specs.Streams.{AppendsSome};
+ghost use Rattle.sandbox_telling.specs.Streams.{AppendsSome};
 
-use crate::explaining::{say_meaning, say_part, tell_of_fault, tell_words};
-use crate::features::feature_cure;
 use crate::inspecting::Served;
-use crate::modules::profile_for;
-use crate::output::{say, say_name, tell};
 use arrayvec::ArrayVec;
 use meanings::{fault_cure, fault_text};
 use sandbox_args::{Invocation, Run};
 use sandbox_core::Outcome;
 use sandbox_inspect::{add_function_at, add_refused_import};
 use sandbox_report::Fault;
+use sandbox_telling::explaining::{say_meaning, say_part, tell_of_fault, tell_words};
+use sandbox_telling::features::feature_cure;
+use sandbox_telling::modules::profile_for;
+use sandbox_telling::output::{say, say_name, tell};
 use std::alloc::Global;
 use std::io;
 use std::io::Write;

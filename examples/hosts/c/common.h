@@ -17,3 +17,17 @@ static inline void check(const char *what, uint32_t answer) {
 }
 
 static inline sandbox_bytes bytes_of(const char *text) { return (sandbox_bytes){(const uint8_t *)text, strlen(text)}; }
+
+/* All bytes of a file. */
+static inline sandbox_bytes file(const char *path) {
+  FILE *opened = fopen(path, "rb");
+  if (!opened || fseek(opened, 0, SEEK_END))
+    fail(path, 0);
+  long size = ftell(opened);
+  uint8_t *at = malloc(size + 1);
+  rewind(opened);
+  if (!at || fread(at, 1, size, opened) != (size_t)size)
+    fail(path, 0);
+  fclose(opened);
+  return (sandbox_bytes){at, size};
+}

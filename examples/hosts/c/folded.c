@@ -8,73 +8,17 @@
  * a loop of a length that divides it would be met at one instruction each time.)
  */
 #define HOST "folded"
-#include "common.h"
-
-typedef struct {
-  char *stack;
-  uint64_t units;
-} line;
-
-static line *lines;
-static size_t lines_count;
-
-/* Adds units to a stack, which is met for the first time or again. */
-static void add(char *stack, uint64_t units) {
-  for (size_t n = 0; n < lines_count; n++)
-    if (!strcmp(lines[n].stack, stack)) {
-      lines[n].units += units;
-      free(stack);
-      return;
-    }
-  lines = realloc(lines, (lines_count + 1) * sizeof *lines);
-  if (!lines)
-    fail("memory", SANDBOX_OUT_OF_MEMORY);
-  lines[lines_count++] = (line){stack, units};
-}
-
-/* A function's name without what the lines are cut by. */
-static size_t name_of(sandbox_bytes module, uint32_t function, char *room, size_t length) {
-  size_t count = sandbox_function_name(module.at, module.length, function, (uint8_t *)room, length);
-  count = count < length ? count : length;
-  for (size_t n = 0; n < count; n++)
-    if (room[n] <= ' ' || room[n] == ';' || room[n] == 127)
-      room[n] = '?';
-  return count;
-}
-
-/* The functions at work, the outermost first. */
-static char *stack_of(sandbox_session **session, sandbox_bytes module) {
-  enum { NAME = 256 };
-  sandbox_frame frame;
-  size_t depth = 0, at = 0;
-  while (sandbox_frame_at(session, depth, &frame) == SANDBOX_OK)
-    depth++;
-  char *stack = malloc(depth * (NAME + 1) + 16);
-  if (!stack)
-    fail("memory", SANDBOX_OUT_OF_MEMORY);
-  for (size_t n = depth; n-- > 0; stack[at++] = ';') {
-    check("frame_at", sandbox_frame_at(session, n, &frame));
-    at += name_of(module, frame.function, stack + at, NAME);
-  }
-  if (depth)
-    stack[--at] = 0;
-  else
-    strcpy(stack, "[outside]");
-  return stack;
-}
+#include "stacks.h"
 
 int main(int argc, char **argv) {
   uint64_t every = argc > 1 ? strtoull(argv[1], NULL, 10) : 0;
-  FILE *opened = argc > 2 ? fopen(argv[2], "rb") : NULL;
-  if (!every || !opened || fseek(opened, 0, SEEK_END)) {
+  if (!every || argc < 3) {
     fprintf(stderr, "folded UNITS MODULE [WORD]...\n");
     return 2;
   }
-  sandbox_bytes module = {malloc(ftell(opened) + 1), ftell(opened)}, none = bytes_of(""), *words = malloc(argc * sizeof *words);
-  rewind(opened);
-  if (!module.at || !words || fread((void *)module.at, 1, module.length, opened) != module.length)
-    fail(argv[2], 0);
-  fclose(opened);
+  sandbox_bytes module = file(argv[2]), none = bytes_of(""), *words = malloc(argc * sizeof *words);
+  if (!words)
+    fail("memory", SANDBOX_OUT_OF_MEMORY);
   for (int n = 2; n < argc; n++)
     words[n - 2] = bytes_of(argv[n]);
   const sandbox_preopen root = {bytes_of("/"), bytes_of("/")};
@@ -93,11 +37,8 @@ int main(int argc, char **argv) {
     while (told.kind == SANDBOX_CALLED);
     add(stack, told.used - before);
   }
-  for (size_t n = 0; n < lines_count; n++) {
-    printf("%s %llu\n", lines[n].stack, (unsigned long long)lines[n].units);
-    free(lines[n].stack);
-  }
+  print_lines(stdout);
   check("close", sandbox_close(&session));
-  free(lines), free(words), free((void *)module.at);
+  free(words), free((void *)module.at);
   return 0;
 }

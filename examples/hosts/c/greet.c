@@ -11,19 +11,6 @@
 
 enum { UNITS = 1000000, MOST = 16, TEXT = 256 };
 
-static sandbox_bytes file(const char *path) {
-  FILE *opened = fopen(path, "rb");
-  if (!opened || fseek(opened, 0, SEEK_END))
-    fail(path, 0);
-  long size = ftell(opened);
-  uint8_t *at = malloc(size + 1);
-  rewind(opened);
-  if (!at || fread(at, 1, size, opened) != (size_t)size)
-    fail(path, 0);
-  fclose(opened);
-  return (sandbox_bytes){at, size};
-}
-
 /* Answers `env.say`, the one function that the module imports of a host: prints the text, which lies in the guest's memory. */
 static void say(sandbox_session **instance) {
   uint64_t arguments[MOST] = {0};

@@ -8,8 +8,8 @@ use Rattle.sandbox_core.specs.Devices.{Devices}
 use Rattle.sandbox_core.specs.Session.{SessionState, History, Follow, used_by}
 use Rattle.sandbox_core.specs.Tally.{Tallies}
 use Rattle.sandbox_core.specs.Slices.{StopsAfter}
-use Rattle.run_profile.specs.declared.stacks.Call.{Call}
-use Rattle.run_profile.specs.Stacks.{Stacks, AddsUnits, Grows, IsNodeOf}
+use Rattle.observed_run.specs.declared.stacks.Call.{Call}
+use Rattle.observed_run.specs.Stacks.{Stacks, AddsUnits, Grows, IsNodeOf}
 use Rattle.observed_run.specs.Charging.{Slice, Charges, ChargesRun, functions_of, slices_from}
 
 -- a slice was charged to the functions at work where it began

@@ -2,8 +2,7 @@
 
 ghost use Rattle.std.specs.Prelude.{decimal};
 
-use observed_run::{run_profiled, run_told};
-use run_profile::{FuelProfile, Names};
+use observed_run::{FuelProfile, Names, run_profiled, run_told};
 use sandbox_core::{
     Frame, Outcome, Preopen, Resumable, Session, Settings, SharedModule, SharedSession, Trap,
     Valid, Volume, load,

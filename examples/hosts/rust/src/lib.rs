@@ -58,9 +58,44 @@ pub fn errno_text(number: u32) -> String {
 const MISUSE: u32 = 100;
 
 fn answered(number: u32) -> Result<(), Refused> {
+    answered_at(number, 0)
+}
+
+/// The same, of a module that may be refused at a place in its bytes.
+fn answered_at(number: u32, offset: u32) -> Result<(), Refused> {
     match number {
         0 => Ok(()),
-        _ => Err(Refused { number, offset: 0 }),
+        _ => Err(Refused { number, offset }),
+    }
+}
+
+/// These sectors, or an empty volume that is discarded at the end.
+fn volume_of(sectors: Option<&[[u8; 512]]>) -> sys::Volume {
+    match sectors {
+        None => sys::Volume { kind: 0, sectors: [].as_ptr(), sectors_count: 0 },
+        Some(sectors) => sys::Volume { kind: 1, sectors: sectors.as_ptr(), sectors_count: sectors.len() },
+    }
+}
+
+/// What the guest of a session or an instance has written so far to descriptor 1 or 2.
+fn written(raw: &mut *mut sys::OpaqueSession, descriptor: u32) -> Vec<u8> {
+    // SAFETY: `raw` is a session or an instance, and the room has its length.
+    unsafe {
+        let length = sys::sandbox_output(raw, descriptor, 0, [].as_mut_ptr(), 0);
+        let mut room = vec![0; length];
+        sys::sandbox_output(raw, descriptor, 0, room.as_mut_ptr(), length);
+        room
+    }
+}
+
+/// The sectors of one that is finished.
+fn sectors_of(raw: &mut *mut sys::OpaqueSession) -> Sectors {
+    // SAFETY: `raw` is a session or an instance, and the room has its length.
+    unsafe {
+        let count = sys::sandbox_volume_out(raw, [].as_mut_ptr(), 0);
+        let mut sectors = vec![[0; 512]; count];
+        sys::sandbox_volume_out(raw, sectors.as_mut_ptr(), count);
+        sectors
     }
 }
 
@@ -144,10 +179,9 @@ impl<'a> Module<'a> {
     pub fn load_with(bytes: &'a [u8], holds: Holds) -> Result<Module<'a>, Refused> {
         let (mut raw, mut why) = (null_mut(), sys::Why::default());
         // SAFETY: the bytes are borrowed for as long as the module or its session lives.
-        match unsafe { sys::sandbox_load_with(&mut raw, bytes.as_ptr(), bytes.len(), holds as u32, &mut why) } {
-            0 => Ok(Module { raw, bytes: PhantomData }),
-            number => Err(Refused { number, offset: why.offset }),
-        }
+        let number = unsafe { sys::sandbox_load_with(&mut raw, bytes.as_ptr(), bytes.len(), holds as u32, &mut why) };
+        answered_at(number, why.offset)?;
+        Ok(Module { raw, bytes: PhantomData })
     }
 
     /// Decodes and validates the module, and makes all once that its sessions look up. They have the pages of these limits; one with
@@ -160,10 +194,9 @@ impl<'a> Module<'a> {
     pub fn prepare_with(bytes: &'a [u8], limits: Limits, holds: Holds) -> Result<Module<'a>, Refused> {
         let (mut raw, mut why) = (null_mut(), sys::Why::default());
         // SAFETY: the bytes are borrowed for as long as the module, what shares it, or a session of them lives.
-        match unsafe { sys::sandbox_prepare_with(&mut raw, bytes.as_ptr(), bytes.len(), &limits_of(limits), holds as u32, &mut why) } {
-            0 => Ok(Module { raw, bytes: PhantomData }),
-            number => Err(Refused { number, offset: why.offset }),
-        }
+        let number = unsafe { sys::sandbox_prepare_with(&mut raw, bytes.as_ptr(), bytes.len(), &limits_of(limits), holds as u32, &mut why) };
+        answered_at(number, why.offset)?;
+        Ok(Module { raw, bytes: PhantomData })
     }
 
     /// The same module again, where it was prepared; else that is refused as misuse. Nothing is decoded or made again.
@@ -177,10 +210,7 @@ impl<'a> Module<'a> {
     /// A session of the module, over these sectors, or over an empty volume that is discarded at the end. A refusal gives the
     /// module back.
     pub fn open<'s>(self, supplies: &Supplies<'s>, volume: Option<&[[u8; 512]]>) -> Result<Session<'a, 's>, (Refused, Module<'a>)> {
-        match volume {
-            None => self.open_over(supplies, sys::Volume { kind: 0, sectors: [].as_ptr(), sectors_count: 0 }),
-            Some(sectors) => self.open_over(supplies, sys::Volume { kind: 1, sectors: sectors.as_ptr(), sectors_count: sectors.len() }),
-        }
+        self.open_over(supplies, volume_of(volume))
     }
 
     /// A session over these sectors, which are those of a file: [`Session::settle`] does there what the session did.
@@ -308,13 +338,7 @@ impl<'a> Session<'a, '_> {
 
     /// What the guest has written so far to descriptor 1 or 2.
     pub fn output(&mut self, descriptor: u32) -> Vec<u8> {
-        // SAFETY: `raw` is a session, and the room has its length.
-        unsafe {
-            let length = sys::sandbox_output(&mut self.raw, descriptor, 0, [].as_mut_ptr(), 0);
-            let mut room = vec![0; length];
-            sys::sandbox_output(&mut self.raw, descriptor, 0, room.as_mut_ptr(), length);
-            room
-        }
+        written(&mut self.raw, descriptor)
     }
 
     /// Whether a write of the guest to descriptor 1 or 2 was refused since it has written as much there as it may.
@@ -325,14 +349,9 @@ impl<'a> Session<'a, '_> {
 
     /// Commits the guest's calls, and gives the sectors of its volume.
     pub fn finish(&mut self) -> Result<Sectors, Refused> {
-        // SAFETY: `raw` is a session, and the room has its length.
-        unsafe {
-            answered(sys::sandbox_finish(&mut self.raw))?;
-            let count = sys::sandbox_volume_out(&mut self.raw, [].as_mut_ptr(), 0);
-            let mut sectors = vec![[0; 512]; count];
-            sys::sandbox_volume_out(&mut self.raw, sectors.as_mut_ptr(), count);
-            Ok(sectors)
-        }
+        // SAFETY: `raw` is a session.
+        answered(unsafe { sys::sandbox_finish(&mut self.raw) })?;
+        Ok(sectors_of(&mut self.raw))
     }
 
     /// Does what the session did to its volume since the last time on the file that has the sectors it was opened over, with a

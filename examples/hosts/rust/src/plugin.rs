@@ -4,7 +4,8 @@
 //! `_initialize`; then [`Instance::call`] gives a [`Call`], which goes on by [`Call::go`]. Where the guest calls a function of the host
 //! that gives a [`Question`], and only its answer gives the call back: so each is answered once, and nothing else is called meanwhile.
 //! A value is a number of 64 bits; one of 32 bits is below 2^32, and a float's are its bits.
-use super::{answered, frame_at, limits_of, Frame, Holds, Kept, Limits, Refused, Sectors, Supplies};
+use super::{answered, answered_at, frame_at, limits_of, sectors_of, volume_of, written};
+use super::{Frame, Holds, Kept, Limits, Refused, Sectors, Supplies};
 use crate::sys;
 use std::marker::PhantomData;
 use std::ptr::null_mut;
@@ -23,10 +24,9 @@ impl<'a> Plugin<'a> {
     pub fn load(bytes: &'a [u8], limits: Limits, holds: Holds) -> Result<Plugin<'a>, Refused> {
         let (mut raw, mut why) = (null_mut(), sys::Why::default());
         // SAFETY: the bytes are borrowed for as long as the module, what shares it, or an instance of them lives.
-        match unsafe { sys::sandbox_plugin_load(&mut raw, bytes.as_ptr(), bytes.len(), &limits_of(limits), holds as u32, &mut why) } {
-            0 => Ok(Plugin { raw, bytes: PhantomData }),
-            number => Err(Refused { number, offset: why.offset }),
-        }
+        let number = unsafe { sys::sandbox_plugin_load(&mut raw, bytes.as_ptr(), bytes.len(), &limits_of(limits), holds as u32, &mut why) };
+        answered_at(number, why.offset)?;
+        Ok(Plugin { raw, bytes: PhantomData })
     }
 
     /// The same module again, for another thread.
@@ -62,10 +62,7 @@ impl<'a> Plugin<'a> {
 
     /// An instance, over these sectors, or over an empty volume that is discarded at the end. Nothing of it has run yet.
     pub fn open<'s>(&mut self, supplies: &Supplies<'s>, volume: Option<&[[u8; 512]]>) -> Result<Instance<'a, 's>, Refused> {
-        let over = match volume {
-            None => sys::Volume { kind: 0, sectors: [].as_ptr(), sectors_count: 0 },
-            Some(sectors) => sys::Volume { kind: 1, sectors: sectors.as_ptr(), sectors_count: sectors.len() },
-        };
+        let over = volume_of(volume);
         let kept = Kept::of(supplies);
         let mut raw = null_mut();
         // SAFETY: what the supplies lead to is in `kept`, beside the instance, or borrowed as long as it.
@@ -144,25 +141,14 @@ impl<'a, 's> Instance<'a, 's> {
 
     /// What the guest has written so far to descriptor 1 or 2.
     pub fn output(&mut self, descriptor: u32) -> Vec<u8> {
-        // SAFETY: `raw` is an instance, and the room has its length.
-        unsafe {
-            let length = sys::sandbox_output(&mut self.raw, descriptor, 0, [].as_mut_ptr(), 0);
-            let mut room = vec![0; length];
-            sys::sandbox_output(&mut self.raw, descriptor, 0, room.as_mut_ptr(), length);
-            room
-        }
+        written(&mut self.raw, descriptor)
     }
 
     /// Commits the guest's calls of WASI, and gives the sectors of its volume. Nothing is called any more.
     pub fn finish(&mut self) -> Result<Sectors, Refused> {
-        // SAFETY: `raw` is an instance, and the room has its length.
-        unsafe {
-            answered(sys::sandbox_instance_finish(&mut self.raw))?;
-            let count = sys::sandbox_volume_out(&mut self.raw, [].as_mut_ptr(), 0);
-            let mut sectors = vec![[0; 512]; count];
-            sys::sandbox_volume_out(&mut self.raw, sectors.as_mut_ptr(), count);
-            Ok(sectors)
-        }
+        // SAFETY: `raw` is an instance.
+        answered(unsafe { sys::sandbox_instance_finish(&mut self.raw) })?;
+        Ok(sectors_of(&mut self.raw))
     }
 
     /// What it has to hand over: arguments, or a result.

@@ -1,4 +1,4 @@
-use Rattle.run_profile.proofs.Trees.{cut_grows, grows_none}
+use Rattle.observed_run.proofs.Trees.{cut_grows, grows_none}
 use Rattle.observed_run.proofs.Charging.{cut_off}
 use Rattle.observed_run.proofs.slices.enter.Goals as goal
 

@@ -1,5 +1,5 @@
 use Rattle.std.proofs.Common.{refl}
-use Rattle.sandbox_command.proofs.Lines.{lines_then}
+use Rattle.sandbox_telling.proofs.Lines.{lines_then}
 use Rattle.sandbox_command.proofs.closing.delivered.Goals as goal
 
 pub returns-clause-hands : goal.returns-clause-hands

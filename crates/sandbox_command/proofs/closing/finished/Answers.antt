@@ -1,8 +1,8 @@
 use Rattle.std.proofs.Common.{Option, ap, subst}
-use Rattle.sandbox_command.specs.declared.streams.Sink.{Sink as SinkValue}
-use Rattle.sandbox_command.specs.Sources.{sink_contents}
-use Rattle.sandbox_command.specs.Streams.{AppendsSome}
-use Rattle.sandbox_command.proofs.Lines.{lines_then}
+use Rattle.sandbox_telling.specs.declared.streams.Sink.{Sink as SinkValue}
+use Rattle.sandbox_telling.specs.Sources.{sink_contents}
+use Rattle.sandbox_telling.specs.Streams.{AppendsSome}
+use Rattle.sandbox_telling.proofs.Lines.{lines_then}
 use Rattle.sandbox_command.proofs.closing.finished.Goals as goal
 
 -- the lines go where the program's own lines go

@@ -2,7 +2,7 @@ use Rattle.std.proofs.Common.{◌∙◌, Result, ap, refl, sym, subst}
 use Rattle.std.specs.Prelude.{option_map}
 use Rattle.vol_commands.specs.declared.exporting.ExportFailure.{ExportFailure}
 use Rattle.sandbox_command.specs.Alone.{IsHandedOver, ungiven}
-use Rattle.sandbox_command.specs.Status.{export_status}
+use Rattle.sandbox_runs.specs.Status.{export_status}
 use Rattle.sandbox_command.proofs.closing.handed_over.Goals as goal
 
 pub returns-in-Ok-clause-hands : goal.returns-in-Ok-clause-hands

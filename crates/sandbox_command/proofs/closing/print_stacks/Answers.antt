@@ -1,6 +1,6 @@
 use Rattle.std.proofs.Common.{subst}
 use Rattle.std.proofs.lemmas.Result.{on_ok_weaker}
-use Rattle.sandbox_command.specs.Profiling.{IsProfile, Naming, stack_name}
+use Rattle.sandbox_telling.specs.Profiling.{IsProfile, Naming, stack_name}
 use Rattle.sandbox_command.proofs.closing.print_stacks.Goals as goal
 
 -- the names are those of this module

@@ -1,4 +1,4 @@
-use Rattle.sandbox_command.proofs.Lines.{lines_then}
+use Rattle.sandbox_telling.proofs.Lines.{lines_then}
 use Rattle.sandbox_command.proofs.closing.refuse.Goals as goal
 
 pub returns-then-eq-clause-line : goal.returns-then-eq-clause-line

@@ -1,4 +1,4 @@
-use Rattle.sandbox_command.proofs.Lines.{lines_then}
+use Rattle.sandbox_telling.proofs.Lines.{lines_then}
 use Rattle.sandbox_command.proofs.closing.told.Goals as goal
 
 pub returns-in-Err-clause-lines : goal.returns-in-Err-clause-lines

@@ -1,4 +1,4 @@
-use Rattle.sandbox_command.proofs.Lines.{lines_then}
+use Rattle.sandbox_telling.proofs.Lines.{lines_then}
 use Rattle.sandbox_command.proofs.closing.undelivered.Goals as goal
 
 pub returns-clause-lines : goal.returns-clause-lines

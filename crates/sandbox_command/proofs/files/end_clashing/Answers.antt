@@ -1,4 +1,4 @@
-use Rattle.sandbox_command.proofs.Lines.{lines_then}
+use Rattle.sandbox_telling.proofs.Lines.{lines_then}
 use Rattle.sandbox_command.proofs.files.end_clashing.Goals as goal
 
 pub returns-clause-ends : goal.returns-clause-ends

@@ -3,7 +3,7 @@ use Rattle.std.specs.IoError.{error_kind}
 use Rattle.std.specs.declared.io.Error.{Error}
 use Rattle.sandbox_command.specs.Around.{EndsGiven, around, calling, flushing}
 use Rattle.sandbox_command.specs.Files.{HasExecuted}
-use Rattle.sandbox_command.specs.Status.{file_status}
+use Rattle.sandbox_runs.specs.Status.{file_status}
 use Rattle.sandbox_command.proofs.files.execute_on.Goals as goal
 
 pub returns-in-Ok-clause-tells : goal.returns-in-Ok-clause-tells

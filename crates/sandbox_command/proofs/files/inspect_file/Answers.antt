@@ -1,7 +1,7 @@
 use Rattle.std.proofs.Common.{List, ℕ, inr, subst}
 use Rattle.wasm_syntax.specs.declared.profile.Profile.{Profile}
-use Rattle.sandbox_command.specs.Modules.{profile_for}
-use Rattle.sandbox_command.specs.Inspecting.{Inspects}
+use Rattle.sandbox_telling.specs.Modules.{profile_for}
+use Rattle.sandbox_runs.specs.Inspecting.{Inspects}
 use Rattle.sandbox_command.proofs.files.inspect_file.Goals as goal
 
 pub returns-in-Ok-clause-tells : goal.returns-in-Ok-clause-tells

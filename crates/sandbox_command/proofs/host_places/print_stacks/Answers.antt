@@ -1,5 +1,5 @@
 use Rattle.std.proofs.Common.{◌++◌, Result, Ok, Err, OnOk, refl}
-use Rattle.run_profile.specs.Folded.{cut_text}
+use Rattle.observed_run.specs.Folded.{cut_text}
 use Rattle.sandbox_command.proofs.host_places.print_stacks.Goals as goal
 
 on_any : {U E X : Type 0} (r : Result U E) → X → OnOk r X

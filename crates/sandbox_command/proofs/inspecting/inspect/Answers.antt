@@ -1,7 +1,7 @@
 use Rattle.std.proofs.Common.{Bool, ℕ, sym, subst}
 use Rattle.std.specs.IoError.{error_kind}
-use Rattle.sandbox_command.specs.Inspecting.{Inspects}
-use Rattle.sandbox_command.proofs.AfterFlush.{inspected}
+use Rattle.sandbox_runs.specs.Inspecting.{Inspects}
+use Rattle.sandbox_runs.proofs.AfterFlush.{inspected}
 use Rattle.sandbox_command.proofs.inspecting.inspect.Goals as goal
 
 pub returns-clause-tells : goal.returns-clause-tells

@@ -1,6 +1,6 @@
 use Rattle.wasi_calls.specs.host.Worlds.{hearing}
-use Rattle.sandbox_command.specs.RunHost.{counted_devices}
-use Rattle.sandbox_command.specs.Supplies.{terminals_of}
+use Rattle.sandbox_telling.specs.RunHost.{counted_devices}
+use Rattle.sandbox_telling.specs.Supplies.{terminals_of}
 use Rattle.sandbox_command.proofs.Upheld.{upheld}
 use Rattle.sandbox_command.proofs.laws.run_upholds.Goals as goal
 

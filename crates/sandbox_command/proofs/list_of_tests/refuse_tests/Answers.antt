@@ -1,4 +1,4 @@
-use Rattle.sandbox_command.proofs.Lines.{lines_then}
+use Rattle.sandbox_telling.proofs.Lines.{lines_then}
 use Rattle.sandbox_command.proofs.list_of_tests.refuse_tests.Goals as goal
 
 pub returns-clause-line : goal.returns-clause-line

@@ -1,9 +1,9 @@
 use Rattle.std.proofs.Common.{◌≡◌, ◌⊎◌, ◌<◌, ◌+◌, ℕ, Bool, true, false, List, length, take, get_or, inl, inr, refl, sym, ◌∙◌, ap, subst}
 use Rattle.wasm_syntax.specs.declared.module.Module.{Module}
-use Rattle.sandbox_command.specs.Around.{calls_of}
+use Rattle.sandbox_runs.specs.StreamCalling.{calls_of}
 use Rattle.sandbox_command.specs.declared.list_of_tests.TestFiles.{TestFiles}
 use Rattle.sandbox_command.specs.ListOfTests.{HasFailed, HasRun}
-use Rattle.sandbox_command.specs.internal.Runnable.{IsReadyFor, module_in}
+use Rattle.sandbox_telling.specs.internal.Runnable.{IsReadyFor, module_in}
 use Rattle.sandbox_command.specs.internal.Tests.{AllEndAs, OneEndsAs}
 use Rattle.sandbox_command.proofs.Chains.{AllEndAs-end, AllEndAs-next}
 use Rattle.sandbox_command.proofs.list_of_tests.run_all.Goals as goal

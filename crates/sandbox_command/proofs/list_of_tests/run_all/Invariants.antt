@@ -1,7 +1,7 @@
 use Rattle.std.proofs.Common.{◌≡◌, take}
-use Rattle.sandbox_command.specs.Around.{calls_of}
+use Rattle.sandbox_runs.specs.StreamCalling.{calls_of}
 use Rattle.sandbox_command.specs.ListOfTests.{HasFailed, HasRun}
-use Rattle.sandbox_command.specs.internal.Runnable.{module_in}
+use Rattle.sandbox_telling.specs.internal.Runnable.{module_in}
 use Rattle.sandbox_command.specs.internal.Tests.{AllEndAs}
 use Rattle.sandbox_command.proofs.list_of_tests.run_all.Given as goal
 

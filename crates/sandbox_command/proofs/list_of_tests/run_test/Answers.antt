@@ -14,13 +14,13 @@ use Rattle.sandbox_args.specs.Request.{Text}
 use Rattle.std.specs.declared.io.Read.{Ghosts as Reader}
 use Rattle.std.specs.declared.io.Write.{Ghosts as Writer}
 use Rattle.wasi_calls.specs.host.Worlds.{StreamCalls}
-use Rattle.sandbox_command.specs.Around.{calls_of}
+use Rattle.sandbox_runs.specs.StreamCalling.{calls_of}
 use Rattle.sandbox_command.specs.declared.places.Places.{Ghosts}
 use Rattle.sandbox_command.specs.declared.list_of_tests.TestFiles.{TestFiles}
 use Rattle.sandbox_command.specs.Beginning.{unread}
 use Rattle.sandbox_command.specs.Places.{Makes}
 use Rattle.sandbox_command.specs.ListOfTests.{HasFailed, HasRun, IsTested, IsTestedOrUnread}
-use Rattle.sandbox_command.specs.internal.Runnable.{module_in}
+use Rattle.sandbox_telling.specs.internal.Runnable.{module_in}
 use Rattle.sandbox_command.specs.internal.Tests.{IsTold, OneEndsAs}
 use Rattle.sandbox_command.proofs.Chains.{of_err}
 use Rattle.sandbox_command.proofs.list_of_tests.run_test.Goals as goal

@@ -5,10 +5,10 @@ use Rattle.wasm_syntax.specs.Module.{SpellsWith}
 use Rattle.wasm_valid.specs.Validity.{IsValid}
 use Rattle.sandbox_report.specs.declared.fault.Fault.TheVariants as reason
 use Rattle.sandbox_report.specs.declared.summary.VolumeEnd.TheVariants as kept
-use Rattle.sandbox_command.specs.Around.{calls_of}
-use Rattle.sandbox_command.specs.Modules.{profile_for}
-use Rattle.sandbox_command.specs.Reporting.{not_run, session_reason}
-use Rattle.sandbox_command.specs.internal.Runnable.{module_in}
+use Rattle.sandbox_runs.specs.StreamCalling.{calls_of}
+use Rattle.sandbox_telling.specs.Modules.{profile_for}
+use Rattle.sandbox_telling.specs.Reporting.{not_run, session_reason}
+use Rattle.sandbox_telling.specs.internal.Runnable.{module_in}
 use Rattle.sandbox_command.specs.ListOfTests.{HasFailed, HasRun}
 use Rattle.sandbox_command.proofs.Chains.{failed_some, went_all}
 use Rattle.sandbox_command.proofs.list_of_tests.run_tests.Goals as goal

@@ -1,6 +1,6 @@
 use Rattle.std.proofs.Common.{Some, ◌∙◌, ap, inl, inr, refl, subst}
-use Rattle.sandbox_command.specs.Stopping.{AreLinesBy}
-use Rattle.sandbox_command.specs.internal.Runnable.{module_in}
+use Rattle.sandbox_telling.specs.Stopping.{AreLinesBy}
+use Rattle.sandbox_telling.specs.internal.Runnable.{module_in}
 use Rattle.sandbox_command.proofs.list_of_tests.tested.Goals as goal
 
 pub returns-in-Ok : goal.returns-in-Ok

@@ -1,4 +1,4 @@
-use Rattle.sandbox_command.proofs.Lines.{lines_then}
+use Rattle.sandbox_telling.proofs.Lines.{lines_then}
 use Rattle.sandbox_command.proofs.refusals.tell_of_part.Goals as goal
 
 -- four pieces

@@ -1,16 +1,17 @@
 use Rattle.std.proofs.Common.{ℕ, List, Option, None, Some, subst, sym}
 use Rattle.sandbox_report.specs.declared.summary.Summary.{Summary}
 use Rattle.sandbox_command.specs.declared.closing.RunLeft.{RunLeft}
-use Rattle.sandbox_command.specs.declared.streams.Sink.{Sink as SinkValue}
+use Rattle.sandbox_telling.specs.declared.streams.Sink.{Sink as SinkValue}
 use Rattle.sandbox_command.specs.Alone.{IsProfiled, file_of}
 use Rattle.sandbox_command.specs.Archive.{unfilled}
-use Rattle.sandbox_command.specs.Sources.{sink_contents}
-use Rattle.sandbox_command.specs.Status.{import_status}
-use Rattle.sandbox_command.specs.Stopping.{AreLinesOfNone}
-use Rattle.sandbox_command.specs.Streams.{AppendsSome}
+use Rattle.sandbox_telling.specs.Sources.{sink_contents}
+use Rattle.sandbox_runs.specs.Status.{import_status}
+use Rattle.sandbox_telling.specs.Stopping.{AreLinesOfNone}
+use Rattle.sandbox_telling.specs.Streams.{AppendsSome}
 use Rattle.sandbox_args.specs.Request.{Text}
-use Rattle.sandbox_command.proofs.Charged.{its_file, untold}
-use Rattle.sandbox_command.proofs.Lines.{lines_then}
+use Rattle.sandbox_runs.proofs.Charged.{untold}
+use Rattle.sandbox_command.proofs.Ledgers.{its_file}
+use Rattle.sandbox_telling.proofs.Lines.{lines_then}
 use Rattle.sandbox_command.proofs.runs.end_unfilled.Goals as goal
 
 pub unfilled-said-requires : goal.unfilled-said-requires

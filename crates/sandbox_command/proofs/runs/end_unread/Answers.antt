@@ -4,8 +4,8 @@ use Rattle.sandbox_report.specs.declared.summary.Summary.{Summary}
 use Rattle.sandbox_command.specs.Alone.{IsTold}
 use Rattle.sandbox_command.specs.Beginning.{unread}
 use Rattle.sandbox_args.specs.Request.{Text}
-use Rattle.sandbox_command.specs.Stopping.{AreLinesOfNone}
-use Rattle.sandbox_command.proofs.Lines.{lines_then}
+use Rattle.sandbox_telling.specs.Stopping.{AreLinesOfNone}
+use Rattle.sandbox_telling.proofs.Lines.{lines_then}
 use Rattle.sandbox_command.proofs.runs.end_unread.Goals as goal
 
 pub returns : goal.returns

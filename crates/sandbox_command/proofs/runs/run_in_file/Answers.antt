@@ -1,13 +1,13 @@
 use Rattle.std.proofs.Common.{Option, ap, refl, subst, sym}
-use Rattle.sandbox_command.specs.declared.stopping.Stopped.{Stopped}
+use Rattle.sandbox_telling.specs.declared.stopping.Stopped.{Stopped}
 use Rattle.sandbox_command.specs.Alone.{IsProfiled, KeepsIt, file_of}
 use Rattle.sandbox_command.specs.Around.{around, calling, flushing}
 use Rattle.sandbox_args.specs.Request.{Text}
-use Rattle.sandbox_command.specs.Modules.{profile_for}
-use Rattle.sandbox_command.specs.Stopping.{TellsLines}
-use Rattle.sandbox_command.proofs.Charged.{its_file, new_stacks, told_with}
+use Rattle.sandbox_telling.specs.Modules.{profile_for}
+use Rattle.sandbox_telling.specs.Stopping.{TellsLines}
+use Rattle.sandbox_command.proofs.Ledgers.{its_file, new_stacks, told_with}
 use Rattle.sandbox_command.proofs.Finishing.{runs_with}
-use Rattle.sandbox_command.proofs.Lines.{lines_then}
+use Rattle.sandbox_telling.proofs.Lines.{lines_then}
 use Rattle.sandbox_command.proofs.runs.run_in_file.Goals as goal
 
 pub run-ended-requires : goal.run-ended-requires

@@ -1,18 +1,18 @@
 use Rattle.std.proofs.Common.{ℕ, Option, ap, subst, sym}
 use Rattle.sandbox_report.specs.declared.summary.Summary.{Summary}
 use Rattle.sandbox_device.specs.declared.ram_device.RamDevice.{RamDevice}
-use Rattle.sandbox_command.specs.declared.stopping.Stopped.{Stopped}
+use Rattle.sandbox_telling.specs.declared.stopping.Stopped.{Stopped}
 use Rattle.sandbox_command.specs.declared.closing.RunLeft.{RunLeft}
-use Rattle.sandbox_command.specs.Sources.{sink_contents}
-use Rattle.sandbox_command.specs.Streams.{AppendsSome}
+use Rattle.sandbox_telling.specs.Sources.{sink_contents}
+use Rattle.sandbox_telling.specs.Streams.{AppendsSome}
 use Rattle.sandbox_command.specs.Alone.{HandsAll, IsProfiled, file_of}
 use Rattle.sandbox_command.specs.Around.{around, calling, flushing, in_memory}
 use Rattle.sandbox_args.specs.Request.{Text}
-use Rattle.sandbox_command.specs.Modules.{profile_for}
-use Rattle.sandbox_command.specs.Stopping.{TellsLines}
-use Rattle.sandbox_command.proofs.Charged.{its_file, new_stacks, told_with}
+use Rattle.sandbox_telling.specs.Modules.{profile_for}
+use Rattle.sandbox_telling.specs.Stopping.{TellsLines}
+use Rattle.sandbox_command.proofs.Ledgers.{its_file, new_stacks, told_with}
 use Rattle.sandbox_command.proofs.Finishing.{runs_with}
-use Rattle.sandbox_command.proofs.Lines.{lines_then}
+use Rattle.sandbox_telling.proofs.Lines.{lines_then}
 use Rattle.sandbox_command.proofs.runs.run_in_memory.Goals as goal
 
 pub run-ended-requires : goal.run-ended-requires

@@ -1,9 +1,9 @@
 use Rattle.std.proofs.Common.{ℕ, Result, Ok, Err, None, OnOk}
 use Rattle.std.specs.Io.KnownBytes.{Appends}
-use Rattle.run_profile.specs.Stacks.{Stacks}
+use Rattle.observed_run.specs.Stacks.{Stacks}
 use Rattle.sandbox_args.specs.Request.{Text}
 use Rattle.sandbox_command.specs.Places.{Prints}
-use Rattle.sandbox_command.specs.Profiling.{IsProfile}
+use Rattle.sandbox_telling.specs.Profiling.{IsProfile}
 use Rattle.sandbox_command.specs.System.{WasPrinted}
 use Rattle.sandbox_command.proofs.Given.{refused}
 use Rattle.sandbox_command.proofs.host_places.HostPlacesPlaces.print_profile.Goals as goal

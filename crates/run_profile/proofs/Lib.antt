@@ -1,3 +1,0 @@
--- What proofs cite.
-pub mod Trees
-pub mod Lines

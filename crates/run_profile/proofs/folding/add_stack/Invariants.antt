@@ -1,7 +1,0 @@
-use Rattle.std.proofs.Common.{◌≡◌, ◌++◌, ◌-◌, drop, length}
-use Rattle.run_profile.specs.Folded.{stack_text}
-use Rattle.run_profile.proofs.folding.add_stack.Given as goal
-
--- the outermost functions so far are added
-abbrev pub invariant-loop-depth : goal.invariant-loop-depth
-invariant-loop-depth g l = l.line.items ≡ l.initial.line.items ++ stack_text (g.N.Names.text l.names) (drop (length l.functions - l.depth) l.functions)

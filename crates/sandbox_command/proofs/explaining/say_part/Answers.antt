@@ -1,8 +1,0 @@
-use Rattle.sandbox_command.proofs.Lines.{lines_then}
-use Rattle.sandbox_command.proofs.explaining.say_part.Goals as goal
-
--- two pieces
-pub returns : goal.returns
-returns g c =
-    let errs = g.W.Write.contents in
-    lines_then (errs c.args.err.now) (errs c.say-2.new.err) (errs c.say-3.new.err) c.say-2.ensures c.say-3.ensures

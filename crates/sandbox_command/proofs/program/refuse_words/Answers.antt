@@ -1,5 +1,0 @@
-use Rattle.std.proofs.Common.{rules}
-use Rattle.sandbox_command.proofs.program.refuse_words.Goals as goal
-
-pub returns : goal.returns
-returns g c = search rules

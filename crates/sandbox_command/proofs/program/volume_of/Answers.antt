@@ -1,5 +1,0 @@
-use Rattle.std.proofs.Common.{rules}
-use Rattle.sandbox_command.proofs.program.volume_of.Goals as goal
-
-pub returns : goal.returns
-returns c = search rules

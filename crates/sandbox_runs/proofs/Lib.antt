@@ -1,0 +1,6 @@
+pub mod Began
+pub mod Unbegun
+pub mod AfterFlush
+pub mod Seeding
+pub mod Charged
+pub mod Launching

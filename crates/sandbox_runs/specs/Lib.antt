@@ -1,0 +1,10 @@
+pub mod Status
+pub mod Silent
+pub mod Flushing
+pub mod Checking
+pub mod Guest
+pub mod Running
+pub mod Inspecting
+pub mod Execution
+pub mod StreamCalling
+pub mod internal

@@ -1,0 +1,10 @@
+pub mod Modules
+pub mod Stopping
+pub mod Profiling
+pub mod Streams
+pub mod Sources
+pub mod Supplies
+pub mod RunHost
+pub mod Reporting
+pub mod Formatting
+pub mod internal
