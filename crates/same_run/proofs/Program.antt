@@ -2,17 +2,19 @@
 use Rattle.std.proofs.Common.{◌≡◌, ℕ, List, [], ◌∷◌, map, Option, Some, refl, sym, ◌∙◌, ap}
 use Rattle.std.proofs.lemmas.Option.{same_Some}
 use Rattle.vol_sector.specs.Disk.{Disk}
+use Rattle.wasm_steps.specs.Configuration.{first_configuration}
+use Rattle.wasm_operands.specs.Snapshots.{StandsFor}
 use Rattle.wasi_calls.specs.declared.host.settings.Settings.{Settings}
 use Rattle.wasi_calls.specs.host.Worlds.{Hearing, given_of}
-use Rattle.sandbox_core.specs.Session.{given}
+use Rattle.sandbox_core.specs.Devices.{Devices}
 use Rattle.sandbox_args.specs.declared.request.Run.{Run}
 use Rattle.sandbox_args.specs.Request.{Text}
-use Rattle.sandbox_telling.specs.Reporting.{counting}
-use Rattle.sandbox_runs.specs.Running.{counted_devices}
+use Rattle.sandbox_report.specs.declared.counted.Counted.{Counted}
+use Rattle.sandbox_telling.specs.RunHost.{counted_devices, counting}
 use Rattle.sandbox_telling.specs.Supplies.{AreSettings, names_of as named, split_at_equals, terminals_of}
 use Rattle.same_run.specs.SameRun.{AreSameSupplies}
 use Rattle.same_run.specs.SameProgram.{HandOutTheSame, SameProgramRun}
-use Rattle.same_run.proofs.Sameness.{same_report}
+use Rattle.same_run.proofs.Sameness.{begin_alike, same_from_one, show_alike}
 
 heads : {X : Type 0} (x y : X) (xs ys : List X) → x ∷ xs ≡ y ∷ ys → x ≡ y
 heads x y xs ys same = cc
@@ -51,16 +53,31 @@ same_supplies run run' random settings settings' same has has' = record {
     moment : settings.moment ≡ settings'.moment
     moment = has.moment ∙ (same.moment ∙ sym has'.moment)
 
-module _ {D R W1 W2 D' R' W1' W2' : Type 0}
+module _ {D R W1 W2 D' R' W1' W2' : Type 0} (Stands : StandsFor)
     (is_honest : D → Type 0) (disk : D → Disk) (sectors_on failures : D → ℕ) (goes_on : ℕ → D → D → Type 0)
     (remaining : R → Option (List ℕ)) (out_contents : W1 → Option (List ℕ)) (err_contents : W2 → Option (List ℕ)) (ear : Hearing R W1 W2)
     (is_honest' : D' → Type 0) (disk' : D' → Disk) (sectors_on' failures' : D' → ℕ) (goes_on' : ℕ → D' → D' → Type 0)
     (remaining' : R' → Option (List ℕ)) (out_contents' : W1' → Option (List ℕ)) (err_contents' : W2' → Option (List ℕ)) (ear' : Hearing R' W1' W2') where
-  pub same_program_run : SameProgramRun is_honest disk sectors_on failures goes_on remaining out_contents err_contents ear is_honest' disk' sectors_on' failures' goes_on' remaining' out_contents' err_contents' ear'
-  same_program_run m run run' random settings settings' volume volume' input input' out out' err err' left left' valid same has has' tree room honest honest' ran ran' =
-      same_report (counted_devices is_honest disk sectors_on failures goes_on remaining out_contents err_contents ear)
-      (counted_devices is_honest' disk' sectors_on' failures' goes_on' remaining' out_contents' err_contents' ear')
-      m run.seed run'.seed (terminals_of run) (terminals_of run') (counting run (given settings volume input out err)) (counting run' (given settings' volume' input' out' err')) ran.session ran'.session
-      run.limits.fuel run'.limits.fuel ran.report ran'.report valid
-      (record { supplies = same_supplies run run' random settings settings' same has has'; tree = tree; room = room })
-      same.seed same.terminals same.fuel ran.opens ran'.opens ran.shares ran'.shares honest honest' ran.counted.reports ran'.counted.reports
+  abbrev on : Devices D (Counted R) (Counted W1) (Counted W2)
+  on = counted_devices is_honest disk sectors_on failures goes_on remaining out_contents err_contents ear
+
+  abbrev on' : Devices D' (Counted R') (Counted W1') (Counted W2')
+  on' = counted_devices is_honest' disk' sectors_on' failures' goes_on' remaining' out_contents' err_contents' ear'
+
+  pub same_program_run : SameProgramRun Stands is_honest disk sectors_on failures goes_on remaining out_contents err_contents ear is_honest' disk' sectors_on' failures' goes_on' remaining' out_contents' err_contents' ear'
+  same_program_run m run run' random parts parts' left left' valid same has has' tree room honest honest' ran ran' =
+      let supplies : AreSameSupplies parts.settings parts'.settings = same_supplies run run' random parts.settings parts'.settings same has has' in
+      let began = begin_alike on on' Stands m run.seed run'.seed (terminals_of run) (terminals_of run') (counting run parts) (counting run' parts') ran.session ran'.session
+      valid supplies.pages ran.opens ran'.opens in
+      let first : first_configuration ran.opens.starts.entered ran.opens.starts.store ≡ first_configuration ran'.opens.starts.entered ran'.opens.starts.store =
+      λ k. first_configuration (sym began.2 k) (sym began.1 k) in
+      let shown = show_alike on on' Stands m run.seed run'.seed (terminals_of run) (terminals_of run') (counting run parts) (counting run' parts') ran.session ran'.session
+      (record { supplies = supplies; tree = tree; room = room }) same.seed same.terminals ran.opens ran'.opens ran.shares ran'.shares honest honest' in record {
+        instance = sym began.0;
+        store = sym began.1;
+        entered = sym began.2;
+        alike = same_from_one on on' ran.opens.starts.instance ran'.opens.starts.instance
+            (first_configuration ran.opens.starts.entered ran.opens.starts.store) (first_configuration ran'.opens.starts.entered ran'.opens.starts.store) (sym began.0) first
+            run.limits.fuel run'.limits.fuel ran.session.host ran.last.host ran'.session.host ran'.last.host ran.outcome ran'.outcome _ _
+            (ran.shares.reads.kept.honest.0 honest) (ran'.shares.reads.kept.honest.0 honest') shown same.fuel ran.run ran'.run ran.within ran'.within;
+      }

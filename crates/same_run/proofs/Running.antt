@@ -13,7 +13,8 @@ use Rattle.sandbox_core.specs.Runs.{StopsAs, RunsWithin}
 use Rattle.same_run.specs.Growth.{WasRefusedMemory}
 use Rattle.same_run.specs.NextStep.{AnswersOnce}
 use Rattle.same_run.specs.Failures.{FailuresStay}
-use Rattle.same_run.specs.OneRun.{GoesOnFrom, IsServed, EndAlike}
+use Rattle.same_run.specs.Served.{IsServed}
+use Rattle.same_run.specs.OneRun.{GoesOnFrom, EndAlike}
 use Rattle.same_run.proofs.Moving.{AnswersAlike, next_alike, once_alike}
 
 -- what is seen, before what was seen later

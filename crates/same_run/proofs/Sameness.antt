@@ -12,12 +12,14 @@ use Rattle.wasi_fd.specs.declared.descriptor.EntryKind.TheVariants as kinds
 use Rattle.wasi_fd.specs.Rights.{directory_rights, all_rights}
 use Rattle.wasi_fd.specs.Table.{Table, table_of, streams}
 use Rattle.wasm_syntax.specs.declared.module.Module.{Module}
+use Rattle.wasm_valid.specs.Validity.{IsValid}
 use Rattle.wasm_store.specs.Instantiation.{Instantiates}
 use Rattle.wasm_steps.specs.declared.pause.Outcome.{Outcome}
 use Rattle.wasm_steps.specs.declared.pause.Outcome.TheVariants.{Exited, Trapped, OutOfFuel, OutOfMemory}
 use Rattle.wasm_steps.specs.Configuration.{Instance, Configuration, at, first_configuration}
+use Rattle.wasm_operands.specs.Snapshots.{StandsFor}
+use Rattle.wasm_interp.specs.Promises.{StartsBy}
 use Rattle.wasm_interp.specs.Machine.{Represents}
-use Rattle.wasm_interp.specs.Promise.{Starts}
 use Rattle.wasi_calls.specs.declared.host.settings.Preopen.{Preopen}
 use Rattle.wasi_calls.specs.declared.host.settings.Settings.{Settings}
 use Rattle.wasi_calls.specs.declared.host.wasi_host.HostParts.{HostParts}
@@ -29,12 +31,13 @@ use Rattle.wasi_calls.specs.supplies.Random.{seeded, supply}
 use Rattle.wasi_calls.specs.World.{World}
 use Rattle.wasi_calls.specs.Calls as world
 use Rattle.sandbox_core.specs.Devices.{Devices, Calls, IsHonest}
-use Rattle.sandbox_core.specs.Session.{SessionState, OpensWith, Shares}
-use Rattle.sandbox_core.specs.Runs.{StopsAs, RunsWithin}
+use Rattle.sandbox_core.specs.Sessions.{SessionState, OpensBy, Shares}
+use Rattle.sandbox_core.specs.Within.{StopsAs, RunsWithin}
 use Rattle.same_run.specs.Failures.{has_failed}
-use Rattle.same_run.specs.OneRun.{IsServed}
+use Rattle.same_run.specs.Served.{IsServed}
 use Rattle.same_run.specs.SameWorld.{unplaced, unplaced_world, IsSameWorld}
-use Rattle.same_run.specs.SameRun.{host_failed, names_of, GaveOf, ReadAndWrote, ShowAlike, AreTheSame, SameRun, AreAlike, SameReport}
+use Rattle.same_run.specs.Alike.{host_failed, GaveOf, ReadAndWrote, AreTheSame, RunAlike, AreServed}
+use Rattle.same_run.specs.SameRun.{names_of, ShowAlike, SameRun, AreAlike, SameReport}
 use Rattle.same_run.proofs.Answering.{answers_alike, failures_stay}
 use Rattle.same_run.proofs.Running.{ends_alike}
 use Rattle.same_run.proofs.OneStart.{started_alike}
@@ -159,12 +162,31 @@ module _ {D R W1 W2 D' R' W1' W2' : Type 0} (on : Devices D R W1 W2) (on' : Devi
             bytes = λ k. record { input = inputs k; pieces = found k; output = outputs k; errors = errors k };
           }
 
+  -- The same of two runs from configurations that are one.
+  pub same_from_one : (i i' : Instance) (c c' : Configuration) → i ≡ i' → c ≡ c' → (fuel fuel' : ℕ) (h last : HostState D R W1 W2) (h' last' : HostState D' R' W1' W2') (outcome outcome' : Outcome) (used used' : ℕ)
+      → IsHonest on h → IsHonest on' h' → ShowAlike on on' h h' → fuel ≡ fuel' → (run : RunsWithin (Calls on) i h c fuel last outcome used) (run' : RunsWithin (Calls on') i' h' c' fuel' last' outcome' used')
+      → used ≤ fuel → used' ≤ fuel' → AreServed on on' run run' → RunAlike on on' run run'
+  same_from_one i i' c c' one_instance one_configuration fuel fuel' h last h' last' outcome outcome' used used' is_honest is_honest' alike same_fuel run run' within within' served =
+      subst (λ (x : Instance). (other : RunsWithin (Calls on') x h' c' fuel' last' outcome' used') → AreServed on on' run other → RunAlike on on' run other) one_instance
+      (subst (λ (d : Configuration). (other : RunsWithin (Calls on') i h' d fuel' last' outcome' used') → AreServed on on' run other → RunAlike on on' run other) one_configuration
+      (λ other both. same_run i c fuel fuel' h last h' last' outcome outcome' used used' is_honest is_honest' alike same_fuel run other within within' both)) run' served
+
   -- ---- sessions
 
-  show_alike : (m : Module) (seed seed' : Option ℕ) (terminals terminals' : Option Terminals) (parts : HostParts D R W1 W2) (parts' : HostParts D' R' W1' W2') (s : SessionState D R W1 W2) (s' : SessionState D' R' W1' W2')
-      → AreAlike on on' parts parts' → seed ≡ seed' → terminals ≡ terminals' → OpensWith seed terminals m parts s → OpensWith seed' terminals' m parts' s' → Shares on.device parts s → Shares on'.device parts' s'
+  -- sessions that began so began at one configuration of one instance
+  pub begin_alike : (Stands : StandsFor) (m : Module) (seed seed' : Option ℕ) (terminals terminals' : Option Terminals) (parts : HostParts D R W1 W2) (parts' : HostParts D' R' W1' W2')
+      (s : SessionState D R W1 W2) (s' : SessionState D' R' W1' W2') → IsValid m → parts.settings.pages ≡ parts'.settings.pages
+      → (opens : OpensBy Stands seed terminals m parts s) → (opens' : OpensBy Stands seed' terminals' m parts' s')
+      → (opens'.starts.instance ≡ opens.starts.instance) × (opens'.starts.store ≡ opens.starts.store) × (opens'.starts.entered ≡ opens.starts.entered)
+  begin_alike Stands m seed seed' terminals terminals' parts parts' s s' valid pages opens opens' =
+      started_alike link parts.settings.pages m opens'.starts.instance opens.starts.instance opens'.starts.store opens.starts.store opens'.starts.entered opens.starts.entered valid
+      (subst (λ (n : ℕ). Instantiates link n m opens'.starts.instance opens'.starts.store opens'.starts.entered) (sym pages) opens'.starts.instantiates) opens.starts.instantiates
+
+  pub show_alike : (Stands : StandsFor) (m : Module) (seed seed' : Option ℕ) (terminals terminals' : Option Terminals) (parts : HostParts D R W1 W2) (parts' : HostParts D' R' W1' W2')
+      (s : SessionState D R W1 W2) (s' : SessionState D' R' W1' W2') → AreAlike on on' parts parts' → seed ≡ seed' → terminals ≡ terminals'
+      → OpensBy Stands seed terminals m parts s → OpensBy Stands seed' terminals' m parts' s' → Shares on.device parts s → Shares on'.device parts' s'
       → on.device.honest parts.volume.device → on'.device.honest parts'.volume.device → ShowAlike on on' s.host s'.host
-  show_alike m seed seed' terminals terminals' parts parts' s s' alike same_seed same_terminals opens opens' shares shares' is_honest is_honest' b = λ k. record {
+  show_alike Stands m seed seed' terminals terminals' parts parts' s s' alike same_seed same_terminals opens opens' shares shares' is_honest is_honest' b = λ k. record {
     volume = room k;
     tree = tree k;
     table = λ n. table n k;
@@ -223,23 +245,19 @@ module _ {D R W1 W2 D' R' W1' W2' : Type 0} (on : Devices D R W1 W2) (on' : Devi
   same_report m seed seed' terminals terminals' parts parts' s s' fuel fuel' report report' valid alike same_seed same_terminals same_fuel opens opens' shares shares' is_honest is_honest' reports reports' = record {
     first = (first.instance, first_configuration first.entered first.store, first.stands, stands');
     alike = λ i c stands stands' served. same_run i c fuel fuel' s.host reports.last.host s'.host reports'.last.host report.outcome report'.outcome _ _
-        (shares.reads.kept.honest.0 is_honest) (shares'.reads.kept.honest.0 is_honest') (show_alike m seed seed' terminals terminals' parts parts' s s' alike same_seed same_terminals opens opens' shares shares' is_honest is_honest')
+        (shares.reads.kept.honest.0 is_honest) (shares'.reads.kept.honest.0 is_honest') (show_alike Represents m seed seed' terminals terminals' parts parts' s s' alike same_seed same_terminals opens opens' shares shares' is_honest is_honest')
         same_fuel (reports.run i c stands) (reports'.run i c stands')
         (subst (λ (n : ℕ). n ≤ fuel) reports.used reports.within) (subst (λ (n : ℕ). n ≤ fuel') reports'.used reports'.within) served;
   }
     where
-      first : Starts link parts.settings.pages m s.machine
+      first : StartsBy Represents link parts.settings.pages m s.machine
       first = opens.starts
 
-      second : Starts link parts'.settings.pages m s'.machine
+      second : StartsBy Represents link parts'.settings.pages m s'.machine
       second = opens'.starts
 
-      pages : parts'.settings.pages ≡ parts.settings.pages
-      pages = sym alike.supplies.pages
-
       same : (second.instance ≡ first.instance) × (second.store ≡ first.store) × (second.entered ≡ first.entered)
-      same = started_alike link parts.settings.pages m second.instance first.instance second.store first.store second.entered first.entered valid
-          (subst (λ (n : ℕ). Instantiates link n m second.instance second.store second.entered) pages second.instantiates) first.instantiates
+      same = begin_alike Represents m seed seed' terminals terminals' parts parts' s s' valid alike.supplies.pages opens opens'
 
       stands' : Represents s'.machine first.instance (first_configuration first.entered first.store)
       stands' = subst (λ (c : Configuration). Represents s'.machine first.instance c) (λ k. first_configuration (same.2 k) (same.1 k))

@@ -1,16 +1,16 @@
 -- A run is the only one, over any host: two runs from the same beginning part nowhere, and where both are over they have
 -- ended alike.
-use Rattle.std.specs.Prelude.{◌≡◌, ◌≢◌, ◌⊎◌, ℕ, ◌≤◌, Bool, false, List, ◌++◌}
+use Rattle.std.specs.Prelude.{◌≡◌, ◌⊎◌, ℕ, ◌≤◌, Bool, false, List, ◌++◌}
 use Rattle.wasm_store.specs.declared.call.HostCall.{HostCall}
 use Rattle.wasm_store.specs.declared.call.Errno.{Errno}
 use Rattle.wasm_steps.specs.declared.pause.Outcome.{Outcome}
-use Rattle.wasm_steps.specs.declared.pause.Outcome.TheVariants.{OutOfMemory}
 use Rattle.wasm_steps.specs.Configuration.{Instance, Configuration}
 use Rattle.wasm_steps.specs.Steps.{CallsOf, Reach}
-use Rattle.sandbox_core.specs.Runs.{RunsWithin}
+use Rattle.sandbox_core.specs.Within.{RunsWithin}
 use Rattle.same_run.specs.Growth.{WasRefusedMemory}
 use Rattle.same_run.specs.NextStep.{AnswersOnce}
 use Rattle.same_run.specs.Failures.{FailuresStay}
+use Rattle.same_run.specs.Served.{IsServed}
 
 -- From where the one ended the other goes on, with further answers of the host.
 abbrev pub GoesOnFrom : (H : Type 0) → CallsOf H → Instance → H → Configuration → List (HostCall × Errno)
@@ -29,14 +29,6 @@ OneRun H Calls = (failed : H → Bool) (i : Instance) (h h1 h2 : H) (c c1 c2 : C
     → GoesOnFrom H Calls i h1 c1 answers1 h2 c2 answers2 ⊎ GoesOnFrom H Calls i h2 c2 answers2 h1 c1 answers1
 
 module _ {H : Type 0} (Calls : CallsOf H) (failed : H → Bool) {i : Instance} {h : H} {c : Configuration} {fuel : ℕ} where
-  -- The host failed nowhere in the run: each growth within the limit was given, the stacks found memory, and no stream and
-  -- no device failed.
-  pub record IsServed {h' : H} {outcome : Outcome} {used : ℕ}
-      (run : RunsWithin Calls i h c fuel h' outcome used) : Type 0 where
-    pub growths : WasRefusedMemory run.reach → ⊥
-    pub stacks : outcome ≢ OutOfMemory
-    pub nothing_failed : failed h' ≡ false
-
   -- Both ended at the same configuration and host, so with the same outcome and units, and the host had answered the same
   -- calls with the same numbers.
   pub record EndAlike {h1 h2 : H} {outcome1 outcome2 : Outcome} {used1 used2 : ℕ}

@@ -1,34 +1,25 @@
 -- The same module, supplies and volume give the same run, unless the host failed: memory, a stream or the device. `SameRun`
 -- says so of two runs from one configuration, each over devices and streams of its own, and `SameReport` of the reports of
 -- two sessions.
-use Rattle.std.specs.Prelude.{◌≡◌, ℕ, ◌≤◌, ◌||◌, Bool, true, List, [], ◌++◌, map, Option}
+use Rattle.std.specs.Prelude.{◌≡◌, ℕ, ◌≤◌, List, map, Option}
 use Rattle.vol_tree.specs.Opened.{geometry}
 use Rattle.wasm_syntax.specs.declared.module.Module.{Module}
 use Rattle.wasm_valid.specs.Validity.{IsValid}
 use Rattle.wasm_steps.specs.declared.pause.Outcome.{Outcome}
 use Rattle.wasm_steps.specs.Configuration.{Instance, Configuration}
-use Rattle.wasm_steps.specs.Steps.{Reach}
 use Rattle.wasm_interp.specs.Machine.{Represents}
 use Rattle.wasi_calls.specs.declared.host.settings.Preopen.{Preopen}
 use Rattle.wasi_calls.specs.declared.host.settings.Settings.{Settings}
 use Rattle.wasi_calls.specs.declared.host.wasi_host.HostParts.{HostParts}
 use Rattle.wasi_calls.specs.declared.streams.Terminals.{Terminals}
-use Rattle.wasi_calls.specs.World.{World}
-use Rattle.wasi_calls.specs.Calls as world
-use Rattle.wasi_calls.specs.host.Worlds.{HostState, StreamBytes, StreamsMove, MayFollow, before_moving, after_moving}
-use Rattle.wasi_calls.specs.host.Worlds.{stream_failed, given_of, world_of}
+use Rattle.wasi_calls.specs.host.Worlds.{HostState, StreamBytes, given_of, world_of}
 use Rattle.sandbox_core.specs.declared.report.Report.{Report}
-use Rattle.sandbox_core.specs.Devices.{Devices, Calls, IsHonest, tree_of}
+use Rattle.sandbox_core.specs.Devices.{Devices, Calls, IsHonest}
 use Rattle.sandbox_core.specs.Session.{SessionState, OpensWith, Shares}
-use Rattle.sandbox_core.specs.Runs.{RunsWithin}
+use Rattle.sandbox_core.specs.Within.{RunsWithin}
 use Rattle.sandbox_core.specs.Report.{Reports}
-use Rattle.same_run.specs.Growth.{WasRefusedMemory}
-use Rattle.same_run.specs.OneRun.{IsServed}
 use Rattle.same_run.specs.SameWorld.{IsSameWorld}
-
--- the volume has failed, or a read or a write of a stream
-abbrev pub host_failed : {D R W1 W2 : Type 0} → HostState D R W1 W2 → Bool
-host_failed h = h.volume.failed || stream_failed h
+use Rattle.same_run.specs.Alike.{AreServed, RunAlike}
 
 -- the name that a guest knows a directory by, and its path
 abbrev pub names_of : Preopen → List ℕ × List ℕ
@@ -41,58 +32,11 @@ pub record AreSameSupplies (s s' : Settings) : Type 0 where
   pub random : s.random.now ≡ s'.random.now
   pub pages : s.pages ≡ s'.pages
 
--- The reader gave a beginning of these bytes, and all of them where the input has ended. In an interactive run its reads found
--- pieces of them that have a beginning of these lengths; without one there are none (`StreamsMove`).
-pub record GaveOf {D R W1 W2 : Type 0} (input pieces : List ℕ) (last : HostState D R W1 W2) (moved : StreamBytes) : Type 0 where
-  pub left : List ℕ
-  pub bytes : input ≡ moved.input ++ left
-  pub ended : last.input.ended ≡ true → left ≡ []
-  pub later : List ℕ
-  pub lengths : pieces ≡ moved.pieces ++ later
-
-module _ {D R W1 W2 : Type 0} (on : Devices D R W1 W2) {i : Instance} {c : Configuration} {fuel : ℕ}
-    {h last : HostState D R W1 W2} {outcome : Outcome} {used : ℕ} where
-  -- The guest read and wrote these bytes in the run: each stream that tells its bytes moved by them, and whatever others
-  -- the streams have, it is a run over a tree of paths, which is refused memory only where this one is.
-  pub record ReadAndWrote (run : RunsWithin (Calls on) i h c fuel last outcome used) (moved : StreamBytes) : Type 0 where
-    pub moves : StreamsMove on.input.remaining on.out.contents on.err.contents h last moved
-    pub over_paths : (others : StreamBytes) → MayFollow last others
-        → (over : Reach World world.Calls i (world_of h (before_moving moved others)) c run.answers
-        (world_of last (after_moving moved others)) run.last)
-        × (WasRefusedMemory over → WasRefusedMemory run.reach)
-
 module _ {D R W1 W2 D' R' W1' W2' : Type 0} (on : Devices D R W1 W2) (on' : Devices D' R' W1' W2') where
   -- The hosts have the same tree, room, descriptors, texts, moment and random bytes: they show the same world, for any
   -- bytes of the streams.
   abbrev pub ShowAlike : HostState D R W1 W2 → HostState D' R' W1' W2' → Type 0
   ShowAlike h h' = (b : StreamBytes) → IsSameWorld (world_of h b) (world_of h' b)
-
-  module _ {i : Instance} {c : Configuration} {fuel fuel' : ℕ} {h last : HostState D R W1 W2}
-      {h' last' : HostState D' R' W1' W2'} {outcome outcome' : Outcome} {used used' : ℕ} where
-    -- Both ended so, with the same units, memory, table and globals, answers of calls, tree, and bytes read and written.
-    pub record AreTheSame (run : RunsWithin (Calls on) i h c fuel last outcome used)
-        (run' : RunsWithin (Calls on') i h' c fuel' last' outcome' used') (moved moved' : StreamBytes) : Type 0 where
-      pub ends : outcome ≡ outcome'
-      pub units : used ≡ used'
-      pub configuration : run.last ≡ run'.last
-      pub calls : run.answers ≡ run'.answers
-      pub tree : tree_of last ≡ tree_of last'
-      pub bytes : moved ≡ moved'
-
-    -- The guest read and wrote some bytes in each; and whichever they are, if both readers gave of the same input, both
-    -- runs are the same.
-    pub record RunAlike (run : RunsWithin (Calls on) i h c fuel last outcome used)
-        (run' : RunsWithin (Calls on') i h' c fuel' last' outcome' used') : Type 0 where
-      pub some : (moved : StreamBytes) × ReadAndWrote on run moved
-      pub some' : (moved : StreamBytes) × ReadAndWrote on' run' moved
-      pub same : (input pieces : List ℕ) (moved moved' : StreamBytes) → ReadAndWrote on run moved → ReadAndWrote on' run' moved'
-          → GaveOf input pieces last moved → GaveOf input pieces last' moved' → AreTheSame run run' moved moved'
-
-    -- The host failed in neither: no growth within the limit and no room for the stacks was refused, no stream failed, and
-    -- no device.
-    abbrev pub AreServed : RunsWithin (Calls on) i h c fuel last outcome used
-        → RunsWithin (Calls on') i h' c fuel' last' outcome' used' → Type 0
-    AreServed run run' = IsServed (Calls on) host_failed run × IsServed (Calls on') host_failed run'
 
   -- Two runs with the same fuel from one configuration, over hosts that show the same world and whose devices keep their
   -- models.
@@ -102,7 +46,7 @@ module _ {D R W1 W2 D' R' W1' W2' : Type 0} (on : Devices D R W1 W2) (on' : Devi
       → IsHonest on h → IsHonest on' h' → ShowAlike h h' → fuel ≡ fuel'
       → (run : RunsWithin (Calls on) i h c fuel last outcome used)
       → (run' : RunsWithin (Calls on') i h' c fuel' last' outcome' used')
-      → used ≤ fuel → used' ≤ fuel' → AreServed run run' → RunAlike run run'
+      → used ≤ fuel → used' ≤ fuel' → AreServed on on' run run' → RunAlike on on' run run'
 
   -- the same supplies, and volumes with the same tree and the same room
   pub record AreAlike (parts : HostParts D R W1 W2) (parts' : HostParts D' R' W1' W2') : Type 0 where
@@ -117,8 +61,8 @@ module _ {D R W1 W2 D' R' W1' W2' : Type 0} (on : Devices D R W1 W2) (on' : Devi
       (reports' : Reports on' s' fuel' report') : Type 0 where
     pub first : (i : Instance) × (c : Configuration) × Represents s.machine i c × Represents s'.machine i c
     pub alike : (i : Instance) (c : Configuration) (stands : Represents s.machine i c) (stands' : Represents s'.machine i c)
-        → AreServed (reports.run i c stands) (reports'.run i c stands')
-        → RunAlike (reports.run i c stands) (reports'.run i c stands')
+        → AreServed on on' (reports.run i c stands) (reports'.run i c stands')
+        → RunAlike on on' (reports.run i c stands) (reports'.run i c stands')
 
   -- Two sessions of a valid module, with the same supplies, the same tree and the same seed or none, both interactive with the
   -- same terminals or neither, that were run with the same fuel, on devices that keep their models: the reports are those of

@@ -11,6 +11,7 @@ ghost use Rattle.same_run.specs.OneStart.{OneStart};
 ghost use Rattle.same_run.specs.SameProgram.{SameProgramRun};
 ghost use Rattle.same_run.specs.SameRun.{SameReport, SameRun};
 
+use sandbox_core::laws::SnapshotMeaning;
 use stream_answers::{Inlet, Outlet};
 use vol_sector::Device;
 use wasm_store::Host;
@@ -82,9 +83,10 @@ pub fn same_report<
         X1.took X1.refused X2.took X2.refused) }
 {}
 
-/// The same for runs of the program: the same module, words, random bytes, input and volume give the same run, unless the
-/// host failed. A failure is also what `--output` cuts.
+/// The same for runs of the program, by whichever relation machines stand for configurations: the same module, words, random
+/// bytes, input and volume give the same run, unless the host failed. A failure is also what `--output` cuts.
 pub fn same_program_run<
+    M: SnapshotMeaning,
     D: Device,
     R: Inlet,
     W1: Outlet,
@@ -94,8 +96,8 @@ pub fn same_program_run<
     X1: Outlet,
     X2: Outlet,
 >()
-    ensures { SameProgramRun D.honest D.disk D.size D.failures D.goes_on R.remaining W1.contents
-        W2.contents (hearing R.gave R.refused W1.took W1.refused W2.took W2.refused) E.honest E.disk
+    ensures { SameProgramRun M.stands D.honest D.disk D.size D.failures D.goes_on R.remaining
+        W1.contents W2.contents (hearing R.gave R.refused W1.took W1.refused W2.took W2.refused) E.honest E.disk
         E.size E.failures E.goes_on S.remaining X1.contents X2.contents
         (hearing S.gave S.refused X1.took X1.refused X2.took X2.refused) }
 {}
