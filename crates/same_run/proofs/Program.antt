@@ -14,7 +14,8 @@ use Rattle.sandbox_telling.specs.RunHost.{counted_devices, counting}
 use Rattle.sandbox_telling.specs.Supplies.{AreSettings, names_of as named, split_at_equals, terminals_of}
 use Rattle.same_run.specs.SameRun.{AreSameSupplies}
 use Rattle.same_run.specs.SameProgram.{HandOutTheSame, SameProgramRun}
-use Rattle.same_run.proofs.Sameness.{begin_alike, same_from_one, show_alike}
+use Rattle.same_run.specs.SameProgramReport.{SameProgramReport}
+use Rattle.same_run.proofs.Sameness.{begin_alike, same_from_one, same_report, show_alike}
 
 heads : {X : Type 0} (x y : X) (xs ys : List X) → x ∷ xs ≡ y ∷ ys → x ≡ y
 heads x y xs ys same = cc
@@ -81,3 +82,17 @@ module _ {D R W1 W2 D' R' W1' W2' : Type 0} (Stands : StandsFor)
             run.limits.fuel run'.limits.fuel ran.session.host ran.last.host ran'.session.host ran'.last.host ran.outcome ran'.outcome _ _
             (ran.shares.reads.kept.honest.0 honest) (ran'.shares.reads.kept.honest.0 honest') shown same.fuel ran.run ran'.run ran.within ran'.within;
       }
+
+module _ {D R W1 W2 D' R' W1' W2' : Type 0}
+    (is_honest : D → Type 0) (disk : D → Disk) (sectors_on failures : D → ℕ) (goes_on : ℕ → D → D → Type 0)
+    (remaining : R → Option (List ℕ)) (out_contents : W1 → Option (List ℕ)) (err_contents : W2 → Option (List ℕ)) (ear : Hearing R W1 W2)
+    (is_honest' : D' → Type 0) (disk' : D' → Disk) (sectors_on' failures' : D' → ℕ) (goes_on' : ℕ → D' → D' → Type 0)
+    (remaining' : R' → Option (List ℕ)) (out_contents' : W1' → Option (List ℕ)) (err_contents' : W2' → Option (List ℕ)) (ear' : Hearing R' W1' W2') where
+  pub same_program_report : SameProgramReport is_honest disk sectors_on failures goes_on remaining out_contents err_contents ear is_honest' disk' sectors_on' failures' goes_on' remaining' out_contents' err_contents' ear'
+  same_program_report m run run' random parts parts' left left' valid same has has' tree room honest honest' ran ran' =
+      same_report (counted_devices is_honest disk sectors_on failures goes_on remaining out_contents err_contents ear)
+      (counted_devices is_honest' disk' sectors_on' failures' goes_on' remaining' out_contents' err_contents' ear')
+      m run.seed run'.seed (terminals_of run) (terminals_of run') (counting run parts) (counting run' parts') ran.session ran'.session
+      run.limits.fuel run'.limits.fuel ran.report ran'.report valid
+      (record { supplies = same_supplies run run' random parts.settings parts'.settings same has has'; tree = tree; room = room })
+      same.seed same.terminals same.fuel ran.opens ran'.opens ran.shares ran'.shares honest honest' ran.counted.reports ran'.counted.reports

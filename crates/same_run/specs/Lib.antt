@@ -11,3 +11,4 @@ pub mod SameWorld
 pub mod Alike
 pub mod SameRun
 pub mod SameProgram
+pub mod SameProgramReport

@@ -9,6 +9,7 @@ ghost use Rattle.same_run.specs.NextStep.{AnswersOnce, OneNextStep};
 ghost use Rattle.same_run.specs.OneRun.{OneEnd, OneRun};
 ghost use Rattle.same_run.specs.OneStart.{OneStart};
 ghost use Rattle.same_run.specs.SameProgram.{SameProgramRun};
+ghost use Rattle.same_run.specs.SameProgramReport.{SameProgramReport};
 ghost use Rattle.same_run.specs.SameRun.{SameReport, SameRun};
 
 use sandbox_core::laws::SnapshotMeaning;
@@ -99,5 +100,22 @@ pub fn same_program_run<
     ensures { SameProgramRun M.stands D.honest D.disk D.size D.failures D.goes_on R.remaining
         W1.contents W2.contents (hearing R.gave R.refused W1.took W1.refused W2.took W2.refused) E.honest E.disk
         E.size E.failures E.goes_on S.remaining X1.contents X2.contents
+        (hearing S.gave S.refused X1.took X1.refused X2.took X2.refused) }
+{}
+
+/// The same of what the program reports: of two such runs in which a session ran, the reports tell of the same run.
+pub fn same_program_report<
+    D: Device,
+    R: Inlet,
+    W1: Outlet,
+    W2: Outlet,
+    E: Device,
+    S: Inlet,
+    X1: Outlet,
+    X2: Outlet,
+>()
+    ensures { SameProgramReport D.honest D.disk D.size D.failures D.goes_on R.remaining
+        W1.contents W2.contents (hearing R.gave R.refused W1.took W1.refused W2.took W2.refused)
+        E.honest E.disk E.size E.failures E.goes_on S.remaining X1.contents X2.contents
         (hearing S.gave S.refused X1.took X1.refused X2.took X2.refused) }
 {}
