@@ -1,0 +1,2 @@
+-- What proofs cite.
+mod Words
