@@ -1,0 +1,3 @@
+-- What proofs cite.
+pub mod Finding
+pub mod Going

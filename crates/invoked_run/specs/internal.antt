@@ -1,0 +1,2 @@
+-- What a loop has done so far.
+pub mod Going
