@@ -95,7 +95,7 @@ run_rules = text_rule (codes "volume") ∷ text_rule (codes "image") ∷ text_ru
     ∷ text_rule (codes "stdin") ∷ text_rule (codes "stdout") ∷ text_rule (codes "stderr") ∷ flag_rule (codes "interactive")
     ∷ flag_rule (codes "floats")
     ∷ text_rule (codes "name") ∷ text_rule (codes "report") ∷ number_rule (codes "frames") u32_numbers
-    ∷ text_rule (codes "profile") ∷ number_rule (codes "profile-every") u64_numbers ∷ text_rule (codes "tests")
+    ∷ text_rule (codes "profile") ∷ number_rule (codes "profile-every") u64_numbers ∷ text_rule (codes "tests") ∷ text_rule (codes "invoke")
     ∷ word_rule (codes "MODULE") ∷ words_rule (codes "WORD") ∷ []
 
 -- `run`, with these
@@ -215,6 +215,7 @@ pub record AsksRun (rows : List Row) (run : Run) : Type 0 where
   pub profile : text_in run.profile ≡ first_of (codes "profile") rows
   pub profile_every : run.profile_every ≡ number_in 64 (codes "profile-every") rows
   pub tests : text_in run.tests ≡ first_of (codes "tests") rows
+  pub invoke : text_in run.invoke ≡ first_of (codes "invoke") rows
   pub module_word : run.module.now ≡ word_of (codes "MODULE") rows
   pub words : texts run.words.items ≡ texts_of (codes "WORD") rows
 

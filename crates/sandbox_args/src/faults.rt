@@ -27,8 +27,9 @@ Fault 15 is a --dir without =, or whose name is empty or over 255 bytes; over 64
 of them; arguments, or texts of the environment, over 1024 or over 65536 bytes;
 --pages over 65536; --image with --volume; --volume-out without --image; --seed
 with --random; --profile-every without --profile, or of 0; --tests with an option
-for one run; --large with --huge; or a line of a list of tests that is not four
-words. Fault 41 is a file with two parts in a command, too.
+for one run; --invoke with --tests, --report or --profile, or of no function for
+the numbers that the words are; --large with --huge; or a line of a list of tests
+that is not four words. Fault 41 is a file with two parts in a command, too.
 
 Memory that is refused has no number: its line is \"sandbox: out of memory\", and
 its status 122.

@@ -78,6 +78,8 @@ pub struct Run<'a> {
     pub profile_every: Option<u64>,
     /// The file of a list of tests that the module is run on.
     pub tests: Option<&'a str>,
+    /// The exported function that is called in the place of `_start`, with the words as numbers.
+    pub invoke: Option<&'a str>,
     /// The module's file.
     pub module: &'a str,
     /// The guest's further arguments.

@@ -138,7 +138,7 @@ static PUT: [Argument; 3] = [
 ];
 
 /// The arguments of `run`.
-static RUN: [Argument; 27] = [
+static RUN: [Argument; 28] = [
     Argument {
         name: "volume",
         takes: ArgumentKind::Text("FILE"),
@@ -259,6 +259,11 @@ static RUN: [Argument; 27] = [
         name: "tests",
         takes: ArgumentKind::Text("LIST"),
         help: "The file of a list of tests that the module is run on",
+    },
+    Argument {
+        name: "invoke",
+        takes: ArgumentKind::Text("NAME"),
+        help: "The exported function to be called, with the words as numbers; its result is printed",
     },
     Argument {
         name: "MODULE",

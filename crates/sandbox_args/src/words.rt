@@ -260,6 +260,7 @@ fn run_with<'a>(
         profile: option_text(matches, "profile"),
         profile_every: long_number(matches, "profile-every"),
         tests: option_text(matches, "tests"),
+        invoke: option_text(matches, "invoke"),
         module: text(matches, "MODULE"),
         words,
     }

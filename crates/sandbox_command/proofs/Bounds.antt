@@ -1,6 +1,7 @@
 -- No run ends with a status above 124.
-use Rattle.std.proofs.Common.{◌≡◌, ◌≤◌, ℕ, Bool, true, false, List, Option, Result, Ok, Err, nat_le, if◌then◌else◌, inl, inr, arith}
+use Rattle.std.proofs.Common.{◌≡◌, ◌≤◌, ℕ, Bool, true, false, List, Option, Some, None, Result, Ok, Err, nat_le, if◌then◌else◌, inl, inr, arith}
 use Rattle.std.proofs.lemmas.Bool.Decides.{nat_tests}
+use Rattle.std.specs.Borrow.{Bor}
 use Rattle.vol_sector.specs.Disk.{Disk}
 use Rattle.vol_sector.specs.declared.fault.VolumeFault.{VolumeFault}
 use Rattle.vol_sector.specs.declared.fault.VolumeFault.TheVariants as volume
@@ -17,11 +18,14 @@ use Rattle.vol_commands.specs.declared.importing.ImportFailure.{ImportFailure}
 use Rattle.vol_commands.specs.declared.importing.ImportFailure.TheVariants as importing
 use Rattle.vol_commands.specs.declared.exporting.ExportFailure.{ExportFailure}
 use Rattle.vol_commands.specs.declared.exporting.ExportFailure.TheVariants as exporting
+use Rattle.wasm_syntax.specs.declared.module.Module.{Module}
+use Rattle.sandbox_report.specs.declared.fault.Fault.{Fault}
 use Rattle.sandbox_args.specs.Request.{Text}
 use Rattle.sandbox_args.specs.declared.request.Run.{Run}
 use Rattle.wasi_calls.specs.host.Worlds.{Hearing}
 use Rattle.sandbox_runs.specs.declared.program.Executed.{Executed}
-use Rattle.sandbox_runs.specs.Execution.{Runs}
+use Rattle.sandbox_runs.specs.Execution.{Runs, RunsBy}
+use Rattle.sandbox_runs.specs.Invoking.{CallEndsWith}
 use Rattle.sandbox_runs.specs.Status.{EndsWith, export_status, failure_status, import_status, load_status, session_status, status_of, volume_status, why_status}
 
 pub of_session : (f : SessionFault) (n : ℕ) → n ≡ session_status f → n ≤ 124
@@ -71,14 +75,29 @@ of_end outcome (Ok v) true n is = of_outcome outcome n is
 of_end outcome (Ok v) false n is = omega (arith, is)
 of_end outcome (Err r) flushed n is = omega (arith, is)
 
+of_call : {V R : Type 0} (fault : Option Fault) (outcome : Outcome) (left : Result V R) (flushed : Bool) (n : ℕ) → CallEndsWith fault outcome left flushed n → n ≤ 124
+of_call None outcome left flushed n is = of_end outcome left flushed n is
+of_call (Some fault) outcome (Ok v) flushed n is = omega (arith, is)
+of_call (Some fault) outcome (Err r) flushed n is = omega (arith, is)
+
 module _ {D R W1 W2 : Type 0} (is_honest : D → Type 0) (disk : D → Disk) (sectors_on failures : D → ℕ) (goes_on : ℕ → D → D → Type 0)
     (remaining : R → Option (List ℕ)) (outs : W1 → Option (List ℕ)) (errs : W2 → Option (List ℕ)) (ear : Hearing R W1 W2) where
+  -- of a command, or of a function that is called in its place
+  run_within : (invoke : Option (Bor Text)) (run : Run) (m : Module) (random : Text) (device : D) (input : R) (out : W1) (err : W2) (left : Executed D R W1 W2)
+      → RunsBy is_honest disk sectors_on failures goes_on remaining outs errs ear invoke run m random device input out err left → left.status ≤ 124
+  run_within None run m random device input out err left (inl none) = of_volume none.refused.fault left.status none.ends
+  run_within None run m random device input out err left (inr on) = elim on.launched [
+    | inl refused ↦ of_session refused.fault left.status refused.ends
+    | inr ran ↦ of_end ran.report.outcome ran.report.volume left.flushed left.status ran.ends
+  ]
+  run_within (Some name) run m random device input out err left (inl none) = of_volume none.refused.fault left.status none.ends
+  run_within (Some name) run m random device input out err left (inr on) = elim on.launched [
+    | inl refused ↦ of_session refused.fault left.status refused.ends
+    | inr called ↦ of_call called.told.fault called.told.outcome called.called.volume left.flushed left.status called.told.ends
+  ]
+
   pub runs_within : (run : Run) (bytes : List ℕ) (random : Text) (device : D) (input : R) (out : W1) (err : W2) (left : Executed D R W1 W2)
       → Runs is_honest disk sectors_on failures goes_on remaining outs errs ear run bytes random device input out err left → left.status ≤ 124
   runs_within run bytes random device input out err left (inl (refused, same)) = of_session refused.fault left.status refused.ends
   runs_within run bytes random device input out err left (inr (inl (refused, same))) = of_load refused.fault left.status refused.ends
-  runs_within run bytes random device input out err left (inr (inr (m, spells, valid, inl none))) = of_volume none.refused.fault left.status none.ends
-  runs_within run bytes random device input out err left (inr (inr (m, spells, valid, inr on))) = elim on.launched [
-    | inl refused ↦ of_session refused.fault left.status refused.ends
-    | inr ran ↦ of_end ran.report.outcome ran.report.volume left.flushed left.status ran.ends
-  ]
+  runs_within run bytes random device input out err left (inr (inr (m, spells, valid, ran))) = run_within run.invoke run m random device input out err left ran

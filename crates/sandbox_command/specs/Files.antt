@@ -59,11 +59,16 @@ HasTwoVolumes run = (IsSome run.image × IsSome run.volume) ⊎ (IsSome run.imag
 abbrev pub IsMisgiven : Run → Type 0
 IsMisgiven run = (IsSome run.volume_out × (run.image ≡ None) × (run.image_from ≡ None)) ⊎ (IsSome run.out_to × (IsSome run.volume ⊎ IsSome run.volume_out))
 
+-- what tells of a command's run alone
+abbrev pub IsForCommand : Run → Type 0
+IsForCommand run = IsSome run.tests ⊎ (IsSome run.report ⊎ IsSome run.profile)
+
 -- A run whose options don't go together: two volumes, what it leaves given out so, a seed beside random bytes, a list of tests beside
--- what is for one run, or steps of a profile that isn't wanted. Or a volume is to be large and huge.
+-- what is for one run, steps of a profile that isn't wanted, or a call of an exported function beside what tells of a command's run.
+-- Or a volume is to be large and huge.
 abbrev pub Clashes : Invocation → Type 0
 Clashes (asked.Run run) = HasTwoVolumes run ⊎ (IsMisgiven run ⊎ ((IsSome run.seed × IsSome run.random)
-    ⊎ ((IsSome run.tests × IsForOneRun run) ⊎ HasWrongSteps run)))
+    ⊎ ((IsSome run.tests × IsForOneRun run) ⊎ (HasWrongSteps run ⊎ (IsSome run.invoke × IsForCommand run)))))
 Clashes (asked.Format file sectors slots large huge new) = IsTrue large × IsTrue huge
 Clashes _ = ⊥
 

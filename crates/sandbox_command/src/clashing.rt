@@ -1,7 +1,7 @@
 //! Options that don't go together.
 
 ghost use Rattle.std.specs.Prelude.{◌↔◌, IsTrue};
-ghost use Rattle.sandbox_command.specs.Files.{Clashes, HasTwoVolumes, HasWrongSteps, IsForOneRun, IsMisgiven};
+ghost use Rattle.sandbox_command.specs.Files.{Clashes, HasTwoVolumes, HasWrongSteps, IsForCommand, IsForOneRun, IsMisgiven};
 
 use sandbox_args::{Invocation, Run};
 
@@ -44,9 +44,16 @@ fn has_wrong_steps(run: &Run<'_>) -> bool
     run.profile_every == Some(0) || (run.profile_every.is_some() && run.profile.is_none())
 }
 
+/// Whether a run has what tells of a command's run alone: a list of tests, a report or a profile.
+fn is_for_command(run: &Run<'_>) -> bool
+    ensures { IsTrue result ↔ IsForCommand run.now }
+{
+    run.tests.is_some() || run.report.is_some() || run.profile.is_some()
+}
+
 /// Whether a run has options that don't go together: two volumes, what its volume is to be handed out into without an image or a
-/// tar stream to begin with, a seed beside random bytes, a list of tests beside what is for one run, or steps of a profile that
-/// isn't wanted.
+/// tar stream to begin with, a seed beside random bytes, a list of tests beside what is for one run, steps of a profile that
+/// isn't wanted, or a call of an exported function beside what tells of a command's run.
 /// Or whether a volume is to be large and huge.
 pub(crate) fn clashes(invocation: &Invocation<'_>) -> bool
     ensures { IsTrue result ↔ Clashes invocation.now }
@@ -58,6 +65,7 @@ pub(crate) fn clashes(invocation: &Invocation<'_>) -> bool
                 || (run.seed.is_some() && run.random.is_some())
                 || (run.tests.is_some() && is_for_one_run(run))
                 || has_wrong_steps(run)
+                || (run.invoke.is_some() && is_for_command(run))
         }
         Invocation::Format { large, huge, .. } => *large && *huge,
         _ => false,

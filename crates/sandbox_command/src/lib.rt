@@ -9,6 +9,7 @@ mod files;
 mod host_places;
 mod host_volume;
 mod inspecting;
+mod invoking;
 pub mod laws;
 mod list_of_tests;
 mod opening;

@@ -112,6 +112,37 @@ fn uncut_directory<'a>(run: &Run<'a>) -> Option<&'a str> {
     None
 }
 
+/// Whether a directory's word has a name that a guest takes.
+fn is_named(word: &str) -> bool {
+    match word.split_once('=') {
+        Some((name, _)) => !name.is_empty() && name.len() <= 255,
+        None => false,
+    }
+}
+
+/// Whether a run has directories that a guest takes.
+fn has_its_directories(run: &Run<'_>) -> bool {
+    for word in &run.dirs {
+        if !is_named(word) {
+            return false;
+        }
+    }
+    run.dirs.len() <= 64
+}
+
+/// Prints that no function can be called by this name with the words of a run.
+fn tell_of_call<W: Outlet>(err: &mut W, name: &str)
+    ensures { AppendsSome (W.contents err.old) (W.contents err.new) }
+{
+    tell_of_part(
+        err,
+        "--invoke",
+        name.as_bytes(),
+        SETTING,
+        "it names an exported function, and the words are its numbers: sandbox inspect shows its type",
+    );
+}
+
 /// Prints which setting of a run is wrong.
 fn tell_of_setting<W: Outlet>(err: &mut W, run: &Run<'_>)
     ensures { AppendsSome (W.contents err.old) (W.contents err.new) }
@@ -145,6 +176,8 @@ fn tell_of_setting<W: Outlet>(err: &mut W, run: &Run<'_>)
             SETTING,
             "at most 1024 texts NAME=VALUE, and 65536 bytes",
         );
+    } else if let (Some(name), true) = (run.invoke, has_its_directories(run)) {
+        tell_of_call(err, name);
     } else {
         tell_words(
             err,
@@ -246,10 +279,28 @@ fn clash_of_volumes(run: &Run<'_>) -> Option<(&'static str, &'static str)> {
     }
 }
 
+/// Which option of a run tells of a command's run, where one of its functions is called, and what helps.
+fn clash_of_call(run: &Run<'_>) -> Option<(&'static str, &'static str)> {
+    const COMMAND: &str = "it tells of a command's run: call a function without it";
+    if run.invoke.is_none() {
+        None
+    } else if run.tests.is_some() {
+        Some(("--invoke with --tests", COMMAND))
+    } else if run.report.is_some() {
+        Some(("--invoke with --report", COMMAND))
+    } else if run.profile.is_some() {
+        Some(("--invoke with --profile", COMMAND))
+    } else {
+        None
+    }
+}
+
 /// The options of a run that don't go together, and what helps.
 fn clash_of(run: &Run<'_>) -> (&'static str, &'static str) {
     const LINE: &str = "a line of the list names it";
     if let Some(clash) = clash_of_volumes(run) {
+        clash
+    } else if let Some(clash) = clash_of_call(run) {
         clash
     } else if run.seed.is_some() && run.random.is_some() {
         ("--seed with --random", ONE)

@@ -4,3 +4,4 @@ pub mod AfterFlush
 pub mod Seeding
 pub mod Charged
 pub mod Launching
+pub mod Calling

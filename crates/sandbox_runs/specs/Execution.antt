@@ -2,6 +2,7 @@
 -- (`docs/USING.md`, "Commands"). `Runs` says it of a run, alone (`Alone`) or as a test of a list (`ListOfTests`), up to its own
 -- lines, which are printed later; `Executes` of what is no run, which `execute` promises.
 use Rattle.std.specs.Prelude.{◌≡◌, ◌≢◌, ◌⊎◌, ℕ, true, List, Option, Some, None, Result}
+use Rattle.std.specs.Borrow.{Bor}
 use Rattle.std.specs.Io.KnownBytes.{Keeps}
 use Rattle.vol_sector.specs.Disk.{Disk, Leaves}
 use Rattle.vol_sector.specs.declared.fault.Refused.{Refused}
@@ -44,6 +45,7 @@ use Rattle.sandbox_runs.specs.Silent.{IsSilent}
 use Rattle.sandbox_telling.specs.Supplies.{AreDirectories, AreSettings, IsUncut, directories_of}
 use Rattle.vol_commands.specs.Volumes.{IsOpenFor, IsRefusedFor, LeftByOpening}
 use Rattle.sandbox_runs.specs.Running.{Launches, LeftByRun}
+use Rattle.sandbox_runs.specs.Invoking.{CallsOnVolume}
 
 -- A directory's word has no `=`, or memory was refused.
 pub record NotSupplied (run : Run) (status : ℕ) (summary : Option Summary) : Type 0 where
@@ -91,6 +93,16 @@ module _ {D R W1 W2 : Type 0} (is_honest : D → Type 0) (disk : D → Disk) (se
   abbrev pub RunsOn : Run → Module → Text → D → R → W1 → W2 → Executed D R W1 W2 → Type 0
   RunsOn run m random device input out err left = NoVolume run device input out err left ⊎ OnVolume run m random device input out err left
 
+  -- the same of an exported function that is called in the place of `_start`
+  abbrev pub InvokesOn : (name : Text) → Run → Module → Text → D → R → W1 → W2 → Executed D R W1 W2 → Type 0
+  InvokesOn name run m random device input out err left = NoVolume run device input out err left
+      ⊎ CallsOnVolume is_honest disk sectors_on failures goes_on remaining out_contents err_contents ear name run m random device input out err left
+
+  -- a command's run, or one call of the function that is named
+  abbrev pub RunsBy : Option (Bor Text) → Run → Module → Text → D → R → W1 → W2 → Executed D R W1 W2 → Type 0
+  RunsBy None run m random device input out err left = RunsOn run m random device input out err left
+  RunsBy (Some name) run m random device input out err left = InvokesOn name.now run m random device input out err left
+
   -- Before a volume was opened: the device is as it was, and so are the input and the output.
   pub record IsUntouched (device : D) (input : R) (out : W1) (err : W2) (left : Executed D R W1 W2) : Type 0 where
     pub device_is : left.device ≡ device
@@ -98,12 +110,12 @@ module _ {D R W1 W2 : Type 0} (is_honest : D → Type 0) (disk : D → Disk) (se
     pub streams : IsSilent out_contents err_contents Keeps input out err left
 
   -- The words are refused, or the bytes; or they spell a valid module, and then the volume is refused, or the module is
-  -- launched.
+  -- launched, or one of its functions called.
   abbrev pub Runs : Run → List ℕ → Text → D → R → W1 → W2 → Executed D R W1 W2 → Type 0
   Runs run bytes random device input out err left =
       (NotSupplied run left.status left.summary × IsUntouched device input out err left)
       ⊎ ((NotLoaded run bytes left.status left.summary × IsUntouched device input out err left)
-      ⊎ ((m : Module) × SpellsWith (profile_for run.floats) bytes m × IsValid m × RunsOn run m random device input out err left))
+      ⊎ ((m : Module) × SpellsWith (profile_for run.floats) bytes m × IsValid m × RunsBy run.invoke run m random device input out err left))
 
 module _ {D R W1 W2 : Type 0} (is_honest : D → Type 0) (disk : D → Disk) (sectors_on failures : D → ℕ) (goes_on : ℕ → D → D → Type 0)
     (remaining : R → Option (List ℕ)) (out_contents : W1 → Option (List ℕ)) (err_contents : W2 → Option (List ℕ)) (reads : StreamCalls R) (writes : StreamCalls W1) where

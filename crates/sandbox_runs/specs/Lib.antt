@@ -4,6 +4,7 @@ pub mod Flushing
 pub mod Checking
 pub mod Guest
 pub mod Running
+pub mod Invoking
 pub mod Inspecting
 pub mod Execution
 pub mod StreamCalling

@@ -2,3 +2,4 @@
 -- seed, its module, its session), then come the tests of a list.
 pub mod Seeds
 pub mod Sessions
+pub mod Invoking

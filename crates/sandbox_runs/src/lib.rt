@@ -4,5 +4,6 @@
 
 pub mod checking;
 pub mod ending;
+mod invoking;
 pub mod program;
 pub mod sessions;

@@ -24,6 +24,7 @@ ghost use Rattle.sandbox_runs.specs.Execution.{RunsOn, Runs, Executes, StaysWith
 
 use crate::checking::ended_task;
 use crate::ending::ended;
+use crate::invoking::invoke_valid;
 use crate::sessions::{launch_bare, launch_prepared};
 use observed_run::FuelProfile;
 use sandbox_args::Run;
@@ -175,18 +176,23 @@ fn outcome_status(outcome: Outcome) -> u8
     }
 }
 
-/// Prints the lines of a run that ended so: why it could not begin; or the outcome's line, if it has one, and behind it
+/// Prints the line of how a run ended, if it has one: why it could not begin, or its outcome's.
+fn tell_reason<W: Outlet>(err: &mut W, end: End)
+    ensures { AppendsSome (W.contents err.old) (W.contents err.new) }
+{
+    match end {
+        End::Refused(fault) => tell_fault(err, fault),
+        End::Ran(outcome) => tell_outcome(err, outcome),
+    }
+}
+
+/// Prints the lines of a run that ended so: why it could not begin, or the outcome's line, if it has one; and behind it
 /// that its calls couldn't be committed or its output not be flushed.
 pub fn tell_end<W: Outlet>(err: &mut W, summary: &Summary)
     ensures { AppendsSome (W.contents err.old) (W.contents err.new) }
 {
-    match summary.end {
-        End::Refused(fault) => tell_fault(err, fault),
-        End::Ran(outcome) => {
-            tell_outcome(err, outcome);
-            tell_after(err, summary.status, summary.flushed);
-        }
-    }
+    tell_reason(err, summary.end);
+    tell_after(err, summary.status, summary.flushed);
 }
 
 /// Flushes the outputs of a guest, its errors where its output could be: whether both could be.
@@ -386,14 +392,14 @@ pub fn no_session<D: Device + Drop, R: Drop, W1: Drop, W2: Drop>(
 }
 
 /// The file that a run finds its volume in, its own, an image or a tar stream.
-fn volume_of<'a>(run: &Run<'a>) -> Option<&'a str>
+pub(crate) fn volume_of<'a>(run: &Run<'a>) -> Option<&'a str>
     ensures { result ≡ volume_of run.now }
 {
     run.volume.or(run.image.or(run.image_from))
 }
 
 /// What the session of a run is made of beside its module.
-fn parts_of<'a, 't, D: Device, R, W1, W2>(
+pub(crate) fn parts_of<'a, 't, D: Device, R, W1, W2>(
     run: &Run<'t>,
     supplies: &'a GuestTexts<'t>,
     random: &'a [u8],
@@ -415,7 +421,7 @@ fn parts_of<'a, 't, D: Device, R, W1, W2>(
 }
 
 /// Ends a run whose volume is refused. Gives the device and the streams back.
-fn no_volume<D: Drop, R: Drop, W1: Drop, W2: Drop>(
+pub(crate) fn no_volume<D: Drop, R: Drop, W1: Drop, W2: Drop>(
     run: &Run<'_>,
     refused: Refused<D>,
     streams: Streams<R, W1, W2>,
@@ -500,6 +506,11 @@ pub fn run<D: Device + Drop, R: Inlet + Drop, W1: Outlet + Drop, W2: Outlet + Dr
     let (status, fault) = match supplied(alloc, run) {
         Ok(supplies) => match load_with(alloc, module, profile_for(run.floats)) {
             Ok(valid) => {
+                if let Some(name) = run.invoke {
+                    return invoke_valid(
+                        alloc, run, name, module, valid, &supplies, random, device, streams, stacks,
+                    );
+                }
                 let once = Runnable::Bare(valid);
                 let (ran, left) = run_valid(
                     alloc, run, once, &supplies, random, device, streams, stacks,

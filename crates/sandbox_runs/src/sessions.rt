@@ -156,14 +156,14 @@ where
 }
 
 /// How many functions a module imports.
-fn imports_of(module: &Module<'_>) -> usize
+pub(crate) fn imports_of(module: &Module<'_>) -> usize
     ensures { result ≡ length «module».now.imports }
 {
     module.imports.as_slice().len()
 }
 
 /// Where the fuel of a run went, of a module with so many imported functions.
-fn fuel_use_of(stacks: Option<FuelProfile>, imported: usize) -> Option<FuelUse>
+pub(crate) fn fuel_use_of(stacks: Option<FuelProfile>, imported: usize) -> Option<FuelUse>
     ensures { IsUseWith stacks imported result }
 {
     match stacks {
@@ -213,7 +213,7 @@ fn output_of(run: &Run<'_>) -> u64
 }
 
 /// The parts of a session whose streams are counted, and whose outputs take so many bytes at most as the words say.
-fn counted_parts<'s, 't, D: Device, R, W1, W2>(
+pub(crate) fn counted_parts<'s, 't, D: Device, R, W1, W2>(
     run: &Run<'_>,
     parts: HostParts<'s, 't, D, R, W1, W2>,
 ) -> HostParts<'s, 't, D, Counted<R>, Counted<W1>, Counted<W2>>

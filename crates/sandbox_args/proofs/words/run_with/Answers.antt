@@ -29,6 +29,7 @@ returns c dirs env words = record {
   profile = c.option_text-12.ensures;
   profile_every = c.long_number-5.ensures;
   tests = c.option_text-13.ensures;
+  invoke = c.option_text-14.ensures;
   module_word = c.text.ensures;
   words = words;
 }

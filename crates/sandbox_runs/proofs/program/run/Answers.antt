@@ -1,11 +1,13 @@
-use Rattle.std.proofs.Common.{ℕ, inl, inr, refl, sym, ◌∙◌, ap, subst, Some}
+use Rattle.std.specs.Borrow.{Bor}
+use Rattle.sandbox_args.specs.Request.{Text}
+use Rattle.std.proofs.Common.{ℕ, Option, inl, inr, refl, sym, ◌∙◌, ap, subst, Some}
 use Rattle.wasm_syntax.specs.declared.profile.Profile.{Profile}
 use Rattle.wasm_syntax.specs.declared.module.Module.{Module}
 use Rattle.wasm_syntax.specs.Module.{SpellsWith}
 use Rattle.wasm_valid.specs.Validity.{IsValid}
 use Rattle.sandbox_report.specs.declared.fault.Fault.{Fault}
 use Rattle.wasi_calls.specs.host.Worlds.{hearing}
-use Rattle.sandbox_runs.specs.Execution.{IsUntouched}
+use Rattle.sandbox_runs.specs.Execution.{IsUntouched, RunsBy}
 use Rattle.sandbox_telling.specs.Modules.{profile_for}
 use Rattle.sandbox_telling.specs.Stopping.{AreLinesBy, TellsLines}
 use Rattle.sandbox_telling.specs.internal.Runnable.{module_in}
@@ -16,11 +18,34 @@ use Rattle.sandbox_runs.proofs.Unbegun.{not_run_so}
 use Rattle.sandbox_runs.proofs.program.run.Goals as goal
 use Rattle.sandbox_runs.proofs.program.run.Goals.{in-Ok+in-Err-load_with, in-Err}
 
--- the module is valid
+-- the module is valid, and its function was called
+pub returns-in-Some-clause-runs : goal.returns-in-Some-clause-runs
+returns-in-Some-clause-runs g c =
+    let found = subst (λ (p : Profile). SpellsWith p c.args.«module».now c.in-Ok-load_with.valid × IsValid c.in-Ok-load_with.valid) c.profile_for.ensures c.in-Ok-load_with.ensures.found in
+    let streams = c.args.streams in
+    inr (inr (
+      c.in-Ok-load_with.valid,
+      found.0,
+      found.1,
+      subst (λ (o : Option (Bor Text)). RunsBy g.D.Device.honest g.D.Device.disk g.D.Device.size g.D.Device.failures g.D.Device.goes_on g.R.Read.remaining g.W1.Write.contents g.W2.Write.contents (hearing g.R.Inlet.gave g.R.Inlet.refused g.W1.Outlet.took g.W1.Outlet.refused g.W2.Outlet.took g.W2.Outlet.refused) o c.args.run.now c.in-Ok-load_with.valid c.args.random.now c.args.device streams.input streams.out streams.err c.invoke_valid.result.0) (sym c.in-Some.is) c.invoke_valid.ensures.invokes,
+    ))
+
+pub returns-in-Some-clause-lines : goal.returns-in-Some-clause-lines
+returns-in-Some-clause-lines g c =
+    lines_told (profile_for c.args.run.now.floats) c.args.«module».now c.in-Ok-load_with.valid c.args.run.now.frames c.invoke_valid.result.0.stopped c.invoke_valid.result.1.items (subst (λ (p : Profile). SpellsWith p c.args.«module».now c.in-Ok-load_with.valid) c.profile_for.ensures c.in-Ok-load_with.ensures.found.0)
+    c.invoke_valid.ensures.lines
+
+-- the module is valid, and ran as a command
 pub returns-in-Ok-load_with-clause-runs : goal.returns-in-Ok-load_with-clause-runs
 returns-in-Ok-load_with-clause-runs g c =
     let found = subst (λ (p : Profile). SpellsWith p c.args.«module».now c.in-Ok-load_with.valid × IsValid c.in-Ok-load_with.valid) c.profile_for.ensures c.in-Ok-load_with.ensures.found in
-    inr (inr (c.in-Ok-load_with.valid, found.0, found.1, c.run_valid-ran.ensures.runs))
+    let streams = c.args.streams in
+    inr (inr (
+      c.in-Ok-load_with.valid,
+      found.0,
+      found.1,
+      subst (λ (o : Option (Bor Text)). RunsBy g.D.Device.honest g.D.Device.disk g.D.Device.size g.D.Device.failures g.D.Device.goes_on g.R.Read.remaining g.W1.Write.contents g.W2.Write.contents (hearing g.R.Inlet.gave g.R.Inlet.refused g.W1.Outlet.took g.W1.Outlet.refused g.W2.Outlet.took g.W2.Outlet.refused) o c.args.run.now c.in-Ok-load_with.valid c.args.random.now c.args.device streams.input streams.out streams.err c.run_valid-ran.result.1) (sym c.in_default.is) c.run_valid-ran.ensures.runs,
+    ))
 
 -- the words are refused, or the bytes
 pub returns-clause-runs : goal.returns-clause-runs
