@@ -266,7 +266,7 @@ def room_items():
 
 
 ON_FULL = ["--volume-out v", "--volume-out i", "--volume-out new", "--out-to o", "--out-to new", "--stdout new", "--report new", "--stdout o --report r"]
-ON_FULL += [f"{option} {name}" for option in ("--volume-out", "--out-to") for name in ("linked", "mounted")]
+ON_FULL += [f"{option} {name}" for option in ("--volume-out", "--out-to") for name in ("linked", "mounted", "holes")]
 
 
 def full_disk(setting, options):
@@ -285,11 +285,15 @@ def full_disk(setting, options):
 
 
 def written_in_place(disk):
-    """Files that are written in place, with fewer bytes than they are to have: one has another name, and one is mounted by itself."""
+    """Files that are written in place, with less room than they are to have: some have another name, and one is mounted by itself."""
     for name in ("linked", "real", "mounted"):
         with open(f"{disk}/{name}", "xb") as file:
             file.write(b"kept\n")
     os.link(f"{disk}/linked", f"{disk}/other")
+    with open(f"{disk}/holes", "xb") as file:
+        file.write(b"kept\n")
+        file.truncate(400 * 512)
+    os.link(f"{disk}/holes", f"{disk}/holes too")
     subprocess.run(["mount", "--bind", f"{disk}/real", f"{disk}/mounted"], check=True)
 
 
@@ -308,7 +312,7 @@ def on_full_disk(it, disk, options):
     what = f"{' '.join(words)} on a full disk: status {done.returncode}, {done.stderr.decode()[:200]!r}"
     if options[0] in begun:
         expected = {**before, **given_out(words)}
-        for name, other in (("linked", "other"), ("mounted", "real")):
+        for name, other in (("linked", "other"), ("mounted", "real"), ("holes", "holes too")):
             expected[other] = expected[name]
         is_done = done.returncode == 0 and after == expected
         wanted(is_done or done.returncode in (123, 124) and after == before, f"{what}: {[name for name in {*after, *before} if after.get(name) != before.get(name)]}")

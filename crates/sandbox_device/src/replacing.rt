@@ -30,6 +30,9 @@ const NAMES: u32 = 8;
 /// Bytes that are written at once.
 const PIECE: usize = 65_536;
 
+/// Bytes of a block in which a file's room is counted.
+const BLOCK: u64 = 512;
+
 /// The bytes of the longest name that the name beside it is made of.
 const LONGEST: usize = 200;
 
@@ -288,9 +291,47 @@ fn write_zeros<R: AllocGlobal>(rt: &R, file: &File, from: u64, to: u64) -> io::R
     Ok(())
 }
 
-/// Makes room behind a file for as many bytes as it is to have. Where there is none, it stays as it is.
-fn make_room<R: AllocGlobal>(rt: &R, file: &File, wanted: u64) -> io::Result<()> {
+/// Writes a file's first bytes over themselves, so that its holes have room.
+fn fill_holes<R: AllocGlobal>(rt: &R, source: &File, file: &File, count: u64) -> io::Result<()> {
+    let mut piece = vec![in rt.alloc(); 0; PIECE]?;
+    let mut at = 0;
+    while at < count {
+        let part = (count - at).min(PIECE as u64);
+        source.read_exact_at(&mut piece[..part as usize], at)?;
+        file.write_all_at(&piece[..part as usize], at)?;
+        at += part;
+    }
+    Ok(())
+}
+
+/// Gives room to the holes among so many first bytes of a file, where it has some and may be read.
+fn make_room_inside<R: Files<File = File> + AllocGlobal>(
+    rt: &R,
+    path: &str,
+    file: &File,
+    count: u64,
+) -> io::Result<()> {
+    if file.metadata()?.blocks() >= count.div_ceil(BLOCK) {
+        return Ok(());
+    }
+    let mut how = OpenOptions::new();
+    how.read(true);
+    let source = open_apart(rt, &how, path);
+    match source {
+        Ok(source) if leads_to(rt, path, file)? => fill_holes(rt, &source, file, count),
+        _ => Ok(()),
+    }
+}
+
+/// Makes room for as many bytes as a file is to have. Where there is none, it stays as it is.
+fn make_room<R: Files<File = File> + AllocGlobal>(
+    rt: &R,
+    path: &str,
+    file: &File,
+    wanted: u64,
+) -> io::Result<()> {
     let had = file.metadata()?.len();
+    make_room_inside(rt, path, file, had.min(wanted))?;
     let done = write_zeros(rt, file, had, wanted);
     if done.is_err() {
         let _ = file.set_len(had);
@@ -300,7 +341,12 @@ fn make_room<R: AllocGlobal>(rt: &R, file: &File, wanted: u64) -> io::Result<()>
 
 /// Gives a file these bytes in the place of those that it has, and makes that last. A pipe, a terminal or a device takes them. What a
 /// file has stays where there is no room for more.
-fn overwrite<R: AllocGlobal>(rt: &R, file: &File, contents: Contents<'_>) -> io::Result<()>
+fn overwrite<R: Files<File = File> + AllocGlobal>(
+    rt: &R,
+    path: &str,
+    file: &File,
+    contents: Contents<'_>,
+) -> io::Result<()>
     ensures { OnOk result (WasOverwritten file.now (bytes_of contents.entry)) }
 {
     if !file.metadata()?.is_file() {
@@ -308,7 +354,7 @@ fn overwrite<R: AllocGlobal>(rt: &R, file: &File, contents: Contents<'_>) -> io:
         let _ = file.sync_all();
         return Ok(());
     }
-    make_room(rt, file, contents.len())?;
+    make_room(rt, path, file, contents.len())?;
     write_contents(rt, file, contents)?;
     let mut written = file;
     file.set_len(written.stream_position()?)?;
@@ -489,6 +535,6 @@ impl Replacement {
     {
         let Replacement { path, old, .. } = self;
         let file = there(rt, path.as_str(), old)?;
-        overwrite(rt, &file, contents)
+        overwrite(rt, path.as_str(), &file, contents)
     }
 }
