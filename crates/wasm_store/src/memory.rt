@@ -67,7 +67,7 @@ fn copy_bytes(bytes: &mut Vec<u8>, source: usize, target: usize, len: usize)
 }
 
 impl Memory {
-    ghost use Rattle.std.specs.Prelude.{◌≡◌, ℕ, ◌+◌, ◌*◌, ◌/◌, ◌<◌, ◌≤◌, ◌⊎◌, ◌++◌, length, replicate, IfOk, IsSome, IfSome, IfNone, IsTrue, ◌↔◌};
+    ghost use Rattle.std.specs.Prelude.{◌≡◌, ℕ, ◌+◌, ◌*◌, ◌/◌, ◌^◌, ◌<◌, ◌≤◌, ◌⊎◌, ◌++◌, length, replicate, IfOk, IsSome, IfSome, IfNone, IsTrue, ◌↔◌};
     ghost use Rattle.std.specs.Bool.{OnTrue, OnFalse};
     ghost use Rattle.std.specs.Borrow.{sem};
     ghost use Rattle.wasm_store.specs.Bytes.{from_bytes, to_bytes, bytes_at, written};
@@ -176,6 +176,23 @@ impl Memory {
         true
     }
 
+    /// Writes these bytes from a place on, or nothing where they would pass the end. It compares once, as a load does, since the end
+    /// is a number; `put` compares twice.
+    fn put_before(&mut self, start: usize, bytes: &[u8]) -> bool
+        requires { start + length bytes.now < 2 ^ 64 }
+        ensures inside { OnTrue result ((start + length bytes.now ≤ length self.old)
+            × (self.new ≡ written self.old start bytes.now)) }
+        ensures outside { OnFalse result ((length self.old < start + length bytes.now)
+            × (self.new ≡ self.old)) }
+    {
+        let count = bytes.len();
+        if self.bytes.len() < start + count {
+            return false;
+        }
+        self.bytes.as_mut_slice()[start..start + count].copy_from_slice(bytes);
+        true
+    }
+
     /// This many bytes from a base and an offset.
     fn access(&self, base: u32, offset: u32, len: u32) -> Option<&[u8]>
         ensures inside { IfSome result (λ s. (base + offset + len ≤ length self.now)
@@ -233,7 +250,7 @@ impl Memory {
         ensures outside { OnFalse result ((length self.old < base + offset + 1)
             × (self.new ≡ self.old)) }
     {
-        self.put(base as usize + offset as usize, &[value])
+        self.put_before(base as usize + offset as usize, &[value])
     }
 
     /// Stores 2 bytes from a base and an offset on (section 4.4.4), or nothing where they would pass the end.
@@ -243,7 +260,7 @@ impl Memory {
         ensures outside { OnFalse result ((length self.old < base + offset + 2)
             × (self.new ≡ self.old)) }
     {
-        self.put(base as usize + offset as usize, &u16::to_le_bytes(value))
+        self.put_before(base as usize + offset as usize, &u16::to_le_bytes(value))
     }
 
     /// Stores 4 bytes from a base and an offset on (section 4.4.4), or nothing where they would pass the end.
@@ -253,7 +270,7 @@ impl Memory {
         ensures outside { OnFalse result ((length self.old < base + offset + 4)
             × (self.new ≡ self.old)) }
     {
-        self.put(base as usize + offset as usize, &u32::to_le_bytes(value))
+        self.put_before(base as usize + offset as usize, &u32::to_le_bytes(value))
     }
 
     /// Stores 8 bytes from a base and an offset on (section 4.4.4), or nothing where they would pass the end.
@@ -263,7 +280,7 @@ impl Memory {
         ensures outside { OnFalse result ((length self.old < base + offset + 8)
             × (self.new ≡ self.old)) }
     {
-        self.put(base as usize + offset as usize, &u64::to_le_bytes(value))
+        self.put_before(base as usize + offset as usize, &u64::to_le_bytes(value))
     }
 
     /// Grows by this many pages of zeros, to at most `limit` pages, and gives the pages before (section 4.4.4). Past the
