@@ -266,6 +266,7 @@ fn load_operator(profile: Profile, byte: u8) -> Option<LoadOperator>
 
 /// What follows an opcode of the loads (section 5.4.4). Where those of floating point are refused, that is before what follows them is read.
 #[tactic(auto, unfolding(wasm_syntax::specs::internal::CodeReading::load_after))]
+#[inline(always)]
 fn load(
     alloc: Global,
     cursor: &mut Cursor<'_>,
@@ -302,6 +303,7 @@ fn store_operator(profile: Profile, byte: u8) -> Option<StoreOperator>
 
 /// What follows an opcode of the stores (section 5.4.4). Where those of floating point are refused, that is before what follows them is read.
 #[tactic(auto, unfolding(wasm_syntax::specs::internal::CodeReading::store_after))]
+#[inline(always)]
 fn store(
     alloc: Global,
     cursor: &mut Cursor<'_>,
