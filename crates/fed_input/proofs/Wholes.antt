@@ -11,8 +11,8 @@ use Rattle.wasm_store.specs.declared.call.Answer.TheVariants.{Value as value, Ex
 use Rattle.wasm_store.specs.declared.call.Errno.{Errno}
 use Rattle.wasm_steps.specs.Configuration.{numbers, Instance, Configuration, at}
 use Rattle.wasm_steps.specs.Steps.{CallsOf, Event, Step, plain_step, free_step, host_answers, host_exits, in_label, in_frame, Reach, stays as halts, goes as makes}
-use Rattle.wasi_calls.specs.declared.streams.Input.{Input}
-use Rattle.wasi_calls.specs.host.Worlds.{HasFailed, HearsInput, HostState, LeavesNone, StreamBytes, StreamCalls, StreamsMove}
+use Rattle.wasi_bodies.specs.declared.streams.Input.{Input}
+use Rattle.wasi_bodies.specs.host.Worlds.{HasFailed, HearsInput, HostState, LeavesNone, StreamBytes, StreamCalls, StreamsMove}
 use Rattle.fed_input.specs.Feeding.{Fed, Gave, left_of}
 use Rattle.fed_input.specs.Wholes.{in_memory, going_on, MayCome, whole_host, FedCalls, WholeCalls, CallsOfTheWhole, RunsOfTheWhole}
 

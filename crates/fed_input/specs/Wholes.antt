@@ -6,7 +6,7 @@ use Rattle.wasm_store.specs.declared.call.Answer.{Answer}
 use Rattle.wasm_store.specs.declared.call.Errno.{Errno}
 use Rattle.wasm_steps.specs.Configuration.{Instance, Configuration}
 use Rattle.wasm_steps.specs.Steps.{CallsOf, Reach}
-use Rattle.wasi_calls.specs.host.Worlds.{Hearing, HostState, HostCalls, StreamCalls}
+use Rattle.wasi_bodies.specs.host.Worlds.{Hearing, HostState, HostCalls, StreamCalls}
 use Rattle.fed_input.specs.Feeding.{Fed, Gave, Starves, left_of}
 
 -- bytes in memory: each read gives what comes next, and none is refused

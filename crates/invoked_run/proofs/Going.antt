@@ -12,7 +12,7 @@ use Rattle.wasm_interp.specs.Machine.{Snapshot, Represents, entries_left}
 use Rattle.wasm_interp.specs.declared.invoking.Event.{Event}
 use Rattle.wasm_interp.specs.declared.invoking.Event.TheVariants.{Asked, Paused, Returned as Back}
 use Rattle.wasm_interp.specs.Invoking.{results_of}
-use Rattle.wasi_calls.specs.host.Worlds.{HostState}
+use Rattle.wasi_bodies.specs.host.Worlds.{HostState}
 use Rattle.sandbox_core.specs.Devices.{Devices, Calls as HostCalls}
 use Rattle.plugin_core.specs.Handling.{Act, Goes as AtWork, Handled, paused, pauses}
 use Rattle.plugin_session.specs.Headline.{History, FollowBy}

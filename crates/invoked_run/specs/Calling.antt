@@ -7,7 +7,7 @@ use Rattle.wasm_interp.specs.declared.frames.Frame.{Frame}
 use Rattle.wasm_interp.specs.Frames.{frames_of}
 use Rattle.wasm_interp.specs.Invoking.{results_of}
 use Rattle.wasm_interp.specs.Machine.{Represents}
-use Rattle.wasi_calls.specs.host.Worlds.{stream_failed}
+use Rattle.wasi_bodies.specs.host.Worlds.{stream_failed}
 use Rattle.sandbox_core.specs.Devices.{Devices}
 use Rattle.sandbox_core.specs.Finishing.{Commits}
 use Rattle.observed_run.specs.Telling.{TellsFrames}

@@ -15,10 +15,10 @@ use Rattle.wasi_fd.specs.declared.descriptor.Descriptor.TheVariants.{Stream, Ent
 use Rattle.wasi_fd.specs.declared.descriptor.Opened.{Opened}
 use Rattle.wasi_fd.specs.declared.table.TheConstants.{PLACES}
 use Rattle.wasi_fd.specs.Table.{Table}
-use Rattle.wasi_calls.specs.World.{World}
-use Rattle.wasi_calls.specs.Calls.{row, Calls}
-use Rattle.wasi_calls.specs.laws.Confined.{Tops, named_by, HasOnlyDirectoriesOpen, IsHostOf}
-use Rattle.wasi_calls.proofs.runs.HeldAlongRuns.{is_directory_kind, Holds}
+use Rattle.wasi_bodies.specs.World.{World}
+use Rattle.wasi_bodies.specs.Calls.{row, Calls}
+use Rattle.wasi_bodies.specs.laws.Confined.{Tops, named_by, HasOnlyDirectoriesOpen, IsHostOf}
+use Rattle.wasi_bodies.proofs.runs.HeldAlongRuns.{is_directory_kind, Holds}
 use Rattle.wasi_calls.proofs.runs.RowsKeep.{row_keeps}
 use Rattle.wasi_calls.proofs.runs.Confinement.{confined, answered_keeps}
 use Rattle.wasm_syntax.specs.declared.module.Module.{Module}

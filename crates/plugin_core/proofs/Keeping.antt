@@ -8,7 +8,7 @@ use Rattle.wasm_store.specs.declared.call.HostCall.{HostCall}
 use Rattle.wasm_store.specs.declared.call.Errno.{Errno}
 use Rattle.wasm_steps.specs.Configuration.{Instance, Store, Configuration, store_of}
 use Rattle.wasm_steps.specs.Steps.{CallsOf, silent, answers, Reach, stays, goes}
-use Rattle.wasi_calls.specs.laws.Moments.{CallsKeepMoments, Turn, Turns, is_sync}
+use Rattle.wasi_bodies.specs.laws.Moments.{CallsKeepMoments, Turn, Turns, is_sync}
 use Rattle.wasi_calls.proofs.runs.Moments.{Changes, step_changes, keeps_all}
 use Rattle.wasm_syntax.specs.declared.module.Module.{Module}
 use Rattle.plugin_steps.specs.Lives.{Invocation}

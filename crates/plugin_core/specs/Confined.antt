@@ -4,8 +4,8 @@ use Rattle.std.specs.Prelude.{ℕ, List}
 use Rattle.wasm_syntax.specs.declared.module.Module.{Module}
 use Rattle.wasm_steps.specs.Configuration.{Store}
 use Rattle.wasm_steps.specs.Steps.{CallsOf}
-use Rattle.wasi_calls.specs.World.{World}
-use Rattle.wasi_calls.specs.laws.Confined.{IsConfined, named_by, HasOnlyDirectoriesOpen, IsHostOf}
+use Rattle.wasi_bodies.specs.World.{World}
+use Rattle.wasi_bodies.specs.laws.Confined.{IsConfined, named_by, HasOnlyDirectoriesOpen, IsHostOf}
 use Rattle.plugin_steps.specs.Lives.{Invocation}
 use Rattle.wasm_store.specs.Allocation.{AllLinks}
 use Rattle.plugin_core.specs.WholeLives.{Life}

@@ -8,8 +8,8 @@ use Rattle.wasm_store.specs.declared.call.HostCall.{HostCall}
 use Rattle.wasm_store.specs.declared.call.Errno.{Errno}
 use Rattle.wasm_steps.specs.Configuration.{Store}
 use Rattle.wasm_steps.specs.Steps.{CallsOf}
-use Rattle.wasi_calls.specs.Errnos.{SUCCESS}
-use Rattle.wasi_calls.specs.laws.Moments.{Turn, IsSafe, AllKept, CallsKeepMoments, is_sync}
+use Rattle.wasi_bodies.specs.Errnos.{SUCCESS}
+use Rattle.wasi_bodies.specs.laws.Moments.{Turn, IsSafe, AllKept, CallsKeepMoments, is_sync}
 use Rattle.plugin_steps.specs.Lives.{Invocation}
 use Rattle.wasm_store.specs.Allocation.{AllLinks}
 use Rattle.plugin_core.specs.WholeLives.{Life, answered_in}

@@ -4,8 +4,8 @@ use Rattle.vol_sector.specs.Disk.{Image}
 use Rattle.wasm_syntax.specs.declared.module.Module.{Module}
 use Rattle.wasm_steps.specs.Steps.{CallsOf}
 use Rattle.wasm_operands.specs.Snapshots.{Snapshot, StandsFor}
-use Rattle.wasi_calls.specs.host.Worlds.{HostState, Shows}
-use Rattle.wasi_calls.specs.laws.Confined.{HasOnlyDirectoriesOpen}
+use Rattle.wasi_bodies.specs.host.Worlds.{HostState, Shows}
+use Rattle.wasi_bodies.specs.laws.Confined.{HasOnlyDirectoriesOpen}
 use Rattle.wasi_calls.proofs.runs.HostLaws.{are_rows, keep_moments}
 use Rattle.sandbox_core.specs.Devices.{Devices, Calls, disk_of, numbers_of, tree_of, IsHonest}
 use Rattle.sandbox_core.proofs.Headline.{safe, still, world_begins}

@@ -2,7 +2,7 @@
 use Rattle.std.proofs.Common.{ℕ, Option}
 use Rattle.wasm_syntax.specs.declared.module.Module.{Module}
 use Rattle.wasi_calls.specs.declared.host.wasi_host.HostParts.{HostParts}
-use Rattle.wasi_calls.specs.declared.streams.Terminals.{Terminals}
+use Rattle.wasi_bodies.specs.declared.streams.Terminals.{Terminals}
 use Rattle.wasm_interp.proofs.Limiting.{limited_opens}
 use Rattle.plugin_session.specs.Instance.{InstanceState, OpensWith, limited_to, links}
 

@@ -7,11 +7,11 @@ use Rattle.wasm_store.specs.declared.fault.InstanceFault.TheVariants as instance
 use Rattle.wasm_store.specs.Allocating.{NotAllocated}
 use Rattle.wasi_calls.specs.declared.host.fault.HostFault.{HostFault}
 use Rattle.wasi_calls.specs.declared.host.fault.HostFault.TheVariants as host
-use Rattle.wasi_calls.specs.declared.host.settings.Settings.{Settings}
+use Rattle.wasi_bodies.specs.declared.settings.Settings.{Settings}
 use Rattle.wasi_calls.specs.declared.host.wasi_host.HostParts.{HostParts}
-use Rattle.wasi_calls.specs.host.Worlds.{HostState}
+use Rattle.wasi_bodies.specs.host.Worlds.{HostState}
 use Rattle.wasi_calls.specs.host.Making.{IsRefusedPreopen, preopens_of}
-use Rattle.wasi_calls.specs.host.Settings.{settings_fit}
+use Rattle.wasi_bodies.specs.host.Settings.{settings_fit}
 use Rattle.sandbox_core.specs.internal.Faults.{of_host, of_instance}
 use Rattle.plugin_session.specs.Instance.{IsOpenable, IsRefused, links}
 

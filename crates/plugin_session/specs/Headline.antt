@@ -7,10 +7,10 @@ use Rattle.wasm_steps.specs.Configuration.{Configuration, store_of}
 use Rattle.wasm_operands.specs.Snapshots.{StandsFor}
 use Rattle.wasm_interp.specs.Invocations.{TellsStores}
 use Rattle.wasi_calls.specs.declared.host.wasi_host.HostParts.{HostParts}
-use Rattle.wasi_calls.specs.declared.streams.Terminals.{Terminals}
-use Rattle.wasi_calls.specs.World.{World}
-use Rattle.wasi_calls.specs.host.Worlds.{HostState, Shows}
-use Rattle.wasi_calls.specs.laws.Confined.{IsConfined, named_by}
+use Rattle.wasi_bodies.specs.declared.streams.Terminals.{Terminals}
+use Rattle.wasi_bodies.specs.World.{World}
+use Rattle.wasi_bodies.specs.host.Worlds.{HostState, Shows}
+use Rattle.wasi_bodies.specs.laws.Confined.{IsConfined, named_by}
 use Rattle.sandbox_core.specs.Devices.{Devices, Calls, IsHonest, disk_of, numbers_of, tree_of}
 use Rattle.sandbox_core.specs.Sessions.{Shares}
 use Rattle.sandbox_core.specs.SafeVolumes.{IsSafeVolume}

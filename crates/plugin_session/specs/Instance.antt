@@ -11,10 +11,10 @@ use Rattle.wasm_interp.specs.declared.invoking.Event.TheVariants as events
 use Rattle.wasm_steps.specs.Outcomes.{UnitsRise}
 use Rattle.wasm_interp.specs.Machine.{Snapshot, Represents, limited}
 use Rattle.wasm_interp.specs.Invoking as machine
-use Rattle.wasi_calls.specs.declared.streams.Terminals.{Terminals}
+use Rattle.wasi_bodies.specs.declared.streams.Terminals.{Terminals}
 use Rattle.wasi_calls.specs.declared.host.wasi_host.HostParts.{HostParts}
-use Rattle.wasi_calls.specs.host.Settings.{settings_fit}
-use Rattle.wasi_calls.specs.supplies.Random.{seeded}
+use Rattle.wasi_bodies.specs.host.Settings.{settings_fit}
+use Rattle.wasi_bodies.specs.supplies.Random.{seeded}
 use Rattle.wasi_calls.specs.host.Making.{preopens_of}
 use Rattle.sandbox_core.specs.Devices.{Devices}
 use Rattle.sandbox_core.specs.declared.fault.SessionFault.{SessionFault}

@@ -6,12 +6,12 @@ use Rattle.wasm_syntax.specs.declared.module.Module.{Module}
 use Rattle.wasm_store.specs.Allocation.{AllLinks, with_embedder}
 use Rattle.wasm_operands.specs.Snapshots.{Snapshot, StandsFor}
 use Rattle.wasm_interp.specs.Invocations as machine
-use Rattle.wasi_calls.specs.declared.streams.Terminals.{Terminals}
+use Rattle.wasi_bodies.specs.declared.streams.Terminals.{Terminals}
 use Rattle.wasi_calls.specs.declared.host.wasi_host.HostParts.{HostParts}
-use Rattle.wasi_calls.specs.host.Settings.{settings_fit}
+use Rattle.wasi_bodies.specs.host.Settings.{settings_fit}
 use Rattle.wasi_calls.specs.host.Links.{link}
-use Rattle.wasi_calls.specs.supplies.Random.{seeded}
-use Rattle.wasi_calls.specs.host.Worlds.{HostState}
+use Rattle.wasi_bodies.specs.supplies.Random.{seeded}
+use Rattle.wasi_bodies.specs.host.Worlds.{HostState}
 use Rattle.sandbox_core.specs.Devices.{Devices, Calls}
 use Rattle.sandbox_core.specs.Sessions.{SessionState}
 use Rattle.plugin_core.specs.declared.stage.Stage.{Stage}

@@ -21,7 +21,7 @@ where
     W1: Outlet + Drop,
     W2: Outlet + Drop,
 {
-    ghost use Rattle.wasi_calls.specs.host.Worlds.{stream_failed};
+    ghost use Rattle.wasi_bodies.specs.host.Worlds.{stream_failed};
     ghost use Rattle.sandbox_core.specs.Session.{Finishes};
     ghost use Rattle.plugin_session.specs.Instance.{interactive_with, limited_to, seeded_by, session_of, used_by};
 

@@ -6,10 +6,10 @@ use Rattle.wasm_store.specs.declared.call.HostCall.TheVariants as call
 use Rattle.wasm_store.specs.declared.call.Errno.{Errno}
 use Rattle.wasm_store.specs.declared.call.Answer.{Answer}
 use Rattle.wasm_store.specs.declared.call.Answer.TheVariants.{Value as value}
-use Rattle.wasi_calls.specs.World.{World}
-use Rattle.wasi_calls.specs.Checks.{Checked, Done, put}
-use Rattle.wasi_calls.specs.Errnos.{SUCCESS}
-use Rattle.wasi_calls.specs.Calls.{row, Answers, Answered, by_row, volume_fails, input_fails, output_fails, errors_fail, Calls}
+use Rattle.wasi_bodies.specs.World.{World}
+use Rattle.wasi_bodies.specs.Checks.{Checked, Done, put}
+use Rattle.wasi_bodies.specs.Errnos.{SUCCESS}
+use Rattle.wasi_bodies.specs.Calls.{row, Answers, Answered, by_row, volume_fails, input_fails, output_fails, errors_fail, Calls}
 use Rattle.same_run.specs.Failures.{has_failed, FailuresStay}
 use Rattle.same_run.specs.NextStep.{AnswersOnce}
 use Rattle.same_run.specs.SameWorld.{unplaced_world, IsSameWorld}

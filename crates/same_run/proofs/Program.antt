@@ -4,8 +4,8 @@ use Rattle.std.proofs.lemmas.Option.{same_Some}
 use Rattle.vol_sector.specs.Disk.{Disk}
 use Rattle.wasm_steps.specs.Configuration.{first_configuration}
 use Rattle.wasm_operands.specs.Snapshots.{StandsFor}
-use Rattle.wasi_calls.specs.declared.host.settings.Settings.{Settings}
-use Rattle.wasi_calls.specs.host.Worlds.{Hearing, given_of}
+use Rattle.wasi_bodies.specs.declared.settings.Settings.{Settings}
+use Rattle.wasi_bodies.specs.host.Worlds.{Hearing, given_of}
 use Rattle.sandbox_core.specs.Devices.{Devices}
 use Rattle.sandbox_args.specs.declared.request.Run.{Run}
 use Rattle.sandbox_args.specs.Request.{Text}

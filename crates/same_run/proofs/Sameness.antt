@@ -20,16 +20,16 @@ use Rattle.wasm_steps.specs.Configuration.{Instance, Configuration, at, first_co
 use Rattle.wasm_operands.specs.Snapshots.{StandsFor}
 use Rattle.wasm_interp.specs.Promises.{StartsBy}
 use Rattle.wasm_interp.specs.Machine.{Represents}
-use Rattle.wasi_calls.specs.declared.host.settings.Preopen.{Preopen}
-use Rattle.wasi_calls.specs.declared.host.settings.Settings.{Settings}
+use Rattle.wasi_bodies.specs.declared.settings.Preopen.{Preopen}
+use Rattle.wasi_bodies.specs.declared.settings.Settings.{Settings}
 use Rattle.wasi_calls.specs.declared.host.wasi_host.HostParts.{HostParts}
-use Rattle.wasi_calls.specs.declared.streams.Terminals.{Terminals}
+use Rattle.wasi_bodies.specs.declared.streams.Terminals.{Terminals}
 use Rattle.wasi_calls.specs.host.Making.{HasPreopens, directory_named, preopened, preopens_of, table_with}
 use Rattle.wasi_calls.specs.host.Links.{link}
-use Rattle.wasi_calls.specs.host.Worlds.{HostState, StreamBytes, MayFollow, before_moving, after_moving, given_of, world_of}
-use Rattle.wasi_calls.specs.supplies.Random.{seeded, supply}
-use Rattle.wasi_calls.specs.World.{World}
-use Rattle.wasi_calls.specs.Calls as world
+use Rattle.wasi_bodies.specs.host.Worlds.{HostState, StreamBytes, MayFollow, before_moving, after_moving, given_of, world_of}
+use Rattle.wasi_bodies.specs.supplies.Random.{seeded, supply}
+use Rattle.wasi_bodies.specs.World.{World}
+use Rattle.wasi_bodies.specs.Calls as world
 use Rattle.sandbox_core.specs.Devices.{Devices, Calls, IsHonest}
 use Rattle.sandbox_core.specs.Sessions.{SessionState, OpensBy, Shares}
 use Rattle.sandbox_core.specs.Within.{StopsAs, RunsWithin}

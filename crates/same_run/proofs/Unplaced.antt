@@ -16,14 +16,14 @@ use Rattle.wasi_fd.specs.Table.{Table}
 use Rattle.wasi_fd.specs.Rights.{FD_SEEK, FD_TELL}
 use Rattle.wasm_store.specs.declared.call.HostCall.{HostCall}
 use Rattle.wasm_store.specs.declared.call.HostCall.TheVariants as call
-use Rattle.wasi_calls.specs.World.{World, with_descriptor, moved_to, is_of, holds_below, held_open, least_closed, has_stream_failed, with_output}
-use Rattle.wasi_calls.specs.Checks.{Checked, ◌>>=◌, and_then, guard, Done, only_world, with_result, Refusals, of_kind, has, get, descriptor, opened_entry, entry_at}
-use Rattle.wasi_calls.specs.supplies.Rows.{sizes_get, texts_get, clock_res_get, clock_time_get, random_get}
-use Rattle.wasi_calls.specs.declared.streams.Terminals.{Terminals}
-use Rattle.wasi_calls.specs.descriptors.Rows.{fd_close, fd_fdstat_get, fd_filestat_get, fd_prestat_get, fd_prestat_dir_name, fd_seek, fd_tell, fdstat, stat_of, guest_name}
-use Rattle.wasi_calls.specs.files.Rows.{fd_read, fd_pread, fd_write, fd_pwrite, fd_filestat_set_size, fd_sync, fd_readdir, read_from, write_to, file_write}
-use Rattle.wasi_calls.specs.paths.Rows.{path_create_directory, path_filestat_get, path_open, path_remove_directory, path_rename, path_unlink_file, open_checks, open_entry, new_number, new_descriptor, rename_to}
-use Rattle.wasi_calls.specs.Calls.{row, word, long}
+use Rattle.wasi_bodies.specs.World.{World, with_descriptor, moved_to, is_of, holds_below, held_open, least_closed, has_stream_failed, with_output}
+use Rattle.wasi_bodies.specs.Checks.{Checked, ◌>>=◌, and_then, guard, Done, only_world, with_result, Refusals, of_kind, has, get, descriptor, opened_entry, entry_at}
+use Rattle.wasi_bodies.specs.supplies.Rows.{sizes_get, texts_get, clock_res_get, clock_time_get, random_get}
+use Rattle.wasi_bodies.specs.declared.streams.Terminals.{Terminals}
+use Rattle.wasi_bodies.specs.descriptors.Rows.{fd_close, fd_fdstat_get, fd_filestat_get, fd_prestat_get, fd_prestat_dir_name, fd_seek, fd_tell, fdstat, stat_of, guest_name}
+use Rattle.wasi_bodies.specs.files.Rows.{fd_read, fd_pread, fd_write, fd_pwrite, fd_filestat_set_size, fd_sync, fd_readdir, read_from, write_to, file_write}
+use Rattle.wasi_bodies.specs.paths.Rows.{path_create_directory, path_filestat_get, path_open, path_remove_directory, path_rename, path_unlink_file, open_checks, open_entry, new_number, new_descriptor, rename_to}
+use Rattle.wasi_bodies.specs.Calls.{row, word, long}
 use Rattle.same_run.specs.SameWorld.{unplaced_name, unplaced_entry, unplaced, unplaced_world}
 
 -- ---- two chains of checks

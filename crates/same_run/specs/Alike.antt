@@ -4,10 +4,10 @@ use Rattle.std.specs.Prelude.{◌≡◌, ℕ, ◌||◌, Bool, true, List, [], �
 use Rattle.wasm_steps.specs.declared.pause.Outcome.{Outcome}
 use Rattle.wasm_steps.specs.Configuration.{Instance, Configuration}
 use Rattle.wasm_steps.specs.Steps.{Reach}
-use Rattle.wasi_calls.specs.World.{World}
-use Rattle.wasi_calls.specs.Calls as world
-use Rattle.wasi_calls.specs.host.Worlds.{HostState, StreamBytes, StreamsMove, MayFollow, before_moving, after_moving}
-use Rattle.wasi_calls.specs.host.Worlds.{stream_failed, world_of}
+use Rattle.wasi_bodies.specs.World.{World}
+use Rattle.wasi_bodies.specs.Calls as world
+use Rattle.wasi_bodies.specs.host.Worlds.{HostState, StreamBytes, StreamsMove, MayFollow, before_moving, after_moving}
+use Rattle.wasi_bodies.specs.host.Worlds.{stream_failed, world_of}
 use Rattle.sandbox_core.specs.Devices.{Devices, Calls, tree_of}
 use Rattle.sandbox_core.specs.Within.{RunsWithin}
 use Rattle.same_run.specs.Growth.{WasRefusedMemory}

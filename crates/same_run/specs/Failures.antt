@@ -3,7 +3,7 @@ use Rattle.std.specs.Prelude.{◌≡◌, ℕ, Bool, false, ◌||◌, List}
 use Rattle.wasm_store.specs.declared.call.HostCall.{HostCall}
 use Rattle.wasm_store.specs.declared.call.Answer.{Answer}
 use Rattle.wasm_steps.specs.Steps.{CallsOf}
-use Rattle.wasi_calls.specs.World.{World}
+use Rattle.wasi_bodies.specs.World.{World}
 
 -- the volume has failed, or a read or a write of a stream
 abbrev pub has_failed : World → Bool

@@ -7,7 +7,7 @@ use Rattle.wasm_syntax.specs.declared.module.Module.{Module}
 use Rattle.wasm_valid.specs.Validity.{IsValid}
 use Rattle.wasm_operands.specs.Snapshots.{StandsFor}
 use Rattle.wasi_calls.specs.declared.host.wasi_host.HostParts.{HostParts}
-use Rattle.wasi_calls.specs.host.Worlds.{Hearing}
+use Rattle.wasi_bodies.specs.host.Worlds.{Hearing}
 use Rattle.sandbox_core.specs.Devices.{Devices}
 use Rattle.sandbox_args.specs.declared.request.Run.{Run}
 use Rattle.sandbox_args.specs.Request.{Text, texts, arguments_of}

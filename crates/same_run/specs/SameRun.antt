@@ -8,11 +8,11 @@ use Rattle.wasm_valid.specs.Validity.{IsValid}
 use Rattle.wasm_steps.specs.declared.pause.Outcome.{Outcome}
 use Rattle.wasm_steps.specs.Configuration.{Instance, Configuration}
 use Rattle.wasm_interp.specs.Machine.{Represents}
-use Rattle.wasi_calls.specs.declared.host.settings.Preopen.{Preopen}
-use Rattle.wasi_calls.specs.declared.host.settings.Settings.{Settings}
+use Rattle.wasi_bodies.specs.declared.settings.Preopen.{Preopen}
+use Rattle.wasi_bodies.specs.declared.settings.Settings.{Settings}
 use Rattle.wasi_calls.specs.declared.host.wasi_host.HostParts.{HostParts}
-use Rattle.wasi_calls.specs.declared.streams.Terminals.{Terminals}
-use Rattle.wasi_calls.specs.host.Worlds.{HostState, StreamBytes, given_of, world_of}
+use Rattle.wasi_bodies.specs.declared.streams.Terminals.{Terminals}
+use Rattle.wasi_bodies.specs.host.Worlds.{HostState, StreamBytes, given_of, world_of}
 use Rattle.sandbox_core.specs.declared.report.Report.{Report}
 use Rattle.sandbox_core.specs.Devices.{Devices, Calls, IsHonest}
 use Rattle.sandbox_core.specs.Session.{SessionState, OpensWith, Shares}

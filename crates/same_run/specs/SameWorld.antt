@@ -6,7 +6,7 @@ use Rattle.std.specs.Borrow.{Bor}
 use Rattle.wasi_fd.specs.declared.descriptor.Descriptor.{Descriptor}
 use Rattle.wasi_fd.specs.declared.descriptor.Descriptor.TheVariants.{Stream, Entry}
 use Rattle.wasi_fd.specs.declared.descriptor.Opened.{Opened}
-use Rattle.wasi_calls.specs.World.{World}
+use Rattle.wasi_bodies.specs.World.{World}
 
 -- the same name, wherever it stands
 abbrev pub unplaced_name : Bor (List ℕ) → Bor (List ℕ)

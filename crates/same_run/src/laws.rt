@@ -1,8 +1,8 @@
 //! Laws of runs, over definitions only.
 
-ghost use Rattle.wasi_calls.specs.World.{World};
-ghost use Rattle.wasi_calls.specs.Calls as world;
-ghost use Rattle.wasi_calls.specs.host.Worlds.{hearing};
+ghost use Rattle.wasi_bodies.specs.World.{World};
+ghost use Rattle.wasi_bodies.specs.Calls as world;
+ghost use Rattle.wasi_bodies.specs.host.Worlds.{hearing};
 ghost use Rattle.sandbox_core.specs.Devices.{devices};
 ghost use Rattle.same_run.specs.Failures.{FailuresStay, has_failed};
 ghost use Rattle.same_run.specs.NextStep.{AnswersOnce, OneNextStep};

@@ -22,7 +22,7 @@ use Rattle.wasm_syntax.specs.declared.module.Module.{Module}
 use Rattle.sandbox_report.specs.declared.fault.Fault.{Fault}
 use Rattle.sandbox_args.specs.Request.{Text}
 use Rattle.sandbox_args.specs.declared.request.Run.{Run}
-use Rattle.wasi_calls.specs.host.Worlds.{Hearing}
+use Rattle.wasi_bodies.specs.host.Worlds.{Hearing}
 use Rattle.sandbox_runs.specs.declared.program.Executed.{Executed}
 use Rattle.sandbox_runs.specs.Execution.{Runs, RunsBy}
 use Rattle.sandbox_runs.specs.Invoking.{CallEndsWith}

@@ -13,7 +13,7 @@ use Rattle.sandbox_args.specs.declared.request.Run.{Run}
 use Rattle.sandbox_args.specs.declared.request.Invocation.{Invocation}
 use Rattle.sandbox_args.specs.declared.request.Invocation.TheVariants as asked
 use Rattle.sandbox_args.specs.Request.{Text}
-use Rattle.wasi_calls.specs.host.Worlds.{StreamCalls}
+use Rattle.wasi_bodies.specs.host.Worlds.{StreamCalls}
 use Rattle.sandbox_command.specs.declared.places.Places.{Ghosts}
 use Rattle.sandbox_runs.specs.declared.program.Executed.{Executed}
 use Rattle.sandbox_command.specs.declared.closing.RunLeft.{RunLeft}

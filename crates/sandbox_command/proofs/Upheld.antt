@@ -5,7 +5,7 @@ use Rattle.vol_tree.specs.Stands.{StandsAs}
 use Rattle.wasm_syntax.specs.declared.module.Module.{Module}
 use Rattle.wasm_operands.specs.Snapshots.{StandsFor}
 use Rattle.wasi_calls.specs.declared.host.wasi_host.HostParts.{HostParts}
-use Rattle.wasi_calls.specs.declared.streams.Terminals.{Terminals}
+use Rattle.wasi_bodies.specs.declared.streams.Terminals.{Terminals}
 use Rattle.sandbox_core.specs.Devices.{Devices}
 use Rattle.sandbox_core.specs.Sessions.{SessionState, OpensBy, Shares, History, FollowBy}
 use Rattle.sandbox_core.specs.Safety.{TurnsAreSafe}

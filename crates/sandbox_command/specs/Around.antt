@@ -8,7 +8,7 @@ use Rattle.std.specs.declared.io.Read.{Ghosts as Reader}
 use Rattle.std.specs.declared.io.Write.{Ghosts as Writer}
 use Rattle.vol_sector.specs.declared.device.Device.{Ghosts as Known}
 use Rattle.vol_sector.specs.Past.{LeavesPast}
-use Rattle.wasi_calls.specs.host.Worlds.{Hearing, StreamCalls, hearing}
+use Rattle.wasi_bodies.specs.host.Worlds.{Hearing, StreamCalls, hearing}
 use Rattle.sandbox_device.specs.declared.ram_device.RamDevice.{RamDevice}
 use Rattle.sandbox_command.specs.declared.places.Places.{Ghosts}
 use Rattle.sandbox_telling.specs.declared.streams.Streams.{Streams}

@@ -18,7 +18,7 @@ use Rattle.sandbox_report.specs.declared.fault.Fault.{Fault}
 use Rattle.sandbox_report.specs.declared.summary.Summary.{Summary}
 use Rattle.sandbox_report.specs.Reporting.{report_text}
 use Rattle.sandbox_device.specs.declared.ram_device.RamDevice.{RamDevice}
-use Rattle.wasi_calls.specs.host.Worlds.{StreamCalls}
+use Rattle.wasi_bodies.specs.host.Worlds.{StreamCalls}
 use Rattle.sandbox_args.specs.declared.request.Run.{Run}
 use Rattle.sandbox_args.specs.Request.{Text}
 use Rattle.sandbox_runs.specs.declared.program.Executed.{Executed}

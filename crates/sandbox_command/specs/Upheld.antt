@@ -7,7 +7,7 @@ use Rattle.vol_tree.specs.Stands.{StandsAs}
 use Rattle.wasm_syntax.specs.declared.module.Module.{Module}
 use Rattle.wasm_operands.specs.Snapshots.{StandsFor}
 use Rattle.wasi_calls.specs.declared.host.wasi_host.HostParts.{HostParts}
-use Rattle.wasi_calls.specs.host.Worlds.{Hearing}
+use Rattle.wasi_bodies.specs.host.Worlds.{Hearing}
 use Rattle.sandbox_core.specs.Headline.{Upholds}
 use Rattle.sandbox_args.specs.declared.request.Run.{Run}
 use Rattle.sandbox_runs.specs.declared.program.Executed.{Executed}

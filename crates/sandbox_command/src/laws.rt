@@ -1,6 +1,6 @@
 //! Laws of runs of the program, over definitions only.
 
-ghost use Rattle.wasi_calls.specs.host.Worlds.{hearing};
+ghost use Rattle.wasi_bodies.specs.host.Worlds.{hearing};
 ghost use Rattle.sandbox_command.specs.Archive.{BeginsWithItsStream, GivesItsTree};
 ghost use Rattle.sandbox_runs.specs.Invoking.{CallUpholds, CallsAreInstances};
 ghost use Rattle.sandbox_runs.specs.Running.{RunsAreGuests};

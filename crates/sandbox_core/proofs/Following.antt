@@ -5,7 +5,7 @@ use Rattle.std.specs.List.{count_by}
 use Rattle.std.proofs.lemmas.List.Sums.{sum_by-append}
 use Rattle.wasm_steps.specs.declared.pause.Pause.{Pause}
 use Rattle.wasm_steps.specs.declared.pause.Pause.TheVariants.{Called, Spent, Ended}
-use Rattle.wasi_calls.specs.host.Worlds.{HearsStreams}
+use Rattle.wasi_bodies.specs.host.Worlds.{HearsStreams}
 use Rattle.wasi_calls.proofs.bodies.StreamsHeard.{unheard}
 use Rattle.wasi_calls.proofs.runs.StreamsKeep.{streams_then}
 use Rattle.sandbox_core.specs.declared.tally.Tally.{Tally}

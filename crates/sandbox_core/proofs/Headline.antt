@@ -16,13 +16,13 @@ use Rattle.wasi_fd.specs.declared.descriptor.Descriptor.TheVariants.{Entry}
 use Rattle.wasi_fd.specs.declared.descriptor.EntryKind.TheVariants as kinds
 use Rattle.wasi_fd.specs.declared.descriptor.Opened.{Opened as OpenedEntry}
 use Rattle.wasi_fd.specs.Table.{table_of, streams}
-use Rattle.wasi_calls.specs.declared.host.settings.Preopen.{Preopen}
-use Rattle.wasi_calls.specs.declared.host.settings.Settings.{Settings}
+use Rattle.wasi_bodies.specs.declared.settings.Preopen.{Preopen}
+use Rattle.wasi_bodies.specs.declared.settings.Settings.{Settings}
 use Rattle.wasi_calls.specs.declared.host.wasi_host.HostParts.{HostParts}
-use Rattle.wasi_calls.specs.host.Settings.{settings_fit}
-use Rattle.wasi_calls.specs.laws.Moments.{CountsMoments, Kept, Turns, IsSafe, PauseSynced, is_sync}
-use Rattle.wasi_calls.specs.laws.Confined.{HasOnlyDirectoriesOpen}
-use Rattle.wasi_calls.proofs.OpenEntries.{no_entries}
+use Rattle.wasi_bodies.specs.host.Settings.{settings_fit}
+use Rattle.wasi_bodies.specs.laws.Moments.{CountsMoments, Kept, Turns, IsSafe, PauseSynced, is_sync}
+use Rattle.wasi_bodies.specs.laws.Confined.{HasOnlyDirectoriesOpen}
+use Rattle.wasi_bodies.proofs.OpenEntries.{no_entries}
 use Rattle.wasi_calls.proofs.runs.HostLaws.{are_rows}
 use Rattle.wasi_calls.proofs.runs.Moments.{keeps_all}
 use Rattle.wasi_calls.proofs.runs.Confinement.{confines_host}
@@ -36,14 +36,14 @@ use Rattle.wasm_steps.specs.declared.pause.Pause.{Pause}
 use Rattle.wasm_steps.specs.declared.pause.Pause.TheVariants.{Called, Spent, Ended}
 use Rattle.wasm_steps.specs.Configuration.{Instance, Configuration, first_configuration}
 use Rattle.wasm_steps.specs.Steps.{CallsOf, Event, Step, plain_step, free_step, host_answers, host_exits, in_label, in_frame, Reach, stays, goes}
-use Rattle.wasi_calls.specs.World.{World}
-use Rattle.wasi_calls.specs.Calls as world
-use Rattle.wasi_calls.specs.host.Worlds.{HostState, StreamBytes, LeavesNone, StreamsMove, MayFollow, before_moving, after_moving, Shows, world_of}
-use Rattle.wasi_calls.proofs.bodies.PlainCalls.{nothing}
+use Rattle.wasi_bodies.specs.World.{World}
+use Rattle.wasi_bodies.specs.Calls as world
+use Rattle.wasi_bodies.specs.host.Worlds.{HostState, StreamBytes, LeavesNone, StreamsMove, MayFollow, before_moving, after_moving, Shows, world_of}
+use Rattle.wasi_bodies.proofs.bodies.Resting.{nothing}
 use Rattle.std.specs.Io.KnownBytes.{Consumes}
 use Rattle.std.proofs.KnownBytes.{Consumes-nil, Consumes-trans, Appends-nil, Appends-trans}
 use Rattle.sandbox_core.specs.Devices.{Devices, Calls as CallsOn}
-use Rattle.wasi_calls.specs.declared.streams.Terminals.{Terminals}
+use Rattle.wasi_bodies.specs.declared.streams.Terminals.{Terminals}
 use Rattle.wasm_operands.specs.Snapshots.{StandsFor}
 use Rattle.sandbox_core.specs.Sessions.{SessionState, OpensBy, Shares, History, FollowBy, is_synced, pauses_of, seeded_by}
 use Rattle.sandbox_core.proofs.Following.{heard_follow}

@@ -10,7 +10,7 @@ use Rattle.wasm_steps.specs.Configuration.{Instance, Configuration}
 use Rattle.wasm_interp.specs.Machine.{Snapshot, Represents}
 use Rattle.wasm_interp.specs.Promise.{Paused, Resumed}
 use Rattle.wasm_steps.specs.Steps.{CallsOf, silent, answers, Reach, stays, goes}
-use Rattle.wasi_calls.specs.host.Worlds.{HearsStreams, HostState}
+use Rattle.wasi_bodies.specs.host.Worlds.{HearsStreams, HostState}
 use Rattle.wasi_calls.proofs.bodies.StreamsHeard.{unheard}
 use Rattle.wasi_calls.proofs.runs.Moments.{step_changes}
 use Rattle.wasi_calls.proofs.runs.StreamsKeep.{streams_then}

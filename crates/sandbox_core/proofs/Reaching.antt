@@ -16,7 +16,7 @@ use Rattle.wasm_interp.specs.Machine.{Snapshot, Represents, StandsFor, outcome_o
 use Rattle.wasm_steps.specs.declared.pause.Outcome.{Outcome}
 use Rattle.wasm_steps.specs.declared.pause.Outcome.TheVariants.{Exited, Trapped, OutOfFuel, OutOfMemory}
 use Rattle.wasm_interp.specs.Promise.{EndsAs, Paused, Resumed, HasItsUnit}
-use Rattle.wasi_calls.specs.laws.Moments.{IsTurn}
+use Rattle.wasi_bodies.specs.laws.Moments.{IsTurn}
 use Rattle.sandbox_core.specs.Runs.{answered, PausesFollow, ResumesFollowBy, StopsAt, LastStopsAt, StopsAs, RunsWithin, ComesBy, LeftInRun}
 
 module _ (H : Type 0) (Calls : CallsOf H) (i : Instance) where

@@ -9,11 +9,11 @@ use Rattle.wasm_store.specs.declared.fault.InstanceFault.TheVariants as instance
 use Rattle.wasm_store.specs.NotStarting.{RefusedFor}
 use Rattle.wasi_calls.specs.declared.host.fault.HostFault.{HostFault}
 use Rattle.wasi_calls.specs.declared.host.fault.HostFault.TheVariants as host
-use Rattle.wasi_calls.specs.declared.host.settings.Settings.{Settings}
+use Rattle.wasi_bodies.specs.declared.settings.Settings.{Settings}
 use Rattle.wasi_calls.specs.declared.host.wasi_host.HostParts.{HostParts}
-use Rattle.wasi_calls.specs.host.Worlds.{HostState}
+use Rattle.wasi_bodies.specs.host.Worlds.{HostState}
 use Rattle.wasi_calls.specs.host.Making.{IsNewHost, IsRefusedPreopen, KeepsStreams, is_device, parts_of, preopens_of}
-use Rattle.wasi_calls.specs.host.Settings.{settings_fit}
+use Rattle.wasi_bodies.specs.host.Settings.{settings_fit}
 use Rattle.wasi_calls.specs.host.Links.{link}
 use Rattle.sandbox_core.specs.declared.fault.SessionFault.{SessionFault}
 use Rattle.sandbox_core.specs.Session.{AskedOn, HandsBack, IsInstantiable, IsRefused, KeepsVolume}

@@ -7,7 +7,7 @@ use Rattle.vol_tree.specs.Stands.{StandsAs}
 use Rattle.vol_tree.specs.declared.superblock.Superblock.{Superblock}
 use Rattle.vol_tree.specs.Opened.{Opened, ReflectsOr}
 use Rattle.vol_tree.proofs.OneTree.{one_tree}
-use Rattle.wasi_calls.specs.laws.Moments.{CountsMoments, IsTurn, Kept, Turn, IsSafe}
+use Rattle.wasi_bodies.specs.laws.Moments.{CountsMoments, IsTurn, Kept, Turn, IsSafe}
 use Rattle.wasi_calls.proofs.runs.Moments.{keeps_all}
 use Rattle.sandbox_core.specs.Devices.{Devices}
 use Rattle.sandbox_core.specs.Session.{is_synced}

@@ -10,7 +10,7 @@ use Rattle.vol_tree.specs.Opened.{GoesOn}
 use Rattle.vol_tree.proofs.GoingOn.{goes_same, goes_then}
 use Rattle.wasm_interp.specs.Machine.{Represents, outcome_of}
 use Rattle.wasm_interp.specs.Promise.{EndsAs, HasItsUnit, UnitsRise}
-use Rattle.wasi_calls.specs.host.Worlds.{HostState, stream_failed}
+use Rattle.wasi_bodies.specs.host.Worlds.{HostState, stream_failed}
 use Rattle.sandbox_core.specs.declared.session.Finished.{Finished}
 use Rattle.sandbox_core.specs.declared.tally.Tally.{Tally}
 use Rattle.sandbox_core.specs.Devices.{Devices, Calls, IsHonest, disk_of, numbers_of, tree_of}

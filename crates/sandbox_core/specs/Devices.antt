@@ -9,7 +9,7 @@ use Rattle.vol_sector.specs.declared.device.Device.{Ghosts}
 use Rattle.vol_tree.specs.Tree.{Tree}
 use Rattle.vol_tree.specs.declared.superblock.Superblock.{Superblock}
 use Rattle.wasm_steps.specs.Steps.{CallsOf}
-use Rattle.wasi_calls.specs.host.Worlds.{Hearing, HostState, HostCalls, hearing}
+use Rattle.wasi_bodies.specs.host.Worlds.{Hearing, HostState, HostCalls, hearing}
 
 pub record Devices (D R W1 W2 : Type 0) : Type 1 where
   pub device : Ghosts D

@@ -11,14 +11,14 @@ use Rattle.wasm_steps.specs.Configuration as configuration
 use Rattle.wasm_operands.specs.Snapshots.{StandsFor}
 use Rattle.wasm_steps.specs.Steps.{Reach}
 use Rattle.wasi_calls.specs.declared.host.wasi_host.HostParts.{HostParts}
-use Rattle.wasi_calls.specs.declared.streams.Terminals.{Terminals}
+use Rattle.wasi_bodies.specs.declared.streams.Terminals.{Terminals}
 use Rattle.wasi_calls.specs.host.Links.{link}
-use Rattle.wasi_calls.specs.World.{World}
-use Rattle.wasi_calls.specs.Calls as world
-use Rattle.wasi_calls.specs.host.Worlds.{HostState, StreamBytes, StreamsMove, MayFollow, before_moving, after_moving}
-use Rattle.wasi_calls.specs.host.Worlds.{HearsStreams, Shows, world_of}
-use Rattle.wasi_calls.specs.laws.Moments.{Turn, AllKept}
-use Rattle.wasi_calls.specs.laws.Confined.{IsConfined, named_by}
+use Rattle.wasi_bodies.specs.World.{World}
+use Rattle.wasi_bodies.specs.Calls as world
+use Rattle.wasi_bodies.specs.host.Worlds.{HostState, StreamBytes, StreamsMove, MayFollow, before_moving, after_moving}
+use Rattle.wasi_bodies.specs.host.Worlds.{HearsStreams, Shows, world_of}
+use Rattle.wasi_bodies.specs.laws.Moments.{Turn, AllKept}
+use Rattle.wasi_bodies.specs.laws.Confined.{IsConfined, named_by}
 use Rattle.sandbox_core.specs.Devices.{Devices, Calls, disk_of, numbers_of, tree_of}
 use Rattle.sandbox_core.specs.Sessions.{SessionState, OpensBy, Shares, FollowBy, used_by, seeded_by}
 use Rattle.sandbox_core.specs.Sessions.{History, pauses_of, is_synced}

@@ -8,7 +8,7 @@ use Rattle.wasm_steps.specs.Configuration.{Instance, Configuration}
 use Rattle.wasm_interp.specs.Machine.{Represents, outcome_of}
 use Rattle.wasm_interp.specs.Promise.{HasItsUnit}
 use Rattle.wasm_steps.specs.declared.pause.Pause.TheVariants.{Ended}
-use Rattle.wasi_calls.specs.host.Worlds.{HearsStreams, stream_failed}
+use Rattle.wasi_bodies.specs.host.Worlds.{HearsStreams, stream_failed}
 use Rattle.sandbox_core.specs.declared.report.Report.{Report}
 use Rattle.sandbox_core.specs.Devices.{Devices, Calls, IsHonest, disk_of, numbers_of, tree_of}
 use Rattle.sandbox_core.specs.Session.{SessionState, Commits, History, Follow, used_by}

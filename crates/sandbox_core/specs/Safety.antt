@@ -9,7 +9,7 @@ use Rattle.vol_tree.specs.Opened.{Opened}
 use Rattle.vol_tree.specs.Stands.{StandsAs}
 use Rattle.wasm_steps.specs.declared.pause.Pause.{Pause}
 use Rattle.wasi_calls.specs.declared.host.wasi_host.HostParts.{HostParts}
-use Rattle.wasi_calls.specs.laws.Moments.{Kept}
+use Rattle.wasi_bodies.specs.laws.Moments.{Kept}
 use Rattle.sandbox_core.specs.declared.session.Finished.{Finished}
 use Rattle.sandbox_core.specs.Devices.{Devices, IsHonest}
 pub use Rattle.sandbox_core.specs.SafeVolumes.{IsSafeVolume}

@@ -10,10 +10,10 @@ use Rattle.wasm_steps.specs.declared.pause.Pause.{Pause}
 use Rattle.wasm_steps.specs.declared.pause.Pause.TheVariants.{Called}
 use Rattle.wasm_interp.specs.Machine.{Snapshot, Represents, limited}
 use Rattle.wasm_interp.specs.Promise.{Starts}
-use Rattle.wasi_calls.specs.declared.host.settings.Settings.{Settings}
-use Rattle.wasi_calls.specs.declared.streams.Terminals.{Terminals}
+use Rattle.wasi_bodies.specs.declared.settings.Settings.{Settings}
+use Rattle.wasi_bodies.specs.declared.streams.Terminals.{Terminals}
 use Rattle.wasi_calls.specs.declared.host.wasi_host.HostParts.{HostParts}
-use Rattle.wasi_calls.specs.host.Settings.{settings_fit}
+use Rattle.wasi_bodies.specs.host.Settings.{settings_fit}
 use Rattle.wasi_calls.specs.host.Links.{link}
 use Rattle.wasi_calls.specs.host.Making.{preopens_of}
 use Rattle.sandbox_core.specs.Devices.{Devices}

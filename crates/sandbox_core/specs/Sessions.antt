@@ -12,15 +12,15 @@ use Rattle.wasm_steps.specs.declared.pause.Pause.TheVariants.{Called}
 use Rattle.wasm_operands.specs.Snapshots.{Snapshot, StandsFor}
 use Rattle.wasm_interp.specs.Promises.{StartsBy, ResumedBy}
 use Rattle.wasi_fd.specs.Table.{table_of}
-use Rattle.wasi_calls.specs.declared.streams.Terminals.{Terminals}
+use Rattle.wasi_bodies.specs.declared.streams.Terminals.{Terminals}
 use Rattle.wasi_calls.specs.declared.host.wasi_host.HostParts.{HostParts}
-use Rattle.wasi_calls.specs.host.Settings.{settings_fit}
+use Rattle.wasi_bodies.specs.host.Settings.{settings_fit}
 use Rattle.wasi_calls.specs.host.Links.{link}
-use Rattle.wasi_calls.specs.supplies.Random.{seeded}
-use Rattle.wasi_calls.specs.host.Worlds.{HearsStreams, HostState}
+use Rattle.wasi_bodies.specs.supplies.Random.{seeded}
+use Rattle.wasi_bodies.specs.host.Worlds.{HearsStreams, HostState}
 use Rattle.path_walk.specs.Walk.{Asked}
 use Rattle.wasi_calls.specs.host.Making.{HasPreopens}
-use Rattle.wasi_calls.specs.laws.Moments.{IsTurn, PauseSynced, is_sync}
+use Rattle.wasi_bodies.specs.laws.Moments.{IsTurn, PauseSynced, is_sync}
 use Rattle.sandbox_core.specs.Devices.{Devices, Calls, IsHonest, disk_of, numbers_of, tree_of}
 
 -- what callers see of a session

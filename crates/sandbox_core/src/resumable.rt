@@ -3,7 +3,7 @@
 ghost use Rattle.std.specs.Prelude.{◌≡◌, ◌+◌, ◌^◌, ◌<◌, ◌/◌, length, slice_get};
 ghost use Rattle.wasm_syntax.specs.declared.module.Module.{Module as ModuleValue};
 ghost use Rattle.wasm_interp.specs.Frames.{frames_of};
-ghost use Rattle.wasi_calls.specs.host.Worlds.{stream_failed};
+ghost use Rattle.wasi_bodies.specs.host.Worlds.{stream_failed};
 ghost use Rattle.sandbox_core.specs.Devices.{devices};
 ghost use Rattle.sandbox_core.specs.Session.{SessionState, Resumes, Finishes, limited_to, seeded_by, interactive_with, used_by};
 

@@ -99,7 +99,7 @@ where
     W1: Outlet + Drop,
     W2: Outlet + Drop,
 {
-    ghost use Rattle.wasi_calls.specs.host.Worlds.{stream_failed};
+    ghost use Rattle.wasi_bodies.specs.host.Worlds.{stream_failed};
     ghost use Rattle.sandbox_core.specs.Session.{used_by, limited_to, seeded_by, interactive_with, Opens, Shares, HandsBack, IsRefused, Resumes};
 
     /// A session of the module, which has used nothing yet. The streams are the descriptors 0 to 2, and the preopened

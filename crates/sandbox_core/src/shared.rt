@@ -139,7 +139,7 @@ where
     W1: Outlet + Drop,
     W2: Outlet + Drop,
 {
-    ghost use Rattle.wasi_calls.specs.host.Worlds.{stream_failed};
+    ghost use Rattle.wasi_bodies.specs.host.Worlds.{stream_failed};
     ghost use Rattle.sandbox_core.specs.Session.{used_by, limited_to, seeded_by, interactive_with, Opens, Shares, HandsBack, IsRefused, Resumes, Finishes};
 
     /// A session of a prepared module, as `Session::new` makes one. The settings have the pages that it was prepared for.

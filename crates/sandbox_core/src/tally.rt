@@ -2,7 +2,7 @@
 
 ghost use Rattle.std.specs.Prelude.{◌≡◌, ◌<◌, ◌==◌, ℕ, if◌then◌else◌, length, slice_index};
 ghost use Rattle.wasm_steps.specs.declared.pause.Pause.TheVariants.{Called};
-ghost use Rattle.wasi_calls.specs.laws.Moments.{is_sync};
+ghost use Rattle.wasi_bodies.specs.laws.Moments.{is_sync};
 ghost use Rattle.sandbox_core.specs.Tally.{no_tally};
 ghost use Rattle.sandbox_core.specs.internal.Tallying.{TalliesPause, counted};
 

@@ -16,8 +16,8 @@ use Rattle.wasm_steps.specs.declared.pause.Outcome.{Outcome}
 use Rattle.wasm_steps.specs.declared.pause.Outcome.TheVariants.{Exited, Trapped, OutOfFuel, OutOfMemory}
 use Rattle.wasm_steps.specs.declared.pause.Pause.{Pause}
 use Rattle.wasm_steps.specs.declared.pause.Pause.TheVariants.{Called, Spent, Ended}
-use Rattle.wasi_calls.specs.host.Worlds.{HostState}
-use Rattle.wasi_calls.specs.laws.Moments.{is_sync, PauseSynced}
+use Rattle.wasi_bodies.specs.host.Worlds.{HostState}
+use Rattle.wasi_bodies.specs.laws.Moments.{is_sync, PauseSynced}
 use Rattle.sandbox_core.specs.Session.{used_by}
 use Rattle.sandbox_device.specs.declared.recorded_device.RecordedDevice.{RecordedDevice}
 use Rattle.sandbox_device.specs.Followed.{IsFollowed, initial_image, done_on}

@@ -4,7 +4,7 @@ use Rattle.std.specs.Prelude.{◌==◌, ℕ, Bool, if◌then◌else◌}
 use Rattle.std.specs.List.{list_all}
 use Rattle.wasm_syntax.specs.declared.profile.Profile.{Profile}
 use Rattle.wasm_syntax.specs.declared.profile.Profile.TheVariants.{Integers, Floats}
-use Rattle.wasi_calls.specs.declared.host.settings.Settings.{Settings}
+use Rattle.wasi_bodies.specs.declared.settings.Settings.{Settings}
 use Rattle.sandbox_host.specs.declared.supplies.SessionLimits.{SessionLimits}
 use Rattle.sandbox_host.specs.declared.supplies.Supplies.{Supplies}
 

@@ -22,7 +22,7 @@ use Rattle.sandbox_core.specs.Session.{IsHandedBack, KeepsVolume}
 use Rattle.sandbox_core.proofs.Reaching.{Left}
 use Rattle.sandbox_args.specs.Request.{Text}
 use Rattle.vol_commands.specs.Volumes.{IsOpenFor, LeftByOpening}
-use Rattle.wasi_calls.specs.host.Worlds.{Hearing}
+use Rattle.wasi_bodies.specs.host.Worlds.{Hearing}
 use Rattle.sandbox_runs.specs.declared.program.Executed.{Executed}
 use Rattle.sandbox_args.specs.declared.request.Run.{Run}
 use Rattle.sandbox_runs.specs.Running.{Launches, LeftByRun, returned_device, known_of}

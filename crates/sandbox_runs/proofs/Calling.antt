@@ -18,8 +18,8 @@ use Rattle.wasm_interp.specs.declared.frames.Frame.{Frame}
 use Rattle.wasm_operands.specs.Snapshots.{StandsFor}
 use Rattle.wasm_interp.specs.Invocations.{TellsStores}
 use Rattle.wasi_calls.specs.declared.host.wasi_host.HostParts.{HostParts}
-use Rattle.wasi_calls.specs.declared.streams.Terminals.{Terminals}
-use Rattle.wasi_calls.specs.host.Worlds.{Hearing}
+use Rattle.wasi_bodies.specs.declared.streams.Terminals.{Terminals}
+use Rattle.wasi_bodies.specs.host.Worlds.{Hearing}
 use Rattle.sandbox_core.specs.declared.fault.SessionFault.{SessionFault}
 use Rattle.sandbox_core.specs.declared.fault.SessionFault.TheVariants.{Memory}
 use Rattle.sandbox_core.specs.declared.session.RefusedSession.{RefusedSession}

@@ -21,7 +21,7 @@ use Rattle.sandbox_report.specs.declared.fault.Fault.TheVariants as reason
 use Rattle.vol_commands.specs.Volumes.{IsOpenFor, IsRefusedFor}
 use Rattle.sandbox_args.specs.declared.request.Run.{Run}
 use Rattle.sandbox_args.specs.Request.{Text}
-use Rattle.wasi_calls.specs.host.Worlds.{Hearing}
+use Rattle.wasi_bodies.specs.host.Worlds.{Hearing}
 use Rattle.sandbox_runs.specs.declared.program.Executed.{Executed}
 use Rattle.sandbox_runs.proofs.Charged.{use_of}
 use Rattle.sandbox_telling.specs.Profiling.{IsUseWith, slice_of}

@@ -3,7 +3,7 @@ use Rattle.std.proofs.Common.{◌≡◌, ℕ, Option, None, Some, refl, ap, sym,
 use Rattle.vol_sector.specs.declared.device.Device.{Ghosts}
 use Rattle.wasm_syntax.specs.declared.module.Module.{Module}
 use Rattle.wasi_calls.specs.declared.host.wasi_host.HostParts.{HostParts}
-use Rattle.wasi_calls.specs.declared.streams.Terminals.{Terminals}
+use Rattle.wasi_bodies.specs.declared.streams.Terminals.{Terminals}
 use Rattle.sandbox_core.specs.Session.{Opens, OpensWith, SessionState, Shares, seeded_by, interactive_with}
 use Rattle.sandbox_args.specs.declared.request.Run.{Run}
 use Rattle.sandbox_telling.specs.Supplies.{terminals_of}

@@ -13,10 +13,10 @@ use Rattle.wasm_syntax.specs.declared.module.Module.{Module}
 use Rattle.wasm_syntax.specs.Module.{SpellsWith}
 use Rattle.wasm_valid.specs.Validity.{IsValid}
 use Rattle.wasm_valid.specs.Refusal.{IsRefusal}
-use Rattle.wasi_calls.specs.declared.host.settings.Preopen.{Preopen}
-use Rattle.wasi_calls.specs.declared.host.settings.Settings.{Settings}
+use Rattle.wasi_bodies.specs.declared.settings.Preopen.{Preopen}
+use Rattle.wasi_bodies.specs.declared.settings.Settings.{Settings}
 use Rattle.stream_answers.specs.Hearing.{Hears, Moves, Refuses}
-use Rattle.wasi_calls.specs.host.Worlds.{Hearing, StreamCalls}
+use Rattle.wasi_bodies.specs.host.Worlds.{Hearing, StreamCalls}
 use Rattle.sandbox_core.specs.declared.fault.SessionFault.{SessionFault}
 use Rattle.sandbox_core.specs.Session.{given}
 use Rattle.sandbox_args.specs.declared.request.Run.{Run}

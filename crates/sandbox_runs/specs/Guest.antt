@@ -11,7 +11,7 @@ use Rattle.wasm_steps.specs.declared.pause.Outcome.{Outcome}
 use Rattle.wasm_steps.specs.Configuration.{first_configuration}
 use Rattle.wasm_operands.specs.Snapshots.{StandsFor}
 use Rattle.wasi_calls.specs.declared.host.wasi_host.HostParts.{HostParts}
-use Rattle.wasi_calls.specs.host.Worlds.{Hearing}
+use Rattle.wasi_bodies.specs.host.Worlds.{Hearing}
 use Rattle.sandbox_core.specs.Devices.{Devices, Calls, numbers_of, tree_of}
 use Rattle.sandbox_core.specs.Sessions.{SessionState, OpensBy, Shares, History, FollowBy, used_by}
 use Rattle.sandbox_core.specs.Within.{RunsWithin, StandsInRun}

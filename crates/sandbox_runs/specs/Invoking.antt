@@ -22,7 +22,7 @@ use Rattle.wasm_interp.specs.Invocations.{TellsStores}
 use Rattle.wasm_interp.specs.Machine.{Represents}
 use Rattle.wasm_operands.specs.Snapshots.{StandsFor}
 use Rattle.wasi_calls.specs.declared.host.wasi_host.HostParts.{HostParts}
-use Rattle.wasi_calls.specs.host.Worlds.{Hearing}
+use Rattle.wasi_bodies.specs.host.Worlds.{Hearing}
 use Rattle.sandbox_core.specs.declared.fault.SessionFault.{SessionFault}
 use Rattle.sandbox_core.specs.declared.fault.SessionFault.TheVariants.{Setting, Memory, Instance as NoInstance}
 use Rattle.sandbox_core.specs.Devices.{Devices}

@@ -3,7 +3,7 @@
 ghost use Rattle.std.specs.Prelude.{◌≡◌, MatchResult, None, Some};
 ghost use Rattle.sandbox_args.specs.Request.{texts};
 ghost use Rattle.wasi_calls.specs.declared.host.wasi_host.HostParts.{HostParts as PartsValue};
-ghost use Rattle.wasi_calls.specs.host.Worlds.{hearing};
+ghost use Rattle.wasi_bodies.specs.host.Worlds.{hearing};
 ghost use Rattle.sandbox_telling.specs.declared.stopping.Stopped.{Stopped};
 ghost use Rattle.sandbox_runs.specs.Execution.{InvokesOn};
 ghost use Rattle.sandbox_runs.specs.Flushing.{BothAnswered, RunAnswered};

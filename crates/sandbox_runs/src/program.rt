@@ -6,7 +6,7 @@ ghost use Rattle.std.specs.IoError.{error_kind};
 ghost use Rattle.clap.specs.Values.{kind_of};
 ghost use Rattle.sandbox_core.specs.Session.{given};
 ghost use Rattle.sandbox_report.specs.declared.fault.Fault.TheVariants as reason;
-ghost use Rattle.wasi_calls.specs.host.Worlds.{hearing};
+ghost use Rattle.wasi_bodies.specs.host.Worlds.{hearing};
 ghost use Rattle.sandbox_runs.specs.StreamCalling.{calls_of};
 ghost use Rattle.sandbox_runs.specs.Flushing.{Answered, BothAnswered, RunAnswered};
 ghost use Rattle.sandbox_runs.specs.Status.{status_of, EndsWith, load_status, session_status};

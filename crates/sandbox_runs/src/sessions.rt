@@ -3,7 +3,7 @@
 ghost use Rattle.std.specs.Prelude.{◌≡◌, None, IfSome, Some, length};
 ghost use Rattle.sandbox_core.specs.Devices.{devices};
 ghost use Rattle.sandbox_core.specs.Session.{limited_to, used_by};
-ghost use Rattle.wasi_calls.specs.host.Worlds.{hearing};
+ghost use Rattle.wasi_bodies.specs.host.Worlds.{hearing};
 ghost use Rattle.sandbox_runs.specs.Flushing.{BothAnswered, RunAnswered};
 ghost use Rattle.sandbox_telling.specs.Profiling.{IsThere, IsUseWith, ReportsCharged, TellsUse, no_stacks, slice_of};
 ghost use Rattle.sandbox_telling.specs.Reporting.{counting, output_of};

@@ -7,7 +7,7 @@ use Rattle.vol_sector.specs.declared.fault.Refused.{Refused}
 use Rattle.vol_tree.specs.Opened.{Opened}
 use Rattle.wasm_steps.specs.Steps.{CallsOf}
 use Rattle.wasi_calls.specs.declared.host.wasi_host.HostParts.{HostParts}
-use Rattle.wasi_calls.specs.host.Worlds.{HostState, Hearing, hearing}
+use Rattle.wasi_bodies.specs.host.Worlds.{HostState, Hearing, hearing}
 use Rattle.sandbox_core.specs.Devices.{Devices, Calls}
 use Rattle.sandbox_args.specs.declared.request.Run.{Run}
 use Rattle.sandbox_report.specs.declared.counted.Counted.{Counted}

@@ -1,7 +1,7 @@
 -- What an execution reads and writes: the streams that the program was given, or files where a run names them. A stream
 -- that it was given and that isn't the guest's is spared; the program's own lines go there on the side of errors.
 use Rattle.std.specs.Prelude.{ℕ, List, Option, Some, None}
-use Rattle.wasi_calls.specs.host.Worlds.{Hearing, StreamCalls}
+use Rattle.wasi_bodies.specs.host.Worlds.{Hearing, StreamCalls}
 use Rattle.sandbox_telling.specs.declared.streams.InputSource.{InputSource}
 use Rattle.sandbox_telling.specs.declared.streams.InputSource.TheVariants as source
 use Rattle.sandbox_telling.specs.declared.streams.Sink.{Sink}

@@ -2,9 +2,9 @@
 -- is cut at its first `=`; `AreSettings` ties a run's settings to its words, and `IsUncut` says why there are none.
 use Rattle.std.specs.Prelude.{◌≡◌, ◌⊎◌, ◌==◌, ℕ, Bool, List, [], ◌∷◌, length, map, Option, Some, None, if◌then◌else◌, nat_lt, codes}
 use Rattle.std.specs.List.{Contains, position_or_len, before_first, after_first}
-use Rattle.wasi_calls.specs.declared.host.settings.Preopen.{Preopen}
-use Rattle.wasi_calls.specs.declared.host.settings.Settings.{Settings}
-use Rattle.wasi_calls.specs.declared.streams.Terminals.{Terminals}
+use Rattle.wasi_bodies.specs.declared.settings.Preopen.{Preopen}
+use Rattle.wasi_bodies.specs.declared.settings.Settings.{Settings}
+use Rattle.wasi_bodies.specs.declared.streams.Terminals.{Terminals}
 use Rattle.sandbox_core.specs.declared.fault.SessionFault.{SessionFault}
 use Rattle.sandbox_core.specs.declared.fault.SessionFault.TheVariants.{Setting, Memory}
 use Rattle.sandbox_args.specs.declared.request.Run.{Run}

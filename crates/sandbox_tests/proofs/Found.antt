@@ -7,7 +7,7 @@ use Rattle.vol_tree.specs.declared.superblock.Superblock.{Superblock}
 use Rattle.wasm_steps.specs.declared.pause.Pause.{Pause}
 use Rattle.wasm_steps.specs.declared.pause.Pause.TheVariants.{Called, Spent, Ended}
 use Rattle.wasm_interp.specs.Promise.{UnitsRise}
-use Rattle.wasi_calls.specs.laws.Moments.{Kept}
+use Rattle.wasi_bodies.specs.laws.Moments.{Kept}
 use Rattle.sandbox_tests.specs.Worked.{FindsOneOf}
 
 finds_at : (size : ℕ) (v : Superblock) (image : Image) → v.sectors ≤ size → (trees : List Tree) (count : ℕ) → count < length trees → StandsAs image v (get_or trees count []) → FindsOneOf size v image trees

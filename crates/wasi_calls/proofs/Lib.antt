@@ -1,4 +1,4 @@
 pub mod Examples
-pub mod OpenEntries
 pub mod bodies
 pub mod runs
+pub mod calls

@@ -2,25 +2,16 @@
 //! may leave of its volume.
 #![tactic(auto)]
 
-mod arguments;
-mod checks;
-mod descriptors;
-mod errno;
-mod files;
 mod host;
 mod laws;
-mod numbers;
-mod paths;
-mod streams;
-mod supplies;
 
 pub use host::VolumeHost;
 pub use host::fault::HostFault;
 pub use host::linking::call_of;
-pub use host::settings::{Preopen, Settings};
+pub use wasi_bodies::settings::{Preopen, Settings};
 pub use host::wasi_host::{HostParts, RefusedHost, WasiHost};
 pub use laws::{
     confined, confined_host, host_calls_are_rows, host_calls_keep_moments, kept, pauses,
     streams_are_heard,
 };
-pub use streams::{Input, Output, Terminals};
+pub use wasi_bodies::streams::{Input, Output, Terminals};

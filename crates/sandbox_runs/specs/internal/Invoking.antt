@@ -4,9 +4,9 @@ use Rattle.std.specs.Prelude.{ℕ, List, Option, option_map}
 use Rattle.vol_sector.specs.Disk.{Disk}
 use Rattle.wasm_syntax.specs.declared.instruction.ValueType.{ValueType}
 use Rattle.wasm_interp.specs.declared.frames.Frame.{Frame}
-use Rattle.wasi_calls.specs.declared.streams.Terminals.{Terminals}
-use Rattle.wasi_calls.specs.host.Worlds.{Hearing}
-use Rattle.wasi_calls.specs.supplies.Random.{seeded}
+use Rattle.wasi_bodies.specs.declared.streams.Terminals.{Terminals}
+use Rattle.wasi_bodies.specs.host.Worlds.{Hearing}
+use Rattle.wasi_bodies.specs.supplies.Random.{seeded}
 use Rattle.plugin_session.specs.Instance.{InstanceState, limited_to}
 use Rattle.invoked_run.specs.declared.calling.CalledOnce.{CalledOnce}
 use Rattle.invoked_run.specs.Calling.{CallsOnceAndEnds}

@@ -2,8 +2,8 @@
 -- without terminals `with_terminals` leaves none; the private functions `seed`, `interact` and `run_within` require that there were
 -- none, so one contract of each covers both cases.
 use Rattle.std.specs.Prelude.{ℕ, Option, option_map}
-use Rattle.wasi_calls.specs.declared.streams.Terminals.{Terminals}
-use Rattle.wasi_calls.specs.supplies.Random.{seeded}
+use Rattle.wasi_bodies.specs.declared.streams.Terminals.{Terminals}
+use Rattle.wasi_bodies.specs.supplies.Random.{seeded}
 use Rattle.sandbox_core.specs.Session.{SessionState}
 use Rattle.sandbox_args.specs.declared.request.Run.{Run}
 use Rattle.sandbox_telling.specs.Supplies.{terminals_of}

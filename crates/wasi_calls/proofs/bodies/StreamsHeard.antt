@@ -1,9 +1,9 @@
 -- What is heard of streams that a call leaves as they are.
 use Rattle.std.proofs.Common.{◌≡◌, Bool, false, refl, sym, subst}
 use Rattle.stream_answers.specs.Hearing.{Hears, Moves, Refuses, stays}
-use Rattle.wasi_calls.specs.declared.streams.Input.{Input}
-use Rattle.wasi_calls.specs.declared.streams.Output.{Output}
-use Rattle.wasi_calls.specs.host.Worlds.{Hearing, HearsInput, HearsOutput, HearsStreams, HostState, StreamCalls}
+use Rattle.wasi_bodies.specs.declared.streams.Input.{Input}
+use Rattle.wasi_bodies.specs.declared.streams.Output.{Output}
+use Rattle.wasi_bodies.specs.host.Worlds.{Hearing, HearsInput, HearsOutput, HearsStreams, HostState, StreamCalls}
 
 pub input_unheard : {R : Type 0} (calls : StreamCalls R) (i : Input R) → HearsInput calls i i
 input_unheard calls i = (λ failed. refl, λ works. subst (λ (b : Bool). Hears (Moves calls.moved) calls.refused b i.reader i.reader) (sym works) stays)

@@ -9,12 +9,14 @@ use Rattle.wasm_store.specs.declared.call.Answer.{Answer}
 use Rattle.wasm_store.specs.declared.call.Answer.TheVariants.{Value as value, Exit as exit}
 use Rattle.wasi_fd.specs.Table.{table_of}
 use Rattle.wasi_calls.specs.declared.host.inner.Inner.{Inner}
-use Rattle.wasi_calls.specs.World.{World}
-use Rattle.wasi_calls.specs.Calls.{row, word, Answered, Calls}
-use Rattle.wasi_calls.specs.host.Worlds.{StreamBytes, before_moving, after_moving, world_of, HostCalls, Hearing}
-use Rattle.wasi_calls.specs.laws.Moments.{IsSynced}
-use Rattle.wasi_calls.specs.internal.Bodies.{state_of, IsSetUp, IsReadyForCalls, KnowsEntries, Serves}
-use Rattle.wasi_calls.proofs.bodies.PlainCalls.{nothing, same_after, streams_rest, volume_rests}
+use Rattle.wasi_bodies.specs.World.{World}
+use Rattle.wasi_bodies.specs.Calls.{row, word, Answered, Calls}
+use Rattle.wasi_bodies.specs.host.Worlds.{StreamBytes, before_moving, after_moving, world_of, HostCalls, Hearing}
+use Rattle.wasi_bodies.specs.laws.Moments.{IsSynced}
+use Rattle.wasi_bodies.specs.internal.Entries.{KnowsEntries}
+use Rattle.wasi_calls.specs.internal.Bodies.{state_of, IsSetUp, IsReadyForCalls, Serves}
+use Rattle.wasi_bodies.proofs.bodies.Resting.{nothing, same_after, volume_rests}
+use Rattle.wasi_calls.proofs.calls.PlainCalls.{streams_rest}
 use Rattle.wasi_calls.proofs.runs.EntriesStay.{still_there, few_open}
 use Rattle.wasi_calls.proofs.bodies.StreamsHeard.{unheard}
 

@@ -24,15 +24,15 @@ use Rattle.wasi_fd.specs.Rights.{directory_rights, all_rights}
 use Rattle.wasi_fd.specs.Table.{Table, streams, with_at}
 use Rattle.wasi_calls.specs.declared.host.fault.HostFault.{HostFault}
 use Rattle.wasi_calls.specs.declared.host.fault.HostFault.TheVariants.{Setting, Preopen, Device, Memory}
-use Rattle.wasi_calls.specs.declared.host.settings.Preopen.{Preopen as PreopenValue}
+use Rattle.wasi_bodies.specs.declared.settings.Preopen.{Preopen as PreopenValue}
 use Rattle.path_walk.specs.Walk.{Asked}
 use Rattle.wasi_calls.specs.host.Making.{HasPreopens, is_device, directory_named, from_root, found_directory, preopens_of, preopened, table_with}
 use Rattle.wasi_calls.specs.internal.host.Preopening.{fault_as, FindsOrFails, FindsAll, AreFound, AreNumbers, AreOpen, FoundSoFar, opened_from}
-use Rattle.wasi_calls.specs.internal.Bodies.{IsThere, KnowsEntries, is_directory_kind}
-use Rattle.wasi_calls.proofs.OpenEntries.{no_entries}
-use Rattle.wasi_calls.proofs.checks.Passing.{same_entry}
+use Rattle.wasi_bodies.specs.internal.Entries.{IsThere, KnowsEntries, is_directory_kind}
+use Rattle.wasi_bodies.proofs.OpenEntries.{no_entries}
+use Rattle.wasi_bodies.proofs.checks.Passing.{same_entry}
 use Rattle.wasi_fd.specs.declared.table.TheConstants.{PLACES}
-use Rattle.wasi_calls.specs.declared.host.settings.TheConstants.{MOST_PREOPENS}
+use Rattle.wasi_bodies.specs.declared.settings.TheConstants.{MOST_PREOPENS}
 
 module _ {D : Type 0} (honest : D → Type 0) (disk : D → Disk) (sectors_on failures : D → ℕ) (goes_on : ℕ → D → D → Type 0) where
   pub reads_then : (a b c : Opened D) (io : Bool) → Asked honest disk sectors_on failures goes_on a b false → Asked honest disk sectors_on failures goes_on b c io → Asked honest disk sectors_on failures goes_on a c io

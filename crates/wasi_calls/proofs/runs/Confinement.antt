@@ -19,13 +19,13 @@ use Rattle.wasi_fd.specs.declared.descriptor.Descriptor.{Descriptor}
 use Rattle.wasi_fd.specs.declared.descriptor.Descriptor.TheVariants.{Stream, Entry}
 use Rattle.wasi_fd.specs.declared.descriptor.Opened.{Opened}
 use Rattle.wasi_fd.specs.Table.{Table}
-use Rattle.wasi_calls.specs.World.{World}
-use Rattle.wasi_calls.specs.Checks.{Checked, Done}
-use Rattle.wasi_calls.specs.Calls.{row, Calls, Answers, Answered, by_row, volume_fails, input_fails, output_fails, errors_fail}
-use Rattle.wasi_calls.specs.laws.Confined.{Tops, IsOutside, IsWithin, StandsWithin, walk_end, IsConfined, named_by, HasOnlyDirectoriesOpen, Confines, IsHostOf, ConfinesHost}
-use Rattle.wasi_calls.proofs.checks.Chains.{Yields, known}
-use Rattle.wasi_calls.proofs.runs.HeldAlongRuns.{is_directory_kind, Holds, below_not_root, outside_above}
-use Rattle.wasi_calls.proofs.runs.ReachedEntries.{IsFound, found_from}
+use Rattle.wasi_bodies.specs.World.{World}
+use Rattle.wasi_bodies.specs.Checks.{Checked, Done}
+use Rattle.wasi_bodies.specs.Calls.{row, Calls, Answers, Answered, by_row, volume_fails, input_fails, output_fails, errors_fail}
+use Rattle.wasi_bodies.specs.laws.Confined.{Tops, IsOutside, IsWithin, StandsWithin, walk_end, IsConfined, named_by, HasOnlyDirectoriesOpen, Confines, IsHostOf, ConfinesHost}
+use Rattle.wasi_bodies.proofs.checks.Chains.{Yields, known}
+use Rattle.wasi_bodies.proofs.runs.HeldAlongRuns.{is_directory_kind, Holds, below_not_root, outside_above}
+use Rattle.wasi_paths.proofs.runs.ReachedEntries.{IsFound, found_from}
 use Rattle.wasi_fd.specs.declared.table.TheConstants.{PLACES}
 use Rattle.wasi_calls.proofs.runs.RowsKeep.{row_keeps}
 

@@ -5,11 +5,11 @@ use Rattle.wasm_store.specs.declared.call.HostCall.{HostCall}
 use Rattle.wasi_fd.specs.declared.descriptor.Descriptor.TheVariants.{Entry}
 use Rattle.wasi_fd.specs.declared.descriptor.Opened.{Opened}
 use Rattle.wasi_fd.specs.Table.{Table, table_of}
-use Rattle.wasi_calls.specs.World.{World}
-use Rattle.wasi_calls.specs.Calls.{row, Answered}
-use Rattle.wasi_calls.specs.laws.Confined.{Tops, IsOutside}
-use Rattle.wasi_calls.specs.internal.Bodies.{AreThere}
-use Rattle.wasi_calls.proofs.runs.HeldAlongRuns.{Holds}
+use Rattle.wasi_bodies.specs.World.{World}
+use Rattle.wasi_bodies.specs.Calls.{row, Answered}
+use Rattle.wasi_bodies.specs.laws.Confined.{Tops, IsOutside}
+use Rattle.wasi_bodies.specs.internal.Entries.{AreThere}
+use Rattle.wasi_bodies.proofs.runs.HeldAlongRuns.{Holds}
 use Rattle.wasi_calls.proofs.runs.Confinement.{answered_keeps}
 use Rattle.wasi_calls.proofs.runs.RowsKeep.{row_keeps}
 use Rattle.vol_tree.specs.Calls.{is_directory, directory_at}

@@ -3,11 +3,11 @@ use Rattle.std.proofs.Common.{◌≡◌, ℕ, ◌≤◌, List, Option, refl, sym
 use Rattle.vol_sector.specs.Disk.{Image, Disk}
 use Rattle.vol_tree.specs.Opened.{Opened}
 use Rattle.wasi_fd.specs.Table.{table_of}
-use Rattle.wasi_calls.specs.World.{World}
-use Rattle.wasi_calls.specs.laws.Confined.{IsHostOf}
-use Rattle.wasi_calls.specs.host.Worlds.{HostState, Shows, before_moving, after_moving, VolumeStep, HostCalls, Hearing}
-use Rattle.wasi_calls.proofs.bodies.PlainCalls.{nothing}
-use Rattle.wasi_calls.specs.laws.Moments.{IsTurn, CallsKeepMoments}
+use Rattle.wasi_bodies.specs.World.{World}
+use Rattle.wasi_bodies.specs.laws.Confined.{IsHostOf}
+use Rattle.wasi_bodies.specs.host.Worlds.{HostState, Shows, before_moving, after_moving, VolumeStep, HostCalls, Hearing}
+use Rattle.wasi_bodies.proofs.bodies.Resting.{nothing}
+use Rattle.wasi_bodies.specs.laws.Moments.{IsTurn, CallsKeepMoments}
 
 module _ {D R W1 W2 : Type 0} (honest : D → Type 0) (disk : D → Disk) (sectors_on failures : D → ℕ) (goes_on : ℕ → D → D → Type 0)
     (remaining : R → Option (List ℕ)) (out_contents : W1 → Option (List ℕ)) (err_contents : W2 → Option (List ℕ)) (ear : Hearing R W1 W2) where

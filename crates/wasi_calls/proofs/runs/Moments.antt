@@ -14,7 +14,7 @@ use Rattle.wasm_steps.specs.declared.pause.Pause.TheVariants.{Called, Spent, End
 use Rattle.wasm_steps.specs.Configuration.{Instance, Configuration}
 use Rattle.wasm_steps.specs.Outcomes.{Paused}
 use Rattle.wasm_steps.specs.Steps.{CallsOf, Event, silent, answers, Step, plain_step, free_step, host_answers, host_exits, in_label, in_frame, Reach, stays, goes}
-use Rattle.wasi_calls.specs.laws.Moments.{CountsMoments, IsTurn, CallsKeepMoments, PauseSynced, PausesKeepMoments, Kept, Turn, Turns, IsSafe, AllKept}
+use Rattle.wasi_bodies.specs.laws.Moments.{CountsMoments, IsTurn, CallsKeepMoments, PauseSynced, PausesKeepMoments, Kept, Turn, Turns, IsSafe, AllKept}
 
 -- ---- a host changes only by its answered calls
 

@@ -19,21 +19,21 @@ use Rattle.wasi_fd.specs.declared.descriptor.Opened.{Opened}
 use Rattle.wasi_fd.specs.Table.{Table}
 use Rattle.wasm_store.specs.declared.call.HostCall.{HostCall}
 use Rattle.wasm_store.specs.declared.call.HostCall.TheVariants as call
-use Rattle.wasi_calls.specs.World.{World, with_descriptor, moved_to, with_output, held_open}
-use Rattle.wasi_calls.specs.Checks.{Done, walk, found, no_directories, only_files, sized, of_kind}
-use Rattle.wasi_calls.specs.supplies.Rows.{sizes_get, texts_get, clock_res_get, clock_time_get, random_get}
-use Rattle.wasi_calls.specs.descriptors.Rows.{fd_close, fd_fdstat_get, fd_filestat_get, fd_prestat_get, fd_prestat_dir_name, fd_seek, fd_tell}
-use Rattle.wasi_calls.specs.files.Rows.{fd_read, fd_pread, fd_write, fd_pwrite, fd_filestat_set_size, fd_sync, fd_readdir, read_from, write_to, stream_write, file_write}
-use Rattle.wasi_calls.specs.paths.Rows.{path_create_directory, path_filestat_get, path_open, path_remove_directory, path_rename, path_unlink_file, missing, open_entry, rename_to, is_set, trunc}
-use Rattle.wasi_calls.specs.Calls.{row, word, long}
-use Rattle.wasi_calls.specs.laws.Confined.{Tops, IsOutside}
-use Rattle.wasi_calls.proofs.checks.Chains.{Yields, after, guarded, yields, known, chosen, answered}
+use Rattle.wasi_bodies.specs.World.{World, with_descriptor, moved_to, with_output, held_open}
+use Rattle.wasi_bodies.specs.Checks.{Done, walk, found, no_directories, only_files, sized, of_kind}
+use Rattle.wasi_bodies.specs.supplies.Rows.{sizes_get, texts_get, clock_res_get, clock_time_get, random_get}
+use Rattle.wasi_bodies.specs.descriptors.Rows.{fd_close, fd_fdstat_get, fd_filestat_get, fd_prestat_get, fd_prestat_dir_name, fd_seek, fd_tell}
+use Rattle.wasi_bodies.specs.files.Rows.{fd_read, fd_pread, fd_write, fd_pwrite, fd_filestat_set_size, fd_sync, fd_readdir, read_from, write_to, stream_write, file_write}
+use Rattle.wasi_bodies.specs.paths.Rows.{path_create_directory, path_filestat_get, path_open, path_remove_directory, path_rename, path_unlink_file, missing, open_entry, rename_to, is_set, trunc}
+use Rattle.wasi_bodies.specs.Calls.{row, word, long}
+use Rattle.wasi_bodies.specs.laws.Confined.{Tops, IsOutside}
+use Rattle.wasi_bodies.proofs.checks.Chains.{Yields, after, guarded, yields, known, chosen, answered}
 use Rattle.vol_tree.proofs.Trees.{Childless, is_directory_at, empty_childless, file_childless}
 use Rattle.vol_body.specs.declared.writing.TheConstants.{PIECE}
-use Rattle.wasi_calls.proofs.runs.HeldAlongRuns.{is_directory_kind, IsGood, Holds, keeps_at, keeps_created}
-use Rattle.wasi_calls.proofs.checks.Passing.{same_Ok, ok_or_some, tree_called, passes_on, not_true, not_false, described, entered, opened_is, is_file_kind, same_entry, least_closed_below, found_is}
+use Rattle.wasi_bodies.proofs.runs.HeldAlongRuns.{is_directory_kind, IsGood, Holds, keeps_at, keeps_created}
+use Rattle.wasi_bodies.proofs.checks.Passing.{same_Ok, ok_or_some, tree_called, passes_on, not_true, not_false, described, entered, opened_is, is_file_kind, same_entry, least_closed_below, found_is}
 use Rattle.wasi_fd.specs.declared.table.TheConstants.{PLACES}
-use Rattle.wasi_calls.proofs.runs.ReachedEntries.{W, IsFound, IsReached, IsBelow, reaches, is_below, not_its_own, removes, writes, resizes, renames_free, renames_onto, fits}
+use Rattle.wasi_paths.proofs.runs.ReachedEntries.{W, IsFound, IsReached, IsBelow, reaches, is_below, not_its_own, removes, writes, resizes, renames_free, renames_onto, fits}
 
 module _ (T0 : Tree) (t0 : IsTree T0) (tops : Tops) (directories : (top : ℕ) → tops top → IsDirectory T0 top) where
   abbrev D : Done → Type 0

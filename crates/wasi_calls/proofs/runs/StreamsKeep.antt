@@ -7,12 +7,12 @@ use Rattle.wasm_store.specs.declared.call.Errno.{Errno}
 use Rattle.wasm_store.specs.declared.call.Answer.{Answer}
 use Rattle.wasm_steps.specs.Configuration.{Instance, Configuration}
 use Rattle.wasm_steps.specs.Steps.{CallsOf, Event, Step, plain_step, free_step, host_answers, host_exits, in_label, in_frame, Reach, stays, goes}
-use Rattle.wasi_calls.specs.declared.streams.Input.{Input}
-use Rattle.wasi_calls.specs.declared.streams.Output.{Output}
-use Rattle.wasi_calls.specs.host.Worlds.{Hearing, HearsInput, HearsOutput, HearsStreams, HostState, StreamCalls}
+use Rattle.wasi_bodies.specs.declared.streams.Input.{Input}
+use Rattle.wasi_bodies.specs.declared.streams.Output.{Output}
+use Rattle.wasi_bodies.specs.host.Worlds.{Hearing, HearsInput, HearsOutput, HearsStreams, HostState, StreamCalls}
 use Rattle.wasi_calls.specs.laws.Streams.{RunsHear}
 use Rattle.wasi_calls.proofs.bodies.StreamsHeard.{unheard}
-use Rattle.wasi_calls.proofs.streams.ReaderBytes.{ended_or}
+use Rattle.wasi_bodies.proofs.streams.ReaderBytes.{ended_or}
 
 -- calls that went well, and then these
 hears_then : {S : Type 0} (went refused : S → S → Type 0) (failed : Bool) (a b c : S) → Goes went a b → Hears went refused failed b c → Hears went refused failed a c

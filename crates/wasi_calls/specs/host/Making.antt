@@ -11,12 +11,12 @@ use Rattle.wasi_fd.specs.declared.descriptor.Descriptor.TheVariants.{Entry}
 use Rattle.wasi_fd.specs.declared.descriptor.EntryKind.TheVariants as kinds
 use Rattle.wasi_fd.specs.Rights.{directory_rights, all_rights}
 use Rattle.wasi_fd.specs.Table.{Table, table_of, streams}
-use Rattle.wasi_calls.specs.declared.host.settings.Preopen.{Preopen as PreopenValue}
+use Rattle.wasi_bodies.specs.declared.settings.Preopen.{Preopen as PreopenValue}
 use Rattle.wasi_calls.specs.declared.host.wasi_host.HostParts.{HostParts}
 use Rattle.wasi_calls.specs.declared.host.fault.HostFault.{HostFault}
 use Rattle.wasi_calls.specs.declared.host.fault.HostFault.TheVariants.{Setting, Preopen, Device, Memory}
-use Rattle.wasi_calls.specs.host.Settings.{settings_fit}
-use Rattle.wasi_calls.specs.host.Worlds.{HostState}
+use Rattle.wasi_bodies.specs.host.Settings.{settings_fit}
+use Rattle.wasi_bodies.specs.host.Worlds.{HostState}
 
 module _ {D R W1 W2 : Type 0} where
   -- what a host was made of, as it is now

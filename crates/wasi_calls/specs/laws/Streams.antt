@@ -4,7 +4,7 @@ use Rattle.wasm_store.specs.declared.call.HostCall.{HostCall}
 use Rattle.wasm_store.specs.declared.call.Errno.{Errno}
 use Rattle.wasm_steps.specs.Configuration.{Instance, Configuration}
 use Rattle.wasm_steps.specs.Steps.{CallsOf, Reach}
-use Rattle.wasi_calls.specs.host.Worlds.{Hearing, HearsStreams, HostState}
+use Rattle.wasi_bodies.specs.host.Worlds.{Hearing, HearsStreams, HostState}
 
 -- In a run from one host to another each stream that had failed stays as it is. Of another one all calls went well, or the last was
 -- refused, and then it is marked as failed.

@@ -1,17 +1,18 @@
 //! Each call by its name.
 ghost use Rattle.wasi_fd.specs.Table.{table_of};
 ghost use Rattle.wasm_store.specs.declared.call.HostCall.TheVariants as call;
-ghost use Rattle.wasi_calls.specs.laws.Moments.{IsSynced};
+ghost use Rattle.wasi_bodies.specs.laws.Moments.{IsSynced};
 
-use crate::errno::NOSYS;
+use wasi_bodies::errno::NOSYS;
 use crate::host::inner::Inner;
 use stream_answers::{Inlet, Outlet};
 use vol_sector::Device;
 use wasm_store::{Errno, HostCall, Memory};
 
 impl<'s, 't, D: Device, R: Inlet, W1: Outlet, W2: Outlet> Inner<'s, 't, D, R, W1, W2> {
-    ghost use Rattle.wasi_calls.specs.host.Worlds.{hearing};
-    ghost use Rattle.wasi_calls.specs.internal.Bodies.{IsSetUp, KnowsEntries, Serves, errno_of};
+    ghost use Rattle.wasi_bodies.specs.host.Worlds.{hearing};
+    ghost use Rattle.wasi_bodies.specs.internal.Entries.{KnowsEntries, errno_of};
+    ghost use Rattle.wasi_calls.specs.internal.Bodies.{IsSetUp, Serves};
 
     /// A call that is linked, and answers that there is none such.
     fn nosys(&self) -> Result<(), Errno>

@@ -2,9 +2,9 @@
 
 ghost use Rattle.std.specs.Prelude.{◌≡◌};
 
-use crate::host::settings::Settings;
+use wasi_bodies::settings::Settings;
 use crate::host::wasi_host::HostParts;
-use crate::streams::{Input, Output, Terminals};
+use wasi_bodies::streams::{Input, Output, Terminals};
 use rand_chacha::ChaCha20Rng;
 use vol_sector::Device;
 use vol_tree::{MemorySpan, Volume};

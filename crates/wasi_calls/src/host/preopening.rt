@@ -7,13 +7,13 @@ ghost use Rattle.wasi_fd.specs.Table.{table_of, streams, with_at};
 ghost use Rattle.path_walk.specs.Walk.{Asked};
 ghost use Rattle.wasi_calls.specs.host.Making.{HasPreopens, directory_named, from_root, found_directory, preopened, is_device};
 ghost use Rattle.wasi_calls.specs.internal.host.Preopening.{fault_as, FindsOrFails, FindsAll, AreNumbers, AreOpen, Refuses};
-ghost use Rattle.wasi_calls.specs.internal.Bodies.{KnowsEntries};
-ghost use Rattle.wasi_calls.specs.declared.host.settings.TheConstants.{MOST_PREOPENS};
+ghost use Rattle.wasi_bodies.specs.internal.Entries.{KnowsEntries};
+ghost use Rattle.wasi_bodies.specs.declared.settings.TheConstants.{MOST_PREOPENS};
 ghost use Rattle.wasi_fd.specs.declared.table.TheConstants.{PLACES};
 
 use crate::host::fault::HostFault;
 use crate::host::inner::Inner;
-use crate::host::settings::{MOST_PREOPENS, Preopen};
+use wasi_bodies::settings::{MOST_PREOPENS, Preopen};
 use path_walk::{Reached, is_directory, walk_from_root};
 use vol_sector::Device;
 use vol_tree::{Errno, Serial, Volume};

@@ -1,16 +1,16 @@
 //! The host of a guest: a volume, streams and supplies.
 
 ghost use Rattle.std.specs.Prelude.{◌≡◌, IfOk, IfErr};
-ghost use Rattle.wasi_calls.specs.internal.Bodies.{errno_of};
+ghost use Rattle.wasi_bodies.specs.internal.Entries.{errno_of};
 
-use crate::arguments::word;
-use crate::checks::buffers::MOST_BUFFERS;
+use wasi_bodies::arguments::word;
+use wasi_bodies::checks::buffers::MOST_BUFFERS;
 use crate::host::fault::HostFault;
 use crate::host::inner::Inner;
-use crate::host::settings::Settings;
+use wasi_bodies::settings::Settings;
 use crate::host::{VolumeHost, linking};
-use crate::streams::inputs::INPUT_PIECE;
-use crate::streams::{Input, Output, Terminals};
+use wasi_bodies::streams::inputs::INPUT_PIECE;
+use wasi_bodies::streams::{Input, Output, Terminals};
 use rand_chacha::ChaCha20Rng;
 use rand_core::SeedableRng;
 use std::alloc::Global;
@@ -46,7 +46,7 @@ pub struct RefusedHost<'s, 't, D: Device, R, W1, W2> {
 }
 
 impl<'s, 't, D: Device, R: Inlet, W1: Outlet, W2: Outlet> Model for WasiHost<'s, 't, D, R, W1, W2> {
-    ghost use Rattle.wasi_calls.specs.host.Worlds.{HostState};
+    ghost use Rattle.wasi_bodies.specs.host.Worlds.{HostState};
 
     ghost Value = { HostState D R W1 W2 };
 
@@ -65,7 +65,7 @@ impl<'s, 't, D: Device, R: Inlet + Drop, W1: Outlet + Drop, W2: Outlet + Drop> W
     W1,
     W2,
 > {
-    ghost use Rattle.wasi_calls.specs.host.Worlds.{stream_failed};
+    ghost use Rattle.wasi_bodies.specs.host.Worlds.{stream_failed};
     ghost use Rattle.wasi_calls.specs.host.Making.{IsNewHost, IsRefusedFor, parts_of};
 
     /// A host over these parts, whose streams are the descriptors 0 to 2. It has the room for all its
@@ -181,7 +181,7 @@ impl<'s, 't, D: Device, R: Inlet, W1: Outlet, W2: Outlet> WasiHost<'s, 't, D, R,
     ghost use Rattle.std.specs.Prelude.{ℕ, OnOk, OnErr, Some};
     ghost use Rattle.wasi_fd.specs.Table.{table_of, streams};
     ghost use Rattle.path_walk.specs.Walk.{Asked};
-    ghost use Rattle.wasi_calls.specs.supplies.Random.{seeded};
+    ghost use Rattle.wasi_bodies.specs.supplies.Random.{seeded};
     ghost use Rattle.wasi_calls.specs.host.Making.{HasPreopens, IsRefusedPreopen, HasNoMore, KeepsStreams, is_device};
 
     /// Opens the preopened directories of the settings, in order from 3 on. Each path begins with a
@@ -233,7 +233,7 @@ fn value_of(answered: Result<(), Errno>) -> Answer
 
 impl<'s, 't, D: Device, R: Inlet, W1: Outlet, W2: Outlet> Host for WasiHost<'s, 't, D, R, W1, W2> {
     ghost use Rattle.wasi_calls.specs.host.Links.{link};
-    ghost use Rattle.wasi_calls.specs.host.Worlds.{HostCalls, hearing};
+    ghost use Rattle.wasi_bodies.specs.host.Worlds.{HostCalls, hearing};
 
     ghost links = { λ _. link };
 
@@ -260,7 +260,7 @@ impl<'s, 't, D: Device, R: Inlet, W1: Outlet, W2: Outlet> Host for WasiHost<'s, 
 
 impl<'s, 't, D: Device, R: Inlet, W1: Outlet, W2: Outlet> VolumeHost
     for WasiHost<'s, 't, D, R, W1, W2> {
-    ghost use Rattle.wasi_calls.specs.host.Worlds.{Shows};
+    ghost use Rattle.wasi_bodies.specs.host.Worlds.{Shows};
 
     ghost shows = { Shows };
 

@@ -1,4 +1,4 @@
-use Rattle.wasi_calls.specs.host.Worlds.{hearing}
+use Rattle.wasi_bodies.specs.host.Worlds.{hearing}
 use Rattle.sandbox_telling.specs.RunHost.{counted_devices}
 use Rattle.sandbox_telling.specs.Supplies.{terminals_of}
 use Rattle.sandbox_command.proofs.Upheld.{upheld}

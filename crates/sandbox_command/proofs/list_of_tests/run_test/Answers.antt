@@ -13,7 +13,7 @@ use Rattle.sandbox_args.specs.declared.request.Run.{Run}
 use Rattle.sandbox_args.specs.Request.{Text}
 use Rattle.std.specs.declared.io.Read.{Ghosts as Reader}
 use Rattle.std.specs.declared.io.Write.{Ghosts as Writer}
-use Rattle.wasi_calls.specs.host.Worlds.{StreamCalls}
+use Rattle.wasi_bodies.specs.host.Worlds.{StreamCalls}
 use Rattle.sandbox_runs.specs.StreamCalling.{calls_of}
 use Rattle.sandbox_command.specs.declared.places.Places.{Ghosts}
 use Rattle.sandbox_command.specs.declared.list_of_tests.TestFiles.{TestFiles}

@@ -1,5 +1,5 @@
 use Rattle.std.proofs.Common.{ℕ, None, max, ap, ◌∙◌, sym, subst, inl, inr}
-use Rattle.wasi_calls.specs.declared.host.settings.Settings.{Settings}
+use Rattle.wasi_bodies.specs.declared.settings.Settings.{Settings}
 use Rattle.sandbox_core.specs.Session.{given}
 use Rattle.sandbox_core.proofs.Limiting.{shares_limited}
 use Rattle.plugin_session.specs.Instance.{IsRefused, Opens, session_of}

@@ -1,5 +1,5 @@
 use Rattle.std.proofs.Common.{ℕ, max, ap, ◌∙◌, sym, subst, inl, inr}
-use Rattle.wasi_calls.specs.declared.host.settings.Settings.{Settings}
+use Rattle.wasi_bodies.specs.declared.settings.Settings.{Settings}
 use Rattle.sandbox_core.specs.Session.{given, IsRefused}
 use Rattle.sandbox_core.proofs.Limiting.{opens_limited, shares_limited}
 use Rattle.sandbox_host.specs.Host.{State, Opens, Shares, IsHonest, known}

@@ -1,4 +1,4 @@
-use Rattle.wasi_calls.specs.host.Worlds.{hearing}
+use Rattle.wasi_bodies.specs.host.Worlds.{hearing}
 use Rattle.sandbox_runs.proofs.Calling.{told_of_call}
 use Rattle.sandbox_runs.proofs.invoking.ended_call.Goals as goal
 

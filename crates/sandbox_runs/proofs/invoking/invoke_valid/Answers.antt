@@ -1,7 +1,7 @@
 use Rattle.std.proofs.Common.{subst, sym}
 use Rattle.sandbox_telling.specs.Stopping.{AreLinesBy}
 use Rattle.vol_commands.specs.Volumes.{IsOpenFor, IsRefusedFor}
-use Rattle.wasi_calls.specs.host.Worlds.{hearing}
+use Rattle.wasi_bodies.specs.host.Worlds.{hearing}
 use Rattle.sandbox_runs.proofs.Charged.{none_tells}
 use Rattle.sandbox_runs.proofs.Calling.{call_no_volume, call_on_volume}
 use Rattle.sandbox_runs.proofs.invoking.invoke_valid.Goals as goal

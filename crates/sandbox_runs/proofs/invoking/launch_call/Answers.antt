@@ -1,6 +1,6 @@
 use Rattle.std.proofs.Common.{subst, sym, inl}
 use Rattle.wasm_syntax.specs.declared.module.Module.{Module}
-use Rattle.wasi_calls.specs.host.Worlds.{hearing}
+use Rattle.wasi_bodies.specs.host.Worlds.{hearing}
 use Rattle.sandbox_args.specs.Request.{texts}
 use Rattle.sandbox_core.specs.declared.fault.SessionFault.{SessionFault}
 use Rattle.sandbox_core.specs.Session.{KeepsVolume}

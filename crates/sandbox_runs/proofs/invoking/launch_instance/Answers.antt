@@ -1,5 +1,5 @@
 use Rattle.std.proofs.Common.{ap, subst, ◌∙◌, length}
-use Rattle.wasi_calls.specs.host.Worlds.{hearing}
+use Rattle.wasi_bodies.specs.host.Worlds.{hearing}
 use Rattle.sandbox_runs.proofs.Charged.{none_tells}
 use Rattle.sandbox_runs.proofs.Calling.{call_tells, called, not_opened}
 use Rattle.sandbox_runs.proofs.invoking.launch_instance.Goals as goal

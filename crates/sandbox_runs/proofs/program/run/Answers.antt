@@ -6,7 +6,7 @@ use Rattle.wasm_syntax.specs.declared.module.Module.{Module}
 use Rattle.wasm_syntax.specs.Module.{SpellsWith}
 use Rattle.wasm_valid.specs.Validity.{IsValid}
 use Rattle.sandbox_report.specs.declared.fault.Fault.{Fault}
-use Rattle.wasi_calls.specs.host.Worlds.{hearing}
+use Rattle.wasi_bodies.specs.host.Worlds.{hearing}
 use Rattle.sandbox_runs.specs.Execution.{IsUntouched, RunsBy}
 use Rattle.sandbox_telling.specs.Modules.{profile_for}
 use Rattle.sandbox_telling.specs.Stopping.{AreLinesBy, TellsLines}

@@ -1,7 +1,7 @@
 use Rattle.std.proofs.Common.{sym, ap, subst, ◌∙◌}
 use Rattle.vol_commands.specs.Volumes.{IsOpenFor, IsRefusedFor}
 use Rattle.wasm_syntax.specs.declared.module.Module.{Module}
-use Rattle.wasi_calls.specs.host.Worlds.{hearing}
+use Rattle.wasi_bodies.specs.host.Worlds.{hearing}
 use Rattle.sandbox_runs.specs.Running.{Launches}
 use Rattle.sandbox_telling.specs.declared.runnable.Runnable.{Runnable}
 use Rattle.sandbox_telling.specs.internal.Runnable.{IsReadyFor, module_in}

@@ -1,5 +1,5 @@
 use Rattle.std.proofs.Common.{◌∙◌, ap, length}
-use Rattle.wasi_calls.specs.host.Worlds.{hearing}
+use Rattle.wasi_bodies.specs.host.Worlds.{hearing}
 use Rattle.sandbox_runs.proofs.Charged.{none_tells}
 use Rattle.sandbox_runs.proofs.Launching.{no_session, ran}
 use Rattle.sandbox_runs.proofs.sessions.launch_prepared.Goals as goal

@@ -1,5 +1,5 @@
 use Rattle.wasi_calls.proofs.runs.HostLaws.{are_rows}
-use Rattle.wasi_calls.specs.host.Worlds.{hearing}
+use Rattle.wasi_bodies.specs.host.Worlds.{hearing}
 use Rattle.wasi_calls.proofs.laws.host_calls_are_rows.Goals as goal
 
 pub returns : goal.returns

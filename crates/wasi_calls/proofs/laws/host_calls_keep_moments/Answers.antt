@@ -1,5 +1,5 @@
 use Rattle.wasi_calls.proofs.runs.HostLaws.{keep_moments}
-use Rattle.wasi_calls.specs.host.Worlds.{hearing}
+use Rattle.wasi_bodies.specs.host.Worlds.{hearing}
 use Rattle.wasi_calls.proofs.laws.host_calls_keep_moments.Goals as goal
 
 pub returns : goal.returns

@@ -1,4 +1,4 @@
-use Rattle.wasi_calls.specs.host.Worlds.{HostCalls, hearing}
+use Rattle.wasi_bodies.specs.host.Worlds.{HostCalls, hearing}
 use Rattle.wasi_calls.proofs.runs.StreamsKeep.{runs_hear}
 use Rattle.wasi_calls.proofs.laws.streams_are_heard.Goals as goal
 

@@ -8,7 +8,7 @@ use Rattle.vol_tree.specs.declared.superblock.Superblock.{Superblock}
 use Rattle.vol_tree.specs.Opened.{Opened, IsSerial}
 use Rattle.wasi_fd.specs.declared.descriptor.Descriptor.{Descriptor}
 use Rattle.wasi_fd.specs.Table.{Table}
-use Rattle.wasi_calls.specs.declared.host.settings.Preopen.{Preopen as PreopenValue}
+use Rattle.wasi_bodies.specs.declared.settings.Preopen.{Preopen as PreopenValue}
 use Rattle.wasi_calls.specs.declared.host.inner.Inner.{Inner}
 use Rattle.wasi_calls.specs.declared.host.fault.HostFault.{HostFault}
 use Rattle.wasi_calls.specs.declared.host.fault.HostFault.TheVariants.{Setting, Preopen, Device, Memory}

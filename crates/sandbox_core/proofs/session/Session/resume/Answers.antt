@@ -1,4 +1,4 @@
-use Rattle.wasi_calls.specs.host.Worlds.{HostState, HostCalls, hearing}
+use Rattle.wasi_bodies.specs.host.Worlds.{HostState, HostCalls, hearing}
 use Rattle.wasi_calls.proofs.runs.HostLaws.{keep_moments}
 use Rattle.wasi_calls.proofs.runs.Moments.{pauses_keep}
 use Rattle.sandbox_core.specs.Devices.{devices}

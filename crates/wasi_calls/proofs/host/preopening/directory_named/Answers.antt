@@ -1,6 +1,6 @@
 use Rattle.std.proofs.Common.{arith}
 use Rattle.std.proofs.lemmas.Grind.{common_steps}
-use Rattle.wasi_calls.proofs.bodies.AskingCalls.{works_as, still_works}
+use Rattle.wasi_bodies.proofs.bodies.AskingCalls.{works_as, still_works}
 use Rattle.wasi_calls.proofs.host.preopening.directory_named.Goals as goal
 
 pub returns-in_default-clause-reads : goal.returns-in_default-clause-reads

@@ -3,7 +3,7 @@ use Rattle.std.proofs.lemmas.Option.{slice_get-get_or}
 use Rattle.vol_tree.specs.Tree.{Tree}
 use Rattle.wasi_calls.specs.internal.host.Preopening.{FindsAll}
 use Rattle.wasi_calls.proofs.host.Preopens.{no_preopen, refused_one, so_far_more, reads_then}
-use Rattle.wasi_calls.proofs.bodies.AskingCalls.{works_as, still_works}
+use Rattle.wasi_bodies.proofs.bodies.AskingCalls.{works_as, still_works}
 use Rattle.wasi_calls.proofs.host.preopening.find_all.Goals as goal
 
 pub returns-in-Err : goal.returns-in-Err

@@ -4,7 +4,7 @@ use Rattle.wasi_calls.specs.declared.host.fault.HostFault.{HostFault}
 use Rattle.wasi_calls.specs.host.Making.{from_root}
 use Rattle.wasi_calls.specs.internal.host.Preopening.{FindsOrFails}
 use Rattle.wasi_calls.proofs.host.Preopens.{root_refused, refused_none, asked_device, reads_then}
-use Rattle.wasi_calls.proofs.bodies.AskingCalls.{works_as, still_works}
+use Rattle.wasi_bodies.proofs.bodies.AskingCalls.{works_as, still_works}
 use Rattle.path_walk.specs.declared.walking.Reached.{Reached}
 use Rattle.wasi_calls.proofs.host.preopening.from_root.Goals as goal
 

@@ -4,7 +4,7 @@ use Rattle.vol_tree.specs.Tree.{Tree, IsTree}
 use Rattle.wasi_fd.specs.Table.{table_of}
 use Rattle.wasi_calls.specs.internal.host.Preopening.{AreFound}
 use Rattle.wasi_calls.proofs.host.Preopens.{has_preopens, knows_preopens, streams_known}
-use Rattle.wasi_calls.proofs.bodies.AskingCalls.{asked_failed}
+use Rattle.wasi_bodies.proofs.bodies.AskingCalls.{asked_failed}
 use Rattle.wasi_calls.proofs.host.preopening.open_directories.Goals as goal
 
 pub returns-in-Ok : goal.returns-in-Ok

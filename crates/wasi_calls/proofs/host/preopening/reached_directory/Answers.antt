@@ -1,6 +1,6 @@
 use Rattle.std.proofs.Common.{Bool, ℕ}
 use Rattle.wasi_calls.proofs.host.Preopens.{asked_device}
-use Rattle.wasi_calls.proofs.bodies.AskingCalls.{works_as, still_works}
+use Rattle.wasi_bodies.proofs.bodies.AskingCalls.{works_as, still_works}
 use Rattle.wasi_calls.proofs.host.preopening.reached_directory.Goals as goal
 
 pub returns-in-Err-clause-reads : goal.returns-in-Err-clause-reads

@@ -2,9 +2,9 @@ use Rattle.std.proofs.Common.{◌≡◌, false, IsTrue, ap, sym, ◌∙◌, inl,
 use Rattle.std.proofs.lemmas.Bool.{false≢true}
 use Rattle.wasm_store.specs.declared.call.HostCall.{HostCall}
 use Rattle.wasm_store.specs.declared.call.HostCall.TheVariants as call
-use Rattle.wasi_calls.specs.laws.Moments.{is_sync}
-use Rattle.wasi_calls.proofs.bodies.PlainCalls.{serves_as}
-use Rattle.wasi_calls.specs.host.Worlds.{hearing}
+use Rattle.wasi_bodies.specs.laws.Moments.{is_sync}
+use Rattle.wasi_calls.proofs.calls.PlainCalls.{serves_as}
+use Rattle.wasi_bodies.specs.host.Worlds.{hearing}
 use Rattle.wasi_calls.proofs.host.inner.Inner.answer.Goals as goal
 
 -- nothing is said of the disk after a call that is no sync

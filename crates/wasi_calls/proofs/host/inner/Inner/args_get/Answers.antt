@@ -1,11 +1,12 @@
 use Rattle.std.proofs.Common.{refl, sym}
 use Rattle.wasi_fd.specs.Table.{table_of}
 use Rattle.wasm_store.specs.declared.call.HostCall.TheVariants as call
-use Rattle.wasi_calls.specs.supplies.Texts.{texts_of}
-use Rattle.wasi_calls.specs.host.Worlds.{world_of, hearing}
+use Rattle.wasi_bodies.specs.supplies.Texts.{texts_of}
+use Rattle.wasi_bodies.specs.host.Worlds.{world_of, hearing}
 use Rattle.wasi_calls.specs.internal.Bodies.{state_of}
-use Rattle.wasi_calls.specs.supplies.Rows.{texts_get}
-use Rattle.wasi_calls.proofs.bodies.PlainCalls.{no_more, serves_plain}
+use Rattle.wasi_bodies.specs.supplies.Rows.{texts_get}
+use Rattle.wasi_bodies.proofs.bodies.Resting.{no_more}
+use Rattle.wasi_calls.proofs.calls.PlainCalls.{serves_plain}
 use Rattle.wasi_calls.proofs.host.inner.Inner.args_get.Goals as goal
 
 pub returns : goal.returns

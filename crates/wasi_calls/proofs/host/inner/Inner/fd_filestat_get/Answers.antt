@@ -1,11 +1,11 @@
 use Rattle.std.proofs.Common.{ℕ, refl, sym, ap, ◌∙◌}
 use Rattle.wasi_fd.specs.Table.{table_of}
-use Rattle.wasi_calls.specs.Calls.{is_entry}
+use Rattle.wasi_bodies.specs.Calls.{is_entry}
 use Rattle.wasm_store.specs.declared.call.HostCall.TheVariants as call
-use Rattle.wasi_calls.specs.descriptors.Rows.{fd_filestat_get}
-use Rattle.wasi_calls.specs.host.Worlds.{world_of, hearing}
+use Rattle.wasi_bodies.specs.descriptors.Rows.{fd_filestat_get}
+use Rattle.wasi_bodies.specs.host.Worlds.{world_of, hearing}
 use Rattle.wasi_calls.specs.internal.Bodies.{state_of}
-use Rattle.wasi_calls.proofs.bodies.PlainCalls.{serves_reaching}
+use Rattle.wasi_calls.proofs.calls.PlainCalls.{serves_reaching}
 use Rattle.wasi_calls.proofs.host.inner.Inner.fd_filestat_get.Goals as goal
 
 pub returns : goal.returns

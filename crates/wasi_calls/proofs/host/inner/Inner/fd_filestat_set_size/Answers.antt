@@ -1,9 +1,9 @@
 use Rattle.std.proofs.Common.{refl, sym}
 use Rattle.wasm_store.specs.declared.call.HostCall.TheVariants as call
-use Rattle.wasi_calls.specs.files.Rows.{fd_filestat_set_size}
-use Rattle.wasi_calls.specs.host.Worlds.{world_of, hearing}
+use Rattle.wasi_bodies.specs.files.Rows.{fd_filestat_set_size}
+use Rattle.wasi_bodies.specs.host.Worlds.{world_of, hearing}
 use Rattle.wasi_calls.specs.internal.Bodies.{state_of}
-use Rattle.wasi_calls.proofs.bodies.PlainCalls.{serves_volume}
+use Rattle.wasi_calls.proofs.calls.PlainCalls.{serves_volume}
 use Rattle.wasi_calls.proofs.host.inner.Inner.fd_filestat_set_size.Goals as goal
 
 pub returns : goal.returns

@@ -2,20 +2,21 @@ use Rattle.std.proofs.Common.{◌+◌, ◌^◌, refl, sym, arith}
 use Rattle.std.specs.Vec.{with_items}
 use Rattle.wasi_fd.specs.Table.{table_of}
 use Rattle.wasm_store.specs.declared.call.HostCall.TheVariants as call
-use Rattle.wasi_calls.specs.declared.checks.DescriptorKinds.TheVariants as takes
-use Rattle.wasi_calls.proofs.checks.NoneAnswers29.{entry_never}
-use Rattle.wasi_calls.specs.Checks.{entry_at, only_files}
-use Rattle.wasi_calls.specs.files.Rows.{fd_pread}
-use Rattle.wasi_calls.specs.Calls.{row}
-use Rattle.wasi_calls.specs.host.Worlds.{world_of, hearing}
-use Rattle.wasi_calls.specs.internal.Bodies.{state_of, errno_of}
-use Rattle.wasi_calls.specs.internal.checks.Buffers.{list_of}
-use Rattle.wasi_calls.specs.internal.files.Reading.{read_into}
-use Rattle.wasi_calls.proofs.OpenEntries.{file_of}
-use Rattle.wasi_calls.proofs.bodies.PlainCalls.{no_more}
-use Rattle.wasi_calls.proofs.bodies.BufferCalls.{after_buffers, refused_buffers, refused_check, shown_usable}
-use Rattle.wasi_calls.proofs.descriptors.MovingCalls.{serves_roomy}
-use Rattle.wasi_calls.proofs.checks.AfterBuffers.{answered_so}
+use Rattle.wasi_bodies.specs.declared.checks.DescriptorKinds.TheVariants as takes
+use Rattle.wasi_bodies.proofs.checks.NoneAnswers29.{entry_never}
+use Rattle.wasi_bodies.specs.Checks.{entry_at, only_files}
+use Rattle.wasi_bodies.specs.files.Rows.{fd_pread}
+use Rattle.wasi_bodies.specs.Calls.{row}
+use Rattle.wasi_bodies.specs.host.Worlds.{world_of, hearing}
+use Rattle.wasi_bodies.specs.internal.Entries.{errno_of}
+use Rattle.wasi_calls.specs.internal.Bodies.{state_of}
+use Rattle.wasi_bodies.specs.internal.checks.Buffers.{list_of}
+use Rattle.wasi_bodies.specs.internal.files.Reading.{read_into}
+use Rattle.wasi_bodies.proofs.OpenEntries.{file_of}
+use Rattle.wasi_bodies.proofs.bodies.Resting.{no_more}
+use Rattle.wasi_calls.proofs.calls.BufferCalls.{after_buffers, refused_buffers, refused_check, shown_usable}
+use Rattle.wasi_calls.proofs.calls.MovingCalls.{serves_roomy}
+use Rattle.wasi_bodies.proofs.checks.AfterBuffers.{answered_so}
 use Rattle.wasi_calls.proofs.host.inner.Inner.fd_pread.Goals as goal
 
 pub returns-in-Err : goal.returns-in-Err

@@ -4,21 +4,22 @@ use Rattle.wasi_fd.specs.declared.descriptor.Descriptor.{Descriptor}
 use Rattle.wasi_fd.specs.declared.descriptor.Descriptor.TheVariants.{Stream, Entry}
 use Rattle.wasi_fd.specs.Table.{table_of}
 use Rattle.wasm_store.specs.declared.call.HostCall.TheVariants as call
-use Rattle.wasi_calls.specs.declared.checks.DescriptorKinds.TheVariants as takes
-use Rattle.wasi_calls.proofs.checks.NoneAnswers29.{descriptor_never}
-use Rattle.wasi_calls.specs.Checks.{descriptor, no_directories, gathered}
-use Rattle.wasi_calls.specs.files.Rows.{fd_write}
-use Rattle.wasi_calls.specs.Calls.{word, is_entry, row}
-use Rattle.wasi_calls.specs.host.Worlds.{world_of, hearing}
-use Rattle.wasi_calls.specs.internal.Bodies.{state_of, errno_of}
-use Rattle.wasi_calls.specs.internal.checks.Buffers.{list_of}
-use Rattle.wasi_calls.specs.internal.files.Writing.{written_to}
-use Rattle.wasi_calls.proofs.checks.Chains.{goes_on}
-use Rattle.wasi_calls.proofs.OpenEntries.{at_descriptor, file_of}
-use Rattle.wasi_calls.proofs.bodies.BufferCalls.{after_buffers, lacks_right, refused_buffers, refused_check, shown_usable}
-use Rattle.wasi_calls.proofs.descriptors.MovingCalls.{serves_roomy}
-use Rattle.wasi_calls.proofs.streams.OutputCalls.{err_takes, out_takes, served}
-use Rattle.wasi_calls.proofs.checks.AfterBuffers.{answered_so}
+use Rattle.wasi_bodies.specs.declared.checks.DescriptorKinds.TheVariants as takes
+use Rattle.wasi_bodies.proofs.checks.NoneAnswers29.{descriptor_never}
+use Rattle.wasi_bodies.specs.Checks.{descriptor, no_directories, gathered}
+use Rattle.wasi_bodies.specs.files.Rows.{fd_write}
+use Rattle.wasi_bodies.specs.Calls.{word, is_entry, row}
+use Rattle.wasi_bodies.specs.host.Worlds.{world_of, hearing}
+use Rattle.wasi_bodies.specs.internal.Entries.{errno_of}
+use Rattle.wasi_calls.specs.internal.Bodies.{state_of}
+use Rattle.wasi_bodies.specs.internal.checks.Buffers.{list_of}
+use Rattle.wasi_bodies.specs.internal.files.Writing.{written_to}
+use Rattle.wasi_bodies.proofs.checks.Chains.{goes_on}
+use Rattle.wasi_bodies.proofs.OpenEntries.{at_descriptor, file_of}
+use Rattle.wasi_calls.proofs.calls.BufferCalls.{after_buffers, lacks_right, refused_buffers, refused_check, shown_usable}
+use Rattle.wasi_calls.proofs.calls.MovingCalls.{serves_roomy}
+use Rattle.wasi_calls.proofs.calls.OutputCalls.{err_takes, out_takes, served}
+use Rattle.wasi_bodies.proofs.checks.AfterBuffers.{answered_so}
 use Rattle.wasi_calls.proofs.bodies.StreamsHeard.{input_unheard, output_unheard}
 use Rattle.wasi_calls.proofs.host.inner.Inner.fd_write.Goals as goal
 

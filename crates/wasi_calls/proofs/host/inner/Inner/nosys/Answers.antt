@@ -1,8 +1,9 @@
 use Rattle.std.proofs.Common.{Err, refl}
 use Rattle.wasi_fd.specs.Table.{table_of}
 use Rattle.wasm_store.specs.declared.call.HostCall.TheVariants as call
-use Rattle.wasi_calls.proofs.bodies.PlainCalls.{no_more, serves_plain}
-use Rattle.wasi_calls.specs.host.Worlds.{hearing}
+use Rattle.wasi_bodies.proofs.bodies.Resting.{no_more}
+use Rattle.wasi_calls.proofs.calls.PlainCalls.{serves_plain}
+use Rattle.wasi_bodies.specs.host.Worlds.{hearing}
 use Rattle.wasi_calls.proofs.host.inner.Inner.nosys.Goals as goal
 
 pub returns : goal.returns

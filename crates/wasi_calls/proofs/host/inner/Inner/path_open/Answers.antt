@@ -1,9 +1,9 @@
 use Rattle.std.proofs.Common.{refl, sym}
 use Rattle.wasm_store.specs.declared.call.HostCall.TheVariants as call
-use Rattle.wasi_calls.specs.host.Worlds.{world_of, hearing}
+use Rattle.wasi_bodies.specs.host.Worlds.{world_of, hearing}
 use Rattle.wasi_calls.specs.internal.Bodies.{state_of}
-use Rattle.wasi_calls.proofs.bodies.PlainCalls.{serves_both}
-use Rattle.wasi_calls.proofs.paths.OpenCalls.{open_by}
+use Rattle.wasi_calls.proofs.calls.PlainCalls.{serves_both}
+use Rattle.wasi_paths.proofs.paths.OpenCalls.{open_by}
 use Rattle.wasi_calls.proofs.host.inner.Inner.path_open.Goals as goal
 
 pub returns : goal.returns

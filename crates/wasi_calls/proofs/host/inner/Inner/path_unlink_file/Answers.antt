@@ -1,13 +1,13 @@
 use Rattle.std.proofs.Common.{◌≡◌, ◌^◌, ℕ, List, ◌∙◌, refl, sym}
 use Rattle.vol_inode.specs.declared.entry.Kind.TheVariants as nodes
 use Rattle.wasm_store.specs.declared.call.HostCall.TheVariants as call
-use Rattle.wasi_calls.specs.World.{World}
-use Rattle.wasi_calls.specs.paths.Rows.{path_unlink_file}
-use Rattle.wasi_calls.specs.host.Worlds.{world_of, hearing}
+use Rattle.wasi_bodies.specs.World.{World}
+use Rattle.wasi_bodies.specs.paths.Rows.{path_unlink_file}
+use Rattle.wasi_bodies.specs.host.Worlds.{world_of, hearing}
 use Rattle.wasi_calls.specs.internal.Bodies.{state_of}
-use Rattle.wasi_calls.specs.internal.paths.Removing.{remove}
-use Rattle.wasi_calls.proofs.bodies.AskingCalls.{and_then_assoc, ok_then}
-use Rattle.wasi_calls.proofs.bodies.PlainCalls.{serves_volume}
+use Rattle.wasi_paths.specs.internal.paths.Removing.{remove}
+use Rattle.wasi_bodies.proofs.bodies.AskingCalls.{and_then_assoc, ok_then}
+use Rattle.wasi_calls.proofs.calls.PlainCalls.{serves_volume}
 use Rattle.wasi_calls.proofs.host.inner.Inner.path_unlink_file.Goals as goal
 
 removes : (w : World) (m : List ℕ) (fd path len : ℕ) → path_unlink_file w m fd path len ≡ remove nodes.File w m fd (2 ^ 26) path len

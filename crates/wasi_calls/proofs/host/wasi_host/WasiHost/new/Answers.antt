@@ -1,6 +1,6 @@
 use Rattle.std.proofs.Common.{refl, sym, ◌∙◌}
 use Rattle.wasi_fd.specs.Table.{table_of}
-use Rattle.wasi_calls.proofs.OpenEntries.{no_entries}
+use Rattle.wasi_bodies.proofs.OpenEntries.{no_entries}
 use Rattle.wasi_calls.proofs.host.wasi_host.WasiHost.new.Goals as goal
 
 pub invariant_of-result : goal.invariant_of-result

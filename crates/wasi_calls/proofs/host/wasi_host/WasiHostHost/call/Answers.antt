@@ -1,5 +1,5 @@
 use Rattle.wasi_calls.proofs.host.HostAnswers.{called, ends, still_ready}
-use Rattle.wasi_calls.specs.host.Worlds.{hearing}
+use Rattle.wasi_bodies.specs.host.Worlds.{hearing}
 use Rattle.wasi_calls.proofs.host.wasi_host.WasiHostHost.call.Goals as goal
 
 pub returns-in-ProcExit : goal.returns-in-ProcExit

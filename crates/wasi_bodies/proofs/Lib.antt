@@ -1,0 +1,3 @@
+pub mod OpenEntries
+pub mod bodies
+pub mod runs

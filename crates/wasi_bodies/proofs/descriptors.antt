@@ -1,0 +1,3 @@
+-- Held entries, and positions.
+pub mod HeldEntries
+pub mod Shifts

@@ -1,0 +1,4 @@
+-- Bytes of streams.
+pub mod ReaderBytes
+pub mod ShortReads
+pub mod WriterBytes

@@ -1,0 +1,9 @@
+-- What private contracts and proofs cite. `Bodies` comes first, since it has what the body of each call that answers
+-- says; it and `Asking` serve several subjects, and each folder serves one.
+pub mod Entries
+pub mod Asking
+pub mod checks
+pub mod descriptors
+pub mod files
+pub mod streams
+pub mod paths

@@ -1,0 +1,5 @@
+pub mod PlainCalls
+pub mod BufferCalls
+pub mod MovingCalls
+pub mod InputCalls
+pub mod OutputCalls

@@ -1,6 +1,0 @@
-use Rattle.std.proofs.Common.{arith}
-use Rattle.std.proofs.lemmas.Grind.{common_steps}
-use Rattle.wasi_calls.proofs.checks.write_bytes.Goals as goal
-
-pub returns-clause-length : goal.returns-clause-length
-returns-clause-length c = grind (arith, common_steps)

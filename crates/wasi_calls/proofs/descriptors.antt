@@ -1,4 +1,0 @@
--- Held entries, and positions.
-pub mod HeldEntries
-pub mod MovingCalls
-pub mod Shifts

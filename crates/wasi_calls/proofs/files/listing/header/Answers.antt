@@ -1,5 +1,0 @@
-use Rattle.std.proofs.Common.{rules}
-use Rattle.wasi_calls.proofs.files.listing.header.Goals as goal
-
-pub returns : goal.returns
-returns c = search rules

@@ -1,5 +1,0 @@
-use Rattle.std.proofs.Common.{rules}
-use Rattle.wasi_calls.proofs.host.settings.Settings.fits.Goals as goal
-
-pub returns-then-names_fit : goal.returns-then-names_fit
-returns-then-names_fit c = search rules

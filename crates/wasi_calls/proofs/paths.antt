@@ -1,6 +1,0 @@
--- Walks, and the calls on what they reach.
-pub mod Below
-pub mod OpenCalls
-pub mod RenameCalls
-pub mod RenameWalks
-pub mod Walks

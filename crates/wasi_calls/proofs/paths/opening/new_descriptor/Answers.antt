@@ -1,5 +1,0 @@
-use Rattle.std.proofs.Common.{rules}
-use Rattle.wasi_calls.proofs.paths.opening.new_descriptor.Goals as goal
-
-pub returns-clause-rights : goal.returns-clause-rights
-returns-clause-rights c = search rules

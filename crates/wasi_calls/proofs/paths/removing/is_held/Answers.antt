@@ -1,5 +1,0 @@
-use Rattle.wasi_calls.proofs.descriptors.HeldEntries.{held_as}
-use Rattle.wasi_calls.proofs.paths.removing.is_held.Goals as goal
-
-pub returns : goal.returns
-returns c = λ w table. held_as c.args.descriptors.now c.args.serial c.holds.result (c.holds.ensures) w table

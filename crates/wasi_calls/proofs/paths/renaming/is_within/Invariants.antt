@@ -1,5 +1,0 @@
-use Rattle.wasi_calls.specs.internal.paths.Climbing.{ClimbsTo}
-use Rattle.wasi_calls.proofs.paths.renaming.is_within.Given as goal
-
-abbrev pub invariant-loop-step : goal.invariant-loop-step
-invariant-loop-step g l = ClimbsTo g.D.Device.honest g.D.Device.disk g.D.Device.size g.D.Device.failures g.D.Device.goes_on l.initial.volume l.volume l.top l.fn.serial l.initial.slots l.step l.at

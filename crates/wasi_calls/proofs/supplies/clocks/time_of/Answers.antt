@@ -1,5 +1,0 @@
-use Rattle.std.proofs.Common.{rules}
-use Rattle.wasi_calls.proofs.supplies.clocks.time_of.Goals as goal
-
-pub returns-else-id-eq-REALTIME : goal.returns-else-id-eq-REALTIME
-returns-else-id-eq-REALTIME c = search rules

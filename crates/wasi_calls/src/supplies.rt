@@ -1,6 +1,0 @@
-//! What a guest is supplied with: texts, clocks and random bytes.
-
-pub mod calls;
-pub mod clocks;
-pub mod random;
-pub mod texts;

@@ -1,0 +1,2 @@
+-- What runs keep.
+pub mod ReachedEntries
