@@ -9,8 +9,8 @@ use Rattle.wasm_steps.specs.declared.pause.Outcome.TheVariants.{OutOfFuel}
 use Rattle.wasm_steps.specs.declared.pause.Pause.TheVariants.{Called, Spent, Ended as Stopped}
 use Rattle.wasm_steps.specs.Steps.{CallsOf}
 use Rattle.wasm_interp.specs.Machine.{Snapshot, Represents, entries_left}
-use Rattle.wasm_interp.specs.declared.invoking.Event.{Event}
-use Rattle.wasm_interp.specs.declared.invoking.Event.TheVariants.{Asked, Paused, Returned as Back}
+use Rattle.wasm_places.specs.declared.invocable.Event.{Event}
+use Rattle.wasm_places.specs.declared.invocable.Event.TheVariants.{Asked, Paused, Returned as Back}
 use Rattle.wasm_interp.specs.Invoking.{results_of}
 use Rattle.wasi_bodies.specs.host.Worlds.{HostState}
 use Rattle.sandbox_core.specs.Devices.{Devices, Calls as HostCalls}

@@ -16,8 +16,8 @@ use Rattle.wasm_store.specs.Allocation.{AllLinks}
 use Rattle.wasm_store.specs.Instances.{outside}
 use Rattle.wasm_steps.specs.Configuration.{Val, numbers, Instance, Configuration, store_of}
 use Rattle.wasm_steps.specs.Steps.{CallsOf}
-use Rattle.wasm_interp.specs.declared.invoking.Event.{Event}
-use Rattle.wasm_interp.specs.declared.invoking.Event.TheVariants as event
+use Rattle.wasm_places.specs.declared.invocable.Event.{Event}
+use Rattle.wasm_places.specs.declared.invocable.Event.TheVariants as event
 use Rattle.wasm_operands.specs.Snapshots.{Snapshot, StandsFor}
 use Rattle.wasm_interp.specs.Promises.{ResumedBy}
 use Rattle.wasm_interp.specs.Invocations.{AnswersBy, AsksBy, InvokesBy, LetsGoBy, OpensBy, ReturnsBy, TellsStores, WritesBy, results_of, values_of}

@@ -5,8 +5,8 @@ use Rattle.wasm_store.specs.Bytes.{written}
 use Rattle.wasm_syntax.specs.declared.module.Module.{Module}
 use Rattle.wasm_steps.specs.declared.pause.Pause.{Pause}
 use Rattle.wasm_steps.specs.Steps.{CallsOf}
-use Rattle.wasm_interp.specs.declared.invoking.Event.{Event}
-use Rattle.wasm_interp.specs.declared.invoking.Event.TheVariants.{Asked, Paused, Returned}
+use Rattle.wasm_places.specs.declared.invocable.Event.{Event}
+use Rattle.wasm_places.specs.declared.invocable.Event.TheVariants.{Asked, Paused, Returned}
 use Rattle.wasm_interp.specs.Machine.{Snapshot, Represents}
 use Rattle.wasm_interp.specs.Promise.{Resumed}
 use Rattle.wasm_interp.specs.Invoking.{IsAsked, Returns}

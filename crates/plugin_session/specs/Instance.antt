@@ -6,8 +6,8 @@ use Rattle.wasm_syntax.specs.declared.module.ExportKind.TheVariants as exports
 use Rattle.wasm_syntax.specs.declared.module.Module.{Module}
 use Rattle.wasm_store.specs.declared.fault.InstanceFault.TheVariants.{Memory as NoMemory}
 use Rattle.wasm_store.specs.Allocating.{NotAllocated}
-use Rattle.wasm_interp.specs.declared.invoking.Event.{Event}
-use Rattle.wasm_interp.specs.declared.invoking.Event.TheVariants as events
+use Rattle.wasm_places.specs.declared.invocable.Event.{Event}
+use Rattle.wasm_places.specs.declared.invocable.Event.TheVariants as events
 use Rattle.wasm_steps.specs.Outcomes.{UnitsRise}
 use Rattle.wasm_interp.specs.Machine.{Snapshot, Represents, limited}
 use Rattle.wasm_interp.specs.Invoking as machine

@@ -2,9 +2,9 @@
 use Rattle.std.specs.Prelude.{◌≡◌, ◌⊎◌, ◌<◌, ℕ, List, length, Contains, Option, Some, None}
 use Rattle.wasm_syntax.specs.declared.module.ExportKind.TheVariants as exports
 use Rattle.wasm_syntax.specs.declared.module.Module.{Module}
-use Rattle.wasm_interp.specs.declared.invoking.NotAnswered.TheVariants as notAnswered
-use Rattle.wasm_interp.specs.declared.invoking.NotInvoked.TheVariants as notInvoked
-use Rattle.wasm_interp.specs.declared.invoking.NotWritten.TheVariants as notWritten
+use Rattle.wasm_places.specs.declared.invocable.NotAnswered.TheVariants as notAnswered
+use Rattle.wasm_places.specs.declared.invocable.NotInvoked.TheVariants as notInvoked
+use Rattle.wasm_places.specs.declared.invocable.NotWritten.TheVariants as notWritten
 use Rattle.wasm_interp.specs.Machine.{Snapshot}
 use Rattle.wasm_interp.specs.Invoking.{IsNotAnswered, IsNotInvoked, IsNotWritten}
 use Rattle.plugin_core.specs.declared.stage.Stage.{Stage}

@@ -9,7 +9,7 @@ use Rattle.wasm_syntax.specs.declared.module.Module.{Module}
 use Rattle.wasm_syntax.specs.declared.profile.Profile.{Profile}
 use Rattle.wasm_store.specs.declared.fault.InstanceFault.{InstanceFault}
 use Rattle.wasm_store.specs.Allocating.{NotAllocated}
-use Rattle.wasm_interp.specs.declared.invoking.Event.{Event}
+use Rattle.wasm_places.specs.declared.invocable.Event.{Event}
 use Rattle.wasm_interp.specs.Invoking.{IsAskedFor, IsAsking, results_of}
 use Rattle.wasm_interp.specs.Shared.{Ready}
 use Rattle.sandbox_core.specs.Session.{given}

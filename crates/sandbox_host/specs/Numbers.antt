@@ -7,8 +7,8 @@ use Rattle.sandbox_core.specs.declared.fault.SessionFault.TheVariants as opening
 use Rattle.vol_sector.specs.declared.fault.VolumeFault.{VolumeFault}
 use Rattle.vol_sector.specs.declared.fault.VolumeFault.TheVariants as volume
 use Rattle.wasm_store.specs.declared.fault.InstanceFault.{InstanceFault}
-use Rattle.wasm_interp.specs.declared.invoking.Event.{Event}
-use Rattle.wasm_interp.specs.declared.invoking.Event.TheVariants as event
+use Rattle.wasm_places.specs.declared.invocable.Event.{Event}
+use Rattle.wasm_places.specs.declared.invocable.Event.TheVariants as event
 use Rattle.plugin_session.specs.declared.handling.Misuse.{Misuse}
 use Rattle.plugin_session.specs.declared.handling.Misuse.TheVariants as misuse
 use Rattle.sandbox_report.specs.declared.fault.Fault.{Fault}

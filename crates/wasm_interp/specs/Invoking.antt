@@ -4,14 +4,14 @@ use Rattle.wasm_syntax.specs.declared.module.FuncType.{FuncType}
 use Rattle.wasm_syntax.specs.declared.module.Module.{Module}
 use Rattle.wasm_steps.specs.Steps.{CallsOf}
 use Rattle.wasm_store.specs.Allocation.{AllLinks}
-use Rattle.wasm_interp.specs.declared.invoking.NotAnswered.{NotAnswered}
-use Rattle.wasm_interp.specs.declared.invoking.NotAnswered.TheVariants.{NotAsked}
-use Rattle.wasm_interp.specs.declared.invoking.NotAnswered.TheVariants as notAnswered
-use Rattle.wasm_interp.specs.declared.invoking.NotInvoked.{NotInvoked}
-use Rattle.wasm_interp.specs.declared.invoking.NotInvoked.TheVariants.{Absent}
-use Rattle.wasm_interp.specs.declared.invoking.NotInvoked.TheVariants as notInvoked
-use Rattle.wasm_interp.specs.declared.invoking.NotWritten.{NotWritten}
-use Rattle.wasm_interp.specs.declared.invoking.NotWritten.TheVariants.{AtWork, PastEnd}
+use Rattle.wasm_places.specs.declared.invocable.NotAnswered.{NotAnswered}
+use Rattle.wasm_places.specs.declared.invocable.NotAnswered.TheVariants.{NotAsked}
+use Rattle.wasm_places.specs.declared.invocable.NotAnswered.TheVariants as notAnswered
+use Rattle.wasm_places.specs.declared.invocable.NotInvoked.{NotInvoked}
+use Rattle.wasm_places.specs.declared.invocable.NotInvoked.TheVariants.{Absent}
+use Rattle.wasm_places.specs.declared.invocable.NotInvoked.TheVariants as notInvoked
+use Rattle.wasm_places.specs.declared.invocable.NotWritten.{NotWritten}
+use Rattle.wasm_places.specs.declared.invocable.NotWritten.TheVariants.{AtWork, PastEnd}
 use Rattle.wasm_operands.specs.declared.phase.Phase.TheVariants.{Between}
 use Rattle.wasm_interp.specs.Machine.{Snapshot, Represents}
 use Rattle.wasm_interp.specs.Invocations.{InvokesBy, ReturnsBy, AsksBy, AnswersBy, LetsGoBy, WritesBy, OpensBy}

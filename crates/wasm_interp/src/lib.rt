@@ -17,9 +17,8 @@ mod shared;
 mod state;
 
 pub use frames::{Frame, frames_are_the_configurations};
-pub use invoking::{
-    AskedCall, Event, InvokedMachine, MOST_ARGUMENTS, NotAnswered, NotInvoked, NotWritten,
-};
+pub use wasm_places::invocable::{AskedCall, Event, NotAnswered, NotInvoked, NotWritten};
+pub use invoking::{InvokedMachine, MOST_ARGUMENTS};
 pub use laws::{
     limits_change_no_configuration, machines_keep_to_their_values, machines_show_their_stores,
 };

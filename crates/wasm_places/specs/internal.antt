@@ -4,3 +4,4 @@ pub mod Plain
 pub mod Programmed
 pub mod Fast
 pub mod InPlaces
+pub mod Lookups

@@ -3,10 +3,11 @@ use Rattle.std.proofs.Common.{◌≡◌, ℕ, ◌∙◌, [], length, ap, arith}
 use Rattle.std.specs.Global.{Vec}
 use Rattle.std.specs.Prelude.{vec_len, vec_capacity}
 use Rattle.wasm_operands.specs.declared.activation.Activation.{Activation}
-use Rattle.wasm_interp.specs.declared.begin.Stacks.{Stacks}
+use Rattle.wasm_places.specs.declared.lookups.Stacks.{Stacks}
 use Rattle.wasm_operands.specs.declared.phase.Phase.TheVariants.{Between}
 use Rattle.wasm_interp.specs.declared.state.State.{State}
-use Rattle.wasm_interp.specs.internal.Begun.{AreEmpty, IsFirst}
+use Rattle.wasm_places.specs.internal.Lookups.{AreEmpty}
+use Rattle.wasm_interp.specs.internal.Begun.{IsFirst}
 
 -- over empty stacks
 pub first_of : (stacks : Stacks) (s : State) → AreEmpty stacks → s.values ≡ stacks.values → s.suspended ≡ stacks.suspended → s.phase ≡ Between → s.used ≡ 0 → s.most_values ≡ 134217728 → IsFirst s

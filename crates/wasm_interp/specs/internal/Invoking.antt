@@ -1,8 +1,8 @@
 -- What the state is as a function is entered with arguments, and once one has returned.
 use Rattle.std.specs.Prelude.{◌≡◌, ◌⊎◌, ℕ, suc, ◌+◌, ◌≤◌, List, [], ◌∷◌, ◌++◌, drop, reverse, Option, Some, None, vec_capacity}
 use Rattle.wasm_steps.specs.declared.pause.Pause.{Pause}
-use Rattle.wasm_interp.specs.declared.invoking.Event.{Event}
-use Rattle.wasm_interp.specs.declared.invoking.Event.TheVariants.{Asked, Paused, Returned}
+use Rattle.wasm_places.specs.declared.invocable.Event.{Event}
+use Rattle.wasm_places.specs.declared.invocable.Event.TheVariants.{Asked, Paused, Returned}
 use Rattle.wasm_operands.specs.declared.phase.Phase.{Phase}
 use Rattle.wasm_operands.specs.declared.phase.Phase.TheVariants.{Within, Between, Asking}
 use Rattle.wasm_operands.specs.declared.phase.Ask.{Ask}

@@ -2,7 +2,7 @@ use Rattle.std.proofs.Common.{◌≡◌, ◌∙◌, ℕ, [], Option, None, Some,
 use Rattle.std.specs.Prelude.{◌⊎◌, IfSome, IfNone}
 use Rattle.std.specs.Arc.{arc_value}
 use Rattle.wasm_steps.specs.declared.pause.Pause.{Pause}
-use Rattle.wasm_interp.specs.declared.invoking.Event.TheVariants.{Asked, Paused, Returned}
+use Rattle.wasm_places.specs.declared.invocable.Event.TheVariants.{Asked, Paused, Returned}
 use Rattle.wasm_operands.specs.declared.phase.Ask.{Ask}
 use Rattle.wasm_operands.specs.declared.phase.Phase.{Phase}
 use Rattle.wasm_operands.specs.declared.phase.Phase.TheVariants.{Within, Between, Refused, Over, Asking}
