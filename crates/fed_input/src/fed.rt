@@ -112,7 +112,8 @@ impl Read for FedInput {
         ensures bound { ReadsAtMost result buf.new }
         ensures bytes { ReadConsumes (Some (left_of self.old)) (Some (left_of self.new)) result
             buf.new }
-        ensures told { MatchResult result (λ n. Gave self.old (take n buf.new) self.new) (λ _. Starves self.old self.new) }
+        ensures told { MatchResult result (λ n. Gave self.old (take n buf.new) self.new)
+            (λ _. Starves self.old self.new) }
     {
         if self.held() == 0 && !self.ended {
             return Err(io::Error::from(ErrorKind::WouldBlock));

@@ -84,7 +84,8 @@ where
     requires within { used_by instance.old ≤ fuel }
     requires opening { instance.old.stage ≡ stages.Opening }
     ensures { CallsOnce (devices D.Device R.Read W1.Write W2.Write R.gave R.refused W1.took
-        W1.refused W2.took W2.refused) instance.old instance.new name.now arguments.now fuel result }
+        W1.refused W2.took W2.refused) instance.old instance.new name.now arguments.now fuel
+        result }
 {
     let opening = go_until(instance, fuel);
     let CallEnd::Returned(_) = opening else {

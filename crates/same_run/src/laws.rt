@@ -98,8 +98,8 @@ pub fn same_program_run<
     X2: Outlet,
 >()
     ensures { SameProgramRun M.stands D.honest D.disk D.size D.failures D.goes_on R.remaining
-        W1.contents W2.contents (hearing R.gave R.refused W1.took W1.refused W2.took W2.refused) E.honest E.disk
-        E.size E.failures E.goes_on S.remaining X1.contents X2.contents
+        W1.contents W2.contents (hearing R.gave R.refused W1.took W1.refused W2.took W2.refused)
+        E.honest E.disk E.size E.failures E.goes_on S.remaining X1.contents X2.contents
         (hearing S.gave S.refused X1.took X1.refused X2.took X2.refused) }
 {}
 

@@ -55,7 +55,8 @@ fn arguments_of(
     guest: &Module<'_>,
 ) -> Result<Arguments, SessionFault>
     ensures { MatchResult result (λ a. AreArguments guest.now name.now (texts run.now.words.items)
-        a.numbers.items a.value_type) (HasNoArguments guest.now name.now (texts run.now.words.items)) }
+        a.numbers.items a.value_type) (HasNoArguments guest.now name.now
+        (texts run.now.words.items)) }
 {
     let Some(func_type) = exported_type(guest, name) else {
         return Err(SessionFault::Setting);
@@ -287,7 +288,8 @@ fn launch_call<D: Device + Drop, R: Inlet + Drop, W1: Outlet + Drop, W2: Outlet 
         W1.contents W2.contents (hearing R.gave R.refused W1.took W1.refused W2.took W2.refused)
         name.now valid.entry run.now parts.entry result.0 }
     ensures answered { RunAnswered W1.flushed W1.refuses W2.flushed W2.refuses result.0 }
-    ensures lines { AreLinesBy bytes.now valid.entry run.now.frames result.0.stopped result.1.items }
+    ensures lines { AreLinesBy bytes.now valid.entry run.now.frames result.0.stopped
+        result.1.items }
 {
     let parts = counted_parts(run, parts);
     let arguments = match arguments_of(alloc, run, name, valid.module()) {
@@ -327,7 +329,8 @@ pub(crate) fn invoke_valid<D: Device + Drop, R: Inlet + Drop, W1: Outlet + Drop,
         W2.contents (hearing R.gave R.refused W1.took W1.refused W2.took W2.refused) name.now
         run.now valid.entry random.now device streams.input streams.out streams.err result.0 }
     ensures answered { RunAnswered W1.flushed W1.refuses W2.flushed W2.refuses result.0 }
-    ensures lines { AreLinesBy bytes.now valid.entry run.now.frames result.0.stopped result.1.items }
+    ensures lines { AreLinesBy bytes.now valid.entry run.now.frames result.0.stopped
+        result.1.items }
 {
     match open_for_run(alloc, volume_of(run), device) {
         Ok(volume) => {

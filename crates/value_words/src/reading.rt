@@ -33,7 +33,8 @@ fn behind<'a>(word: &'a str, prefix: &str) -> Option<&'a str>
 /// The number that digits of this radix write.
 fn written(digits: &str, radix: u32) -> Option<u64>
     requires { (2 ≤ radix) × (radix ≤ 36) }
-    ensures { MatchOption result ((n : ℕ) → Writes radix digits.now n → ⊥) (Writes radix digits.now) }
+    ensures { MatchOption result ((n : ℕ) → Writes radix digits.now n → ⊥)
+        (Writes radix digits.now) }
 {
     match u64::from_str_radix(digits, radix) {
         Ok(number) => Some(number),
@@ -91,7 +92,8 @@ fn unsigned(word: &str, half: u64) -> Option<u64>
 /// The integer that a word writes, as one of twice this many numbers.
 fn integer(word: &str, half: u64) -> Option<u64>
     requires { (1 ≤ half) × (half ≤ 2 ^ 63) }
-    ensures { MatchOption result ((n : ℕ) → IsInteger half word.now n → ⊥) (IsInteger half word.now) }
+    ensures { MatchOption result ((n : ℕ) → IsInteger half word.now n → ⊥)
+        (IsInteger half word.now) }
 {
     let Some(rest) = behind(word, "-") else {
         return unsigned(word, half);
