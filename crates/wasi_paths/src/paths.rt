@@ -26,12 +26,12 @@ ghost use Rattle.wasi_bodies.specs.internal.Asking.{Passes, Stops};
 ghost use Rattle.wasi_bodies.specs.internal.paths.Walks.{StillWorks, ReachesFrom, Places, FindsBytes, starting_directory, reached_from};
 ghost use Rattle.wasi_bodies.specs.paths.Rows.{path_filestat_get as stat_row, path_create_directory as create_row};
 
-use wasi_bodies::checks::{DescriptorKinds, check_range, entry_at, write_bytes};
-use wasi_bodies::descriptors::stat::stat_entry;
-use wasi_bodies::errno::{EXIST, NOENT, refused};
 use path_walk::{Path, Reached, walk};
 use vol_sector::Device;
 use vol_tree::{Serial, Volume};
+use wasi_bodies::checks::{DescriptorKinds, check_range, entry_at, write_bytes};
+use wasi_bodies::descriptors::stat::stat_entry;
+use wasi_bodies::errno::{EXIST, NOENT, refused};
 use wasi_fd::{Descriptors, Fd, Opened, Rights};
 use wasm_store::{Errno, Memory};
 

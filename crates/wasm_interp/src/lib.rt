@@ -17,7 +17,6 @@ mod shared;
 mod state;
 
 pub use frames::{Frame, frames_are_the_configurations};
-pub use wasm_places::invocable::{AskedCall, Event, NotAnswered, NotInvoked, NotWritten};
 pub use invoking::{InvokedMachine, MOST_ARGUMENTS};
 pub use laws::{
     limits_change_no_configuration, machines_keep_to_their_values, machines_show_their_stores,
@@ -30,5 +29,6 @@ pub use state::MOST_VALUES;
 pub use wasm_num::Trap;
 pub use wasm_operands::activation::Activation;
 pub use wasm_operands::phase::{Ask, Phase};
+pub use wasm_places::invocable::{AskedCall, Event, NotAnswered, NotInvoked, NotWritten};
 pub use wasm_steps::{Outcome, Pause};
 pub use wasm_store::{Answer, Errno, Host, HostCall, InstanceFault, Memory};

@@ -69,10 +69,7 @@ fn file_to_move<'t>(
 }
 
 /// The size of a file.
-pub fn size_of<D: Device>(
-    volume: &mut Volume<D>,
-    serial: Serial,
-) -> Result<u32, vol_tree::Errno>
+pub fn size_of<D: Device>(volume: &mut Volume<D>, serial: Serial) -> Result<u32, vol_tree::Errno>
     requires { IsFileOf D.honest volume.old serial }
     ensures answer { D.honest volume.old.device
         → Tells (length (bytes_at volume.old.tree serial)) volume.old.tree volume.new.tree result }
@@ -143,12 +140,7 @@ fn position_at(from: u64, delta: u64) -> Result<u64, Errno>
 }
 
 /// Lets an open file stand at another position.
-pub fn move_to<'t>(
-    descriptors: &mut Descriptors<'t>,
-    fd: Fd,
-    opened: &Opened<'t>,
-    position: u64,
-)
+pub fn move_to<'t>(descriptors: &mut Descriptors<'t>, fd: Fd, opened: &Opened<'t>, position: u64)
     requires { IsOpenAs (table_of descriptors.old) fd opened.now }
     ensures moved { (k : ℕ) → table_of descriptors.new k ≡ with_at fd (moved_to opened.now position)
         (table_of descriptors.old) k }

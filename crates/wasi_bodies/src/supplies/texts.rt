@@ -9,8 +9,8 @@ ghost use Rattle.wasi_bodies.specs.Calls.{Answers};
 ghost use Rattle.wasi_bodies.specs.internal.Entries.{errno_of};
 
 use crate::checks::{check_range, write_bytes};
-use crate::settings::nul_terminated_len;
 use crate::numbers::{le32, low32};
+use crate::settings::nul_terminated_len;
 use wasm_store::{Errno, Memory};
 
 /// `args_sizes_get(count, size)`, `environ_sizes_get(count, size)`: how many texts there are, and how
@@ -111,12 +111,7 @@ fn write_texts(memory: &mut Memory, at: u32, texts: &[&[u8]])
 /// `args_get(pointers, buffer)`, `environ_get(pointers, buffer)`: the texts with a NUL after each, one after another, and
 /// a pointer to each.
 #[tactic(auto, using(crate::proofs::checks::Chains::goes_on, crate::proofs::checks::Chains::stops))]
-pub fn texts_get(
-    texts: &[&[u8]],
-    memory: &mut Memory,
-    at: u32,
-    buffer: u32,
-) -> Result<(), Errno>
+pub fn texts_get(texts: &[&[u8]], memory: &mut Memory, at: u32, buffer: u32) -> Result<(), Errno>
     requires { texts_fit texts.now ≡ true }
     ensures { (w : World) → Answers (texts_row (texts_of texts.now) w memory.old at buffer) w
         memory.old w memory.new (errno_of result) }

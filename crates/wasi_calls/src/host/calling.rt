@@ -3,10 +3,10 @@ ghost use Rattle.wasi_fd.specs.Table.{table_of};
 ghost use Rattle.wasm_store.specs.declared.call.HostCall.TheVariants as call;
 ghost use Rattle.wasi_bodies.specs.laws.Moments.{IsSynced};
 
-use wasi_bodies::errno::NOSYS;
 use crate::host::inner::Inner;
 use stream_answers::{Inlet, Outlet};
 use vol_sector::Device;
+use wasi_bodies::errno::NOSYS;
 use wasm_store::{Errno, HostCall, Memory};
 
 impl<'s, 't, D: Device, R: Inlet, W1: Outlet, W2: Outlet> Inner<'s, 't, D, R, W1, W2> {

@@ -3,12 +3,12 @@
 ghost use Rattle.wasi_fd.specs.Table.{table_of};
 ghost use Rattle.wasm_store.specs.declared.call.HostCall.TheVariants as call;
 
-use wasi_bodies::arguments::{descriptor, long, word};
-use wasi_bodies::descriptors;
-use wasi_bodies::descriptors::{positions, stat};
 use crate::host::inner::Inner;
 use stream_answers::{Inlet, Outlet};
 use vol_sector::Device;
+use wasi_bodies::arguments::{descriptor, long, word};
+use wasi_bodies::descriptors;
+use wasi_bodies::descriptors::{positions, stat};
 use wasm_store::{Errno, Memory};
 
 impl<'s, 't, D: Device, R: Inlet, W1: Outlet, W2: Outlet> Inner<'s, 't, D, R, W1, W2> {

@@ -6,6 +6,9 @@ ghost use Rattle.vol_tree.specs.Stands.{StandsAs};
 ghost use Rattle.wasi_fd.specs.Table.{table_of};
 ghost use Rattle.wasm_store.specs.declared.call.HostCall.TheVariants as call;
 
+use crate::host::inner::Inner;
+use stream_answers::{Inlet, Outlet};
+use vol_sector::Device;
 use wasi_bodies::arguments::{descriptor, long};
 use wasi_bodies::checks::buffers::Request;
 use wasi_bodies::checks::{DescriptorKinds, allowed};
@@ -13,10 +16,7 @@ use wasi_bodies::errno::NOTCAPABLE;
 use wasi_bodies::files;
 use wasi_bodies::files::listing::ListCall;
 use wasi_bodies::files::{listing, reading, writing};
-use crate::host::inner::Inner;
 use wasi_bodies::streams::{inputs, outputs};
-use stream_answers::{Inlet, Outlet};
-use vol_sector::Device;
 use wasi_fd::{Descriptor, Rights, Stream};
 use wasm_store::{Errno, Memory};
 

@@ -2,12 +2,12 @@
 
 ghost use Rattle.std.specs.Prelude.{◌≡◌};
 
-use wasi_bodies::settings::Settings;
 use crate::host::wasi_host::HostParts;
-use wasi_bodies::streams::{Input, Output, Terminals};
 use rand_chacha::ChaCha20Rng;
 use vol_sector::Device;
 use vol_tree::{MemorySpan, Volume};
+use wasi_bodies::settings::Settings;
+use wasi_bodies::streams::{Input, Output, Terminals};
 use wasi_fd::Descriptors;
 
 /// The fields of a host, with no invariant: `WasiHost` has it.

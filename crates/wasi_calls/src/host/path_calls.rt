@@ -3,16 +3,16 @@
 ghost use Rattle.wasi_fd.specs.Table.{table_of};
 ghost use Rattle.wasm_store.specs.declared.call.HostCall.TheVariants as call;
 
-use wasi_bodies::arguments::{descriptor, word};
 use crate::host::inner::Inner;
+use stream_answers::{Inlet, Outlet};
+use vol_inode::Kind;
+use vol_sector::Device;
+use wasi_bodies::arguments::{descriptor, word};
+use wasi_fd::Rights;
 use wasi_paths::paths;
 use wasi_paths::paths::opening::OpenCall;
 use wasi_paths::paths::renaming::RenameCall;
 use wasi_paths::paths::{opening, removing, renaming};
-use stream_answers::{Inlet, Outlet};
-use vol_inode::Kind;
-use vol_sector::Device;
-use wasi_fd::Rights;
 use wasm_store::{Errno, Memory};
 
 impl<'s, 't, D: Device, R: Inlet, W1: Outlet, W2: Outlet> Inner<'s, 't, D, R, W1, W2> {

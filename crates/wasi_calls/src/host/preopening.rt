@@ -13,10 +13,10 @@ ghost use Rattle.wasi_fd.specs.declared.table.TheConstants.{PLACES};
 
 use crate::host::fault::HostFault;
 use crate::host::inner::Inner;
-use wasi_bodies::settings::{MOST_PREOPENS, Preopen};
 use path_walk::{Reached, is_directory, walk_from_root};
 use vol_sector::Device;
 use vol_tree::{Errno, Serial, Volume};
+use wasi_bodies::settings::{MOST_PREOPENS, Preopen};
 use wasi_fd::{Descriptor, Descriptors, EntryKind, Opened, Rights};
 
 /// Why no directory is opened where the volume refuses a call.

@@ -2,11 +2,11 @@
 
 ghost use Rattle.wasm_store.specs.declared.call.HostCall.TheVariants as call;
 
-use wasi_bodies::arguments::word;
 use crate::host::inner::Inner;
-use wasi_bodies::supplies::{clocks, random, texts};
 use stream_answers::{Inlet, Outlet};
 use vol_sector::Device;
+use wasi_bodies::arguments::word;
+use wasi_bodies::supplies::{clocks, random, texts};
 use wasm_store::{Errno, Memory};
 
 impl<'s, 't, D: Device, R: Inlet, W1: Outlet, W2: Outlet> Inner<'s, 't, D, R, W1, W2> {

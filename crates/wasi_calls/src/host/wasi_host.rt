@@ -3,14 +3,9 @@
 ghost use Rattle.std.specs.Prelude.{◌≡◌, IfOk, IfErr};
 ghost use Rattle.wasi_bodies.specs.internal.Entries.{errno_of};
 
-use wasi_bodies::arguments::word;
-use wasi_bodies::checks::buffers::MOST_BUFFERS;
 use crate::host::fault::HostFault;
 use crate::host::inner::Inner;
-use wasi_bodies::settings::Settings;
 use crate::host::{VolumeHost, linking};
-use wasi_bodies::streams::inputs::INPUT_PIECE;
-use wasi_bodies::streams::{Input, Output, Terminals};
 use rand_chacha::ChaCha20Rng;
 use rand_core::SeedableRng;
 use std::alloc::Global;
@@ -18,6 +13,11 @@ use std::marker::Model;
 use stream_answers::{Inlet, Outlet};
 use vol_sector::Device;
 use vol_tree::Volume;
+use wasi_bodies::arguments::word;
+use wasi_bodies::checks::buffers::MOST_BUFFERS;
+use wasi_bodies::settings::Settings;
+use wasi_bodies::streams::inputs::INPUT_PIECE;
+use wasi_bodies::streams::{Input, Output, Terminals};
 use wasi_fd::Descriptors;
 use wasm_module::FuncType;
 use wasm_store::{Answer, Errno, Host, HostCall, Memory};

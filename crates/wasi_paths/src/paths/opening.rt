@@ -20,15 +20,15 @@ ghost use Rattle.wasi_bodies.specs.internal.paths.Walks.{StillWorks, Places};
 ghost use Rattle.path_walk.specs.Walk.{Asked};
 ghost use Rattle.wasi_paths.specs.internal.paths.Opening.{flags_checked, found_checked, missing_checked, open_entered, IsTarget, LeadsToSerial, CanOpen, made, ChecksAs, Targets, AreSerials, with_both};
 
-use wasi_bodies::arguments::{descriptor, long, word};
-use wasi_bodies::checks::{DescriptorKinds, check_range, check_that, entry_at, write_bytes};
-use wasi_bodies::errno::{EXIST, ISDIR, MFILE, NOENT, NOTDIR, NOTSUP, refused};
-use wasi_bodies::numbers::le32;
 use crate::paths::reach;
 use bitflags::Flags;
 use path_walk::{Reached, is_directory, wants_a_directory};
 use vol_sector::Device;
 use vol_tree::{Serial, Volume};
+use wasi_bodies::arguments::{descriptor, long, word};
+use wasi_bodies::checks::{DescriptorKinds, check_range, check_that, entry_at, write_bytes};
+use wasi_bodies::errno::{EXIST, ISDIR, MFILE, NOENT, NOTDIR, NOTSUP, refused};
+use wasi_bodies::numbers::le32;
 use wasi_fd::{Descriptor, Descriptors, EntryKind, Fd, Opened, Rights};
 use wasm_store::{Errno, Memory};
 

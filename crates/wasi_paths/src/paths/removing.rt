@@ -16,12 +16,12 @@ ghost use Rattle.wasi_bodies.specs.internal.paths.Walks.{StillWorks};
 ghost use Rattle.wasi_bodies.specs.internal.Asking.{Asks};
 ghost use Rattle.wasi_paths.specs.internal.paths.Removing.{found_at, removable as removable_row, removal_checked, is_kind, taken_out, remove as remove_row};
 
-use wasi_bodies::errno::{BUSY, ISDIR, NOENT, NOTDIR, refused};
 use crate::paths::reach_from;
 use path_walk::{Reached, is_directory};
 use vol_inode::Kind;
 use vol_sector::Device;
 use vol_tree::{Serial, Volume};
+use wasi_bodies::errno::{BUSY, ISDIR, NOENT, NOTDIR, refused};
 use wasi_fd::{Descriptors, Fd, Rights};
 use wasm_store::{Errno, Memory};
 

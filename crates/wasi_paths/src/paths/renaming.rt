@@ -22,15 +22,17 @@ ghost use Rattle.path_walk.specs.Walk.{Asked};
 ghost use Rattle.wasi_paths.specs.internal.paths.Renaming.{AreFacts, replace_checked, ReplacesAs, RenamesTo, rename_allowed, rename_entered, source_checked, WalksBoth};
 ghost use Rattle.wasi_paths.specs.internal.paths.Climbing.{IsAbove};
 
-use wasi_bodies::arguments::{descriptor, word};
-use wasi_bodies::checks::{DescriptorKinds, check_range, check_rights, check_that, described, opened_of};
-use wasi_bodies::errno::{BUSY, ISDIR, NOENT, NOTDIR, NOTEMPTY, refused};
 use crate::paths::reach;
 use crate::paths::removing::is_held;
 use path_walk::{Reached, is_directory, wants_a_directory};
 use vol_inode::is_name;
 use vol_sector::Device;
 use vol_tree::{Serial, Volume};
+use wasi_bodies::arguments::{descriptor, word};
+use wasi_bodies::checks::{
+    DescriptorKinds, check_range, check_rights, check_that, described, opened_of,
+};
+use wasi_bodies::errno::{BUSY, ISDIR, NOENT, NOTDIR, NOTEMPTY, refused};
 use wasi_fd::{Descriptor, Descriptors, Fd, Opened, Rights};
 use wasm_store::{Errno, Memory};
 
