@@ -1,8 +1,8 @@
 -- A part of memory that is lent.
-use Rattle.std.proofs.Common.{◌≡◌, ℕ, ◌+◌, ◌-◌, ◌≤◌, List, ◌++◌, length, take, drop, replicate, sym, ap, ◌∙◌, arith, length-append, length-take, length-drop}
+use Rattle.std.proofs.Common.{◌≡◌, ℕ, zero, suc, ◌+◌, ◌-◌, ◌≤◌, List, [], ◌∷◌, ◌++◌, length, take, drop, replicate, refl, sym, ap, ◌∙◌, arith, length-append, length-take, length-drop}
 use Rattle.std.proofs.Math.Seq.{take-append_seam}
-use Rattle.std.proofs.lemmas.List.{drop-drop, take_all}
-use Rattle.wasm_store.specs.Bytes.{bytes_at, written}
+use Rattle.std.proofs.lemmas.List.{drop-drop, take_all, drop-replicate, take-replicate}
+use Rattle.wasm_store.specs.Bytes.{bytes_at, filled, written}
 use Rattle.wasm_store.specs.Lending.{rewritten}
 
 -- what the vector of the bytes ends as
@@ -30,3 +30,27 @@ pub grown_bytes : (len n more : ℕ) (bytes : List ℕ) → len ≡ length bytes
 grown_bytes len n more bytes size to =
     let added : n - len ≡ more = omega (arith, to) in
     ap (λ l. l ++ replicate (n - len) 0) (take_all n bytes (omega (arith, size, to))) ∙ ap (λ k. bytes ++ replicate k 0) added
+
+-- what stands from a place on in two lists, one behind the other
+pub drop-append : {A : Type 0} (n : ℕ) (xs ys : List A) → drop n (xs ++ ys) ≡ drop n xs ++ drop (n - length xs) ys
+drop-append zero [] ys = refl
+drop-append zero (x ∷ xs) ys = refl
+drop-append (suc n) [] ys = refl
+drop-append (suc n) (x ∷ xs) ys = let e : suc n - length (x ∷ xs) ≡ n - length xs = omega arith in drop-append n xs ys ∙ ap (λ k. drop n xs ++ drop k ys) (sym e)
+
+-- the first of two lists, one behind the other
+pub take-append : {A : Type 0} (n : ℕ) (xs ys : List A) → take n (xs ++ ys) ≡ take n xs ++ take (n - length xs) ys
+take-append zero [] ys = refl
+take-append zero (x ∷ xs) ys = refl
+take-append (suc n) [] ys = refl
+take-append (suc n) (x ∷ xs) ys = let e : suc n - length (x ∷ xs) ≡ n - length xs = omega arith in ap (λ l. x ∷ l) (take-append n xs ys ∙ ap (λ k. take n xs ++ take k ys) (sym e))
+
+-- bytes of memory are those of its first part and then zeros
+pub read_filled : (size a n : ℕ) (bytes : List ℕ) → a + n ≤ size → length bytes ≤ size
+    → bytes_at (filled size bytes) a n ≡ take n (drop a bytes) ++ replicate (n - length (drop a bytes)) 0
+read_filled size a n bytes inside part =
+    let zeros = size - length bytes in
+    let left : n - length (drop a bytes) ≤ zeros - (a - length bytes) = simp (length-drop) (omega (arith, inside, part)) in
+    ap (take n) (drop-append a bytes (replicate zeros 0)) ∙ take-append n (drop a bytes) (drop (a - length bytes) (replicate zeros 0))
+    ∙ ap (λ l. take n (drop a bytes) ++ take (n - length (drop a bytes)) l) (drop-replicate (a - length bytes) zeros 0)
+    ∙ ap (λ l. take n (drop a bytes) ++ l) (take-replicate (n - length (drop a bytes)) (zeros - (a - length bytes)) 0 left)

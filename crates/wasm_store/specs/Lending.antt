@@ -1,7 +1,8 @@
 -- What memory (section 4.2.8) ends as, where a part of it is lent to be written. `slice_mut` and `part_mut` cite it:
 -- their caller writes after they have returned, so they promise what memory is once the loan ends.
-use Rattle.std.specs.Prelude.{ℕ, List, length, Option}
-use Rattle.std.specs.Borrow.{Lends, LendsIf, Fml, MutBor, Array, u8}
+use Rattle.std.specs.Prelude.{◌≡◌, ⊤, ℕ, List, length, Option}
+use Rattle.std.specs.Borrow.{Lends, LendsIf, follows_so, Fml, MutBor, Array, u8}
+use mathlib.Core.Option.{none}
 use Rattle.std.specs.List.{refill}
 use Rattle.wasm_store.specs.contracts.memory.Memory.{the_row}
 use Rattle.wasm_store.specs.Bytes.{written}
@@ -17,3 +18,7 @@ LendsPart memory address part = Lends the_row (Array u8 0) memory part (rewritte
 -- the same where the part is lent; else memory stays
 abbrev pub LendsPartIf : MutBor (List ℕ) → ℕ → Option (MutBor (List ℕ)) → Fml
 LendsPartIf memory address part = LendsIf the_row (Array u8 0) memory part (rewritten memory.now address) memory.now
+
+-- memory stays, once what was lent to be read is gone
+abbrev pub Stays : MutBor (List ℕ) → Fml
+Stays memory = follows_so the_row the_row memory.ghost_name none (λ _ _. ⊤) (λ last. last ≡ memory.now)

@@ -112,7 +112,7 @@ impl Memory {
     ghost use Rattle.std.specs.Bool.{OnTrue, OnFalse};
     ghost use Rattle.std.specs.Borrow.{sem};
     ghost use Rattle.wasm_store.specs.Bytes.{from_bytes, to_bytes, bytes_at, written};
-    ghost use Rattle.wasm_store.specs.Lending.{LendsPart, LendsPartIf};
+    ghost use Rattle.wasm_store.specs.Lending.{LendsPart, LendsPartIf, Stays};
 
     /// Memory of this many pages of 65,536 bytes, all zeros.
     pub fn new(alloc: Global, pages: u32) -> Result<Memory, AllocError>
@@ -154,10 +154,10 @@ impl Memory {
 
     /// This many bytes from an address, where they are in memory. They are touched, which memory doesn't show.
     pub fn slice(&mut self, address: u32, len: u32) -> Option<&[u8]>
+        ensures* same { sem 𝓛 (Stays self.entry) }
         ensures inside { IfSome result (λ s. (address + len ≤ length self.old)
             × (s.now ≡ bytes_at self.old address len)) }
         ensures outside { IfNone result (length self.old < address + len) }
-        ensures same { self.new ≡ self.old }
     {
         if self.size < address as usize + len as usize {
             return None;
