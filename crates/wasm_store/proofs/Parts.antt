@@ -1,6 +1,7 @@
 -- A part of memory that is lent.
 use Rattle.std.proofs.Common.{◌≡◌, ℕ, zero, suc, ◌+◌, ◌-◌, ◌≤◌, List, [], ◌∷◌, ◌++◌, length, take, drop, replicate, refl, sym, ap, ◌∙◌, arith, length-append, length-take, length-drop}
 use Rattle.std.proofs.Math.Seq.{take-append_seam}
+pub use Rattle.std.proofs.lemmas.List.{drop_min}
 use Rattle.std.proofs.lemmas.List.{drop-drop, take_all, drop-replicate, take-replicate}
 use Rattle.wasm_store.specs.Bytes.{bytes_at, filled, written}
 use Rattle.wasm_store.specs.Lending.{rewritten}

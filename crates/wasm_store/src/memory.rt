@@ -1,6 +1,7 @@
 //! The memory of a guest.
 
 ghost use Rattle.std.specs.Prelude.{◌≡◌, ◌+◌, ◌≤◌, length, vec_len, vec_capacity, ℕ};
+ghost use Rattle.std.specs.Bool.{OnTrue, OnFalse};
 ghost use Rattle.wasm_store.specs.Bytes.{bytes_at, filled, written};
 
 use byteorder::{ByteOrder, LittleEndian};
@@ -64,6 +65,7 @@ fn copy_bytes(bytes: &mut Vec<u8>, source: usize, target: usize, len: usize)
     ensures items { bytes.new.items ≡ written bytes.old.items target
         (bytes_at bytes.old.items source len) }
     ensures len { vec_len bytes.new ≡ vec_len bytes.old }
+    ensures room { vec_capacity bytes.new ≡ vec_capacity bytes.old }
 {
     if source + len <= target {
         copy_up(bytes.as_mut_slice(), source, target, len);
@@ -74,12 +76,28 @@ fn copy_bytes(bytes: &mut Vec<u8>, source: usize, target: usize, len: usize)
     }
 }
 
+/// Writes bytes from a place on, or nothing where they would pass the end.
+#[inline]
+fn put_within(place: &mut [u8], start: usize, bytes: &[u8]) -> bool
+    ensures inside { OnTrue result ((start + length bytes.now ≤ length place.old)
+        × (place.new ≡ written place.old start bytes.now)) }
+    ensures outside { OnFalse result (place.new ≡ place.old) }
+{
+    let len = bytes.len();
+    if place.len() < len || place.len() - len < start {
+        return false;
+    }
+    place[start..start + len].copy_from_slice(bytes);
+    true
+}
+
 /// Copies the bytes from a place on, those of the first part and then zeros.
+#[tactic(auto, using(crate::proofs::Parts::read_filled, crate::proofs::Parts::drop_min))]
 fn read_part(bytes: &[u8], start: usize, room: &mut [u8])
     ensures { (size : ℕ) → start + length room.old ≤ size → length bytes.now ≤ size
         → room.new ≡ bytes_at (filled size bytes.now) start (length room.old) }
 {
-    let part = bytes.get(start..).unwrap_or(&[]);
+    let part = &bytes[start.min(bytes.len())..];
     let len = part.len().min(room.len());
     let (front, back) = room.split_at_mut(len);
     front.copy_from_slice(&part[..len]);
@@ -224,12 +242,10 @@ impl Memory {
         ensures outside { OnFalse result ((length self.old < start + length bytes.now)
             × (self.new ≡ self.old)) }
     {
-        let len = bytes.len();
-        if self.bytes.len() < len || self.bytes.len() - len < start {
-            return self.put_behind(start, bytes);
+        if put_within(self.bytes.as_mut_slice(), start, bytes) {
+            return true;
         }
-        self.bytes.as_mut_slice()[start..start + len].copy_from_slice(bytes);
-        true
+        self.put_behind(start, bytes)
     }
 
     /// Writes these bytes from a place on, also behind the first part, or nothing where they would pass the end.
