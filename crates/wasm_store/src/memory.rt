@@ -1,6 +1,6 @@
 //! The memory of a guest.
 
-ghost use Rattle.std.specs.Prelude.{◌≡◌, ◌+◌, ◌≤◌, length, vec_len, vec_capacity, ℕ};
+ghost use Rattle.std.specs.Prelude.{◌≡◌, ◌+◌, ◌^◌, ◌<◌, ◌≤◌, length, vec_len, vec_capacity, ℕ};
 ghost use Rattle.std.specs.Bool.{OnTrue, OnFalse};
 ghost use Rattle.wasm_store.specs.Bytes.{bytes_at, filled, written};
 
@@ -79,20 +79,20 @@ fn copy_bytes(bytes: &mut Vec<u8>, source: usize, target: usize, len: usize)
 /// Writes bytes from a place on, or nothing where they would pass the end.
 #[inline]
 fn put_within(place: &mut [u8], start: usize, bytes: &[u8]) -> bool
+    requires { start + length bytes.now < 2 ^ 64 }
     ensures inside { OnTrue result ((start + length bytes.now ≤ length place.old)
         × (place.new ≡ written place.old start bytes.now)) }
     ensures outside { OnFalse result (place.new ≡ place.old) }
 {
-    let len = bytes.len();
-    if place.len() < len || place.len() - len < start {
+    let count = bytes.len();
+    if place.len() < start + count {
         return false;
     }
-    place[start..start + len].copy_from_slice(bytes);
+    place[start..start + count].copy_from_slice(bytes);
     true
 }
 
 /// Copies the bytes from a place on, those of the first part and then zeros.
-#[tactic(auto, using(crate::proofs::Parts::read_filled, crate::proofs::Parts::drop_min))]
 fn read_part(bytes: &[u8], start: usize, room: &mut [u8])
     ensures { (size : ℕ) → start + length room.old ≤ size → length bytes.now ≤ size
         → room.new ≡ bytes_at (filled size bytes.now) start (length room.old) }
@@ -130,7 +130,7 @@ impl Memory {
     ghost use Rattle.std.specs.Bool.{OnTrue, OnFalse};
     ghost use Rattle.std.specs.Borrow.{sem};
     ghost use Rattle.wasm_store.specs.Bytes.{from_bytes, to_bytes, bytes_at, written};
-    ghost use Rattle.wasm_store.specs.Lending.{LendsPart, LendsPartIf, Stays};
+    ghost use Rattle.wasm_store.specs.Lending.{LendsPart, Stays};
 
     /// Memory of this many pages of 65,536 bytes, all zeros.
     pub fn new(alloc: Global, pages: u32) -> Result<Memory, AllocError>
@@ -185,44 +185,16 @@ impl Memory {
         self.bytes.get(start..end)
     }
 
-    /// This many bytes from an address, to be written, where they are in memory.
-    pub fn slice_mut(&mut self, address: u32, len: u32) -> Option<&mut [u8]>
-        ensures* writes_back { sem 𝓛 (LendsPartIf self.entry address result) }
-        ensures inside { IfSome result (λ s. (address + len ≤ length self.old)
-            × (s.now ≡ bytes_at self.old address len)) }
-        ensures outside { IfNone result (length self.old < address + len) }
-    {
-        if self.has_range(address, len) {
-            Some(self.range_mut(address, len))
-        } else {
-            None
-        }
-    }
-
-    /// Whether this many bytes from an address are in memory, also where there are none of them.
-    fn has_range(&self, address: u32, len: u32) -> bool
-        ensures { IsTrue result ↔ (address + len ≤ length self.now) }
-    {
-        address as usize + len as usize <= self.size
-    }
-
-    /// This many bytes from an address, to be written.
-    fn range_mut(&mut self, address: u32, len: u32) -> &mut [u8]
-        requires { address + len ≤ length self.old }
-        ensures* writes_back { sem 𝓛 (LendsPart self.entry address result) }
-        ensures value { result.now ≡ bytes_at self.old address len }
-    {
-        self.part_mut(address as usize, len as usize)
-    }
-
-    /// This many bytes from a place on, to be written. They have to be in memory.
+    /// The bytes from a place on, at least this many, to be written. So many have to be in memory.
     pub fn part_mut(&mut self, start: usize, len: usize) -> &mut [u8]
         requires { start + len ≤ length self.old }
         ensures* writes_back { sem 𝓛 (LendsPart self.entry start result) }
-        ensures value { result.now ≡ bytes_at self.old start len }
+        ensures long { len ≤ length result.now }
+        ensures inside { start + length result.now ≤ length self.old }
+        ensures value { result.now ≡ bytes_at self.old start (length result.now) }
     {
         touch(&mut self.bytes, self.size, start + len);
-        self.bytes.slice_mut(start..start + len)
+        self.bytes.slice_mut(start..)
     }
 
     /// Writes these bytes from an address on, or nothing where they would pass the end.
@@ -236,21 +208,8 @@ impl Memory {
     }
 
     /// Writes these bytes from a place on, or nothing where they would pass the end.
-    pub(crate) fn put(&mut self, start: usize, bytes: &[u8]) -> bool
-        ensures inside { OnTrue result ((start + length bytes.now ≤ length self.old)
-            × (self.new ≡ written self.old start bytes.now)) }
-        ensures outside { OnFalse result ((length self.old < start + length bytes.now)
-            × (self.new ≡ self.old)) }
-    {
-        if put_within(self.bytes.as_mut_slice(), start, bytes) {
-            return true;
-        }
-        self.put_behind(start, bytes)
-    }
-
-    /// Writes these bytes from a place on, also behind the first part, or nothing where they would pass the end.
     #[inline(never)]
-    fn put_behind(&mut self, start: usize, bytes: &[u8]) -> bool
+    pub(crate) fn put(&mut self, start: usize, bytes: &[u8]) -> bool
         ensures inside { OnTrue result ((start + length bytes.now ≤ length self.old)
             × (self.new ≡ written self.old start bytes.now)) }
         ensures outside { OnFalse result ((length self.old < start + length bytes.now)
@@ -265,8 +224,8 @@ impl Memory {
         true
     }
 
-    /// Writes these bytes from a place on, or nothing where they would pass the end. It compares once, as a load does, since the end
-    /// is a number; `put` compares twice.
+    /// Writes these bytes from a place on, or nothing where they would pass the end. Within the first part it compares once, as
+    /// a load does, since the end is a number.
     fn put_before(&mut self, start: usize, bytes: &[u8]) -> bool
         requires { start + length bytes.now < 2 ^ 64 }
         ensures inside { OnTrue result ((start + length bytes.now ≤ length self.old)
@@ -274,12 +233,10 @@ impl Memory {
         ensures outside { OnFalse result ((length self.old < start + length bytes.now)
             × (self.new ≡ self.old)) }
     {
-        let count = bytes.len();
-        if self.bytes.len() < start + count {
-            return false;
+        if put_within(self.bytes.as_mut_slice(), start, bytes) {
+            return true;
         }
-        self.bytes.as_mut_slice()[start..start + count].copy_from_slice(bytes);
-        true
+        self.put(start, bytes)
     }
 
     /// This many bytes from a base and an offset, where they are in the first part.
