@@ -130,7 +130,7 @@ impl Memory {
     ghost use Rattle.std.specs.Bool.{OnTrue, OnFalse};
     ghost use Rattle.std.specs.Borrow.{sem};
     ghost use Rattle.wasm_store.specs.Bytes.{from_bytes, to_bytes, bytes_at, written};
-    ghost use Rattle.wasm_store.specs.Lending.{LendsPart, Stays};
+    ghost use Rattle.wasm_store.specs.Lending.{IsPart, LendsPart, LendsPartIf, Stays};
 
     /// Memory of this many pages of 65,536 bytes, all zeros.
     pub fn new(alloc: Global, pages: u32) -> Result<Memory, AllocError>
@@ -185,13 +185,41 @@ impl Memory {
         self.bytes.get(start..end)
     }
 
+    /// The bytes from an address on, at least this many, to be written, where so many are in memory.
+    pub fn slice_mut(&mut self, address: u32, len: u32) -> Option<&mut [u8]>
+        ensures* writes_back { sem 𝓛 (LendsPartIf self.entry address result) }
+        ensures inside { IfSome result (λ s. (address + len ≤ length self.old)
+            × (IsPart self.old address len s.now)) }
+        ensures outside { IfNone result (length self.old < address + len) }
+    {
+        if self.has_range(address, len) {
+            Some(self.range_mut(address, len))
+        } else {
+            None
+        }
+    }
+
+    /// Whether this many bytes from an address are in memory, also where there are none of them.
+    fn has_range(&self, address: u32, len: u32) -> bool
+        ensures { IsTrue result ↔ (address + len ≤ length self.now) }
+    {
+        address as usize + len as usize <= self.size
+    }
+
+    /// The bytes from an address on, at least this many, to be written.
+    fn range_mut(&mut self, address: u32, len: u32) -> &mut [u8]
+        requires { address + len ≤ length self.old }
+        ensures* writes_back { sem 𝓛 (LendsPart self.entry address result) }
+        ensures value { IsPart self.old address len result.now }
+    {
+        self.part_mut(address as usize, len as usize)
+    }
+
     /// The bytes from a place on, at least this many, to be written. So many have to be in memory.
     pub fn part_mut(&mut self, start: usize, len: usize) -> &mut [u8]
         requires { start + len ≤ length self.old }
         ensures* writes_back { sem 𝓛 (LendsPart self.entry start result) }
-        ensures long { len ≤ length result.now }
-        ensures inside { start + length result.now ≤ length self.old }
-        ensures value { result.now ≡ bytes_at self.old start (length result.now) }
+        ensures value { IsPart self.old start len result.now }
     {
         touch(&mut self.bytes, self.size, start + len);
         self.bytes.slice_mut(start..)

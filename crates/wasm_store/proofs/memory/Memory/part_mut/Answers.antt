@@ -18,9 +18,13 @@ returns c =
       (refl, λ w. part_written size bytes.len start bytes.items part w bytes.ok.0 before value ∙ ap (λ (m : List ℕ). rewritten m start part w) same),
       record {
         writes_back = tt;
-        long = omega (arith, count, c.touch.ensures.touched);
-        inside = omega (arith, count, all, before, c.touch.ensures.part);
-        value = value ∙ part_lent size bytes.len start bytes.items bytes.ok.0 before
-            ∙ ap (λ (l : List ℕ). bytes_at (filled size bytes.items) start (length l)) (sym value) ∙ ap (λ (m : List ℕ). bytes_at m start (length part)) same;
+        value = (
+          omega (arith, count, c.touch.ensures.touched),
+          (
+            omega (arith, count, all, before, c.touch.ensures.part),
+            value ∙ part_lent size bytes.len start bytes.items bytes.ok.0 before
+            ∙ ap (λ (l : List ℕ). bytes_at (filled size bytes.items) start (length l)) (sym value) ∙ ap (λ (m : List ℕ). bytes_at m start (length part)) same,
+          ),
+        );
       },
     )
