@@ -3,7 +3,7 @@ use Rattle.std.proofs.Common.{◌≡◌, ℕ, zero, suc, ◌+◌, ◌-◌, ◌�
 use Rattle.std.proofs.Math.Seq.{take-append_seam, drop-append_seam}
 use Rattle.std.proofs.lemmas.List.{take-append-le, drop-drop, take_all, take_min, drop_min, length-replicate, drop-replicate, take-replicate}
 use Rattle.std.specs.List.{refill, length_refill}
-use Rattle.wasm_store.specs.Bytes.{bytes_at, filled, written}
+use Rattle.wasm_store.specs.Bytes.{bytes_at, filled}
 use Rattle.wasm_store.specs.Lending.{rewritten}
 
 -- a part by its end

@@ -1,4 +1,4 @@
-use Rattle.std.proofs.Common.{◌≡◌, ◌+◌, ◌≤◌, ◌∙◌, length, ap}
+use Rattle.std.proofs.Common.{length}
 use Rattle.wasm_store.proofs.Parts.{part_from, part_copied}
 use Rattle.wasm_store.proofs.memory.read_part.Goals as goal
 

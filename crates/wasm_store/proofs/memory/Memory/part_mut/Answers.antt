@@ -1,4 +1,4 @@
-use Rattle.std.proofs.Common.{◌≡◌, ◌+◌, ◌-◌, ◌≤◌, ◌∙◌, ℕ, List, length, take, drop, refl, ap, sym, arith, length-take, length-drop}
+use Rattle.std.proofs.Common.{◌≡◌, ◌-◌, ◌≤◌, ◌∙◌, ℕ, List, length, take, drop, refl, ap, sym, arith, length-take, length-drop}
 use Rattle.wasm_store.specs.Bytes.{bytes_at, filled}
 use Rattle.wasm_store.specs.Lending.{rewritten}
 use Rattle.wasm_store.proofs.Parts.{length_filled, part_lent, part_written}

@@ -1,5 +1,5 @@
 -- `slice_mut` lends a part of memory, which memory follows, or nothing, where memory stays.
-use Rattle.std.proofs.Common.{◌≡◌, ℕ, ◌+◌, ◌<◌, ◌≤◌, List, [], ◌∷◌, length, Bool, Option, Some, None, IfSome, IfNone, IsTrue, ◌↔◌, refl, sym, ap, ◌∙◌, lit<, lt_of_not-le, true≢false, w32, Bor, MutBor}
+use Rattle.std.proofs.Common.{ℕ, ◌+◌, ◌<◌, ◌≤◌, List, [], ◌∷◌, length, Bool, Option, Some, None, IfSome, IfNone, IsTrue, ◌↔◌, refl, sym, ap, ◌∙◌, lit<, lt_of_not-le, true≢false, w32, Bor, MutBor}
 use Rattle.std.proofs.VecSteps.Element.{Some-of, none_of}
 use Rattle.std.proofs.raw_atomic.Walks.{proved}
 use Rattle.std.specs.contracts.option.Option as Opt
