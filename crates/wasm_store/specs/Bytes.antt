@@ -23,3 +23,7 @@ written memory a bs = take a memory ++ (bs ++ drop (a + length bs) memory)
 -- these bytes and zeros behind them, up to a size
 abbrev pub filled : ℕ → List ℕ → List ℕ
 filled size bytes = bytes ++ replicate (size - length bytes) 0
+
+-- memory as it is shown: its bytes, and how many of the first of them can be lent
+abbrev pub ShownMemory : Type 0
+ShownMemory = record { bytes : List ℕ; lent : ℕ }

@@ -126,10 +126,10 @@ fn touch(bytes: &mut Vec<u8>, size: usize, end: usize)
 }
 
 impl Memory {
-    ghost use Rattle.std.specs.Prelude.{◌≡◌, ℕ, ◌+◌, ◌*◌, ◌/◌, ◌^◌, ◌<◌, ◌≤◌, ◌⊎◌, ◌++◌, length, replicate, IfOk, IsSome, IfSome, IfNone, IsTrue, ◌↔◌};
+    ghost use Rattle.std.specs.Prelude.{◌≡◌, ℕ, ◌+◌, ◌*◌, ◌/◌, ◌^◌, ◌<◌, ◌≤◌, ◌⊎◌, ◌++◌, length, replicate, min, IfOk, IsSome, IfSome, IfNone, IsTrue, ◌↔◌};
     ghost use Rattle.std.specs.Bool.{OnTrue, OnFalse};
     ghost use Rattle.std.specs.Borrow.{sem};
-    ghost use Rattle.wasm_store.specs.Bytes.{from_bytes, to_bytes, bytes_at, written};
+    ghost use Rattle.wasm_store.specs.Bytes.{from_bytes, to_bytes, bytes_at, filled, written};
     ghost use Rattle.wasm_store.specs.Lending.{IsPart, LendsPart, LendsPartIf, Stays};
 
     /// Memory of this many pages of 65,536 bytes, all zeros.
@@ -183,6 +183,18 @@ impl Memory {
         let (start, end) = (address as usize, address as usize + len as usize);
         touch(&mut self.bytes, self.size, end);
         self.bytes.get(start..end)
+    }
+
+    /// The first part of memory, which reaches to this end or to memory's. It is touched, which memory doesn't show. What
+    /// stands behind the part are zeros.
+    pub fn first_part(&mut self, end: usize) -> &[u8]
+        ensures* same { sem 𝓛 (Stays self.entry) }
+        ensures within { length result.now ≤ length self.old }
+        ensures long { min end (length self.old) ≤ length result.now }
+        ensures value { filled (length self.old) result.now ≡ self.old }
+    {
+        touch(&mut self.bytes, self.size, end.min(self.size));
+        self.bytes.as_slice()
     }
 
     /// The bytes from an address on, at least this many, to be written, where so many are in memory.
