@@ -67,7 +67,7 @@ fn put_at(memory: &mut Memory, place: usize, bytes: &[u8])
     ensures length { length memory.new ≡ length memory.old }
 {
     let part = memory.part_mut(place, bytes.len());
-    part.copy_from_slice(bytes);
+    part[..bytes.len()].copy_from_slice(bytes);
 }
 
 /// Reads once into memory from a place on, at most this many bytes, and says how many: none only at the reader's end.

@@ -55,8 +55,9 @@ fn write_random(
     ensures moves_on { supply generator.new left.new.now
         ≡ after_next len (supply generator.old left.old.now) }
 {
-    let part = memory.part_mut(buffer as usize, len as usize);
-    fill_random(generator, left, part);
+    let len = len as usize;
+    let part = memory.part_mut(buffer as usize, len);
+    fill_random(generator, left, &mut part[..len]);
 }
 
 /// `random_get(buffer, length)`: the next bytes, or none where fewer are left.

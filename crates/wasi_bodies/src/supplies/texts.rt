@@ -94,8 +94,9 @@ fn write_pointers(memory: &mut Memory, at: u32, texts: &[&[u8]], first: u32)
     ensures bytes { memory.new ≡ written memory.old at (pointers first (texts_of texts.now)) }
     ensures length { length memory.new ≡ length memory.old }
 {
-    let part = memory.part_mut(at as usize, pointers_len(texts) as usize);
-    fill_pointers(part, texts, u64::from(first));
+    let len = pointers_len(texts) as usize;
+    let part = memory.part_mut(at as usize, len);
+    fill_pointers(&mut part[..len], texts, u64::from(first));
 }
 
 /// Writes the texts with a NUL after each.
@@ -104,8 +105,9 @@ fn write_texts(memory: &mut Memory, at: u32, texts: &[&[u8]])
     requires inside { at + all_bytes (texts_of texts.now) ≤ length memory.old }
     ensures bytes { memory.new ≡ written memory.old at (ended (texts_of texts.now)) }
 {
-    let part = memory.part_mut(at as usize, texts_len(texts) as usize);
-    fill_texts(part, texts);
+    let len = texts_len(texts) as usize;
+    let part = memory.part_mut(at as usize, len);
+    fill_texts(&mut part[..len], texts);
 }
 
 /// `args_get(pointers, buffer)`, `environ_get(pointers, buffer)`: the texts with a NUL after each, one after another, and
