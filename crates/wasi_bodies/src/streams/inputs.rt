@@ -66,8 +66,8 @@ fn put_at(memory: &mut Memory, place: usize, bytes: &[u8])
     ensures bytes { memory.new ≡ written memory.old place bytes.now }
     ensures length { length memory.new ≡ length memory.old }
 {
-    let part = memory.part_mut(place, bytes.len());
-    part[..bytes.len()].copy_from_slice(bytes);
+    let (part, _) = memory.part_mut(place, bytes.len()).split_at_mut(bytes.len());
+    part.copy_from_slice(bytes);
 }
 
 /// Reads once into memory from a place on, at most this many bytes, and says how many: none only at the reader's end.

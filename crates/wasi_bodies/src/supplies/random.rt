@@ -56,8 +56,8 @@ fn write_random(
         ≡ after_next len (supply generator.old left.old.now) }
 {
     let len = len as usize;
-    let part = memory.part_mut(buffer as usize, len);
-    fill_random(generator, left, &mut part[..len]);
+    let (part, _) = memory.part_mut(buffer as usize, len).split_at_mut(len);
+    fill_random(generator, left, part);
 }
 
 /// `random_get(buffer, length)`: the next bytes, or none where fewer are left.

@@ -95,8 +95,8 @@ fn write_pointers(memory: &mut Memory, at: u32, texts: &[&[u8]], first: u32)
     ensures length { length memory.new ≡ length memory.old }
 {
     let len = pointers_len(texts) as usize;
-    let part = memory.part_mut(at as usize, len);
-    fill_pointers(&mut part[..len], texts, u64::from(first));
+    let (part, _) = memory.part_mut(at as usize, len).split_at_mut(len);
+    fill_pointers(part, texts, u64::from(first));
 }
 
 /// Writes the texts with a NUL after each.
@@ -106,8 +106,8 @@ fn write_texts(memory: &mut Memory, at: u32, texts: &[&[u8]])
     ensures bytes { memory.new ≡ written memory.old at (ended (texts_of texts.now)) }
 {
     let len = texts_len(texts) as usize;
-    let part = memory.part_mut(at as usize, len);
-    fill_texts(&mut part[..len], texts);
+    let (part, _) = memory.part_mut(at as usize, len).split_at_mut(len);
+    fill_texts(part, texts);
 }
 
 /// `args_get(pointers, buffer)`, `environ_get(pointers, buffer)`: the texts with a NUL after each, one after another, and
