@@ -4,6 +4,7 @@ use std::marker::Model;
 
 /// The bytes of a guest's memory as they stand (section 4.2.8), of which a first part can be lent; what stands behind the part
 /// are zeros.
+#[derive(Drop)]
 pub struct Shown<'m> {
     /// The first part.
     first: &'m [u8],
