@@ -17,6 +17,7 @@ ghost use Rattle.sandbox_telling.specs.internal.Supplies.{AreSupplies};
 ghost use Rattle.plugin_core.specs.declared.stage.Stage.TheVariants as stages;
 ghost use Rattle.plugin_session.specs.Instance.{used_by};
 
+use crate::opening::open_for_run;
 use crate::program::{Executed, FAULT, no_session, no_volume, parts_of, reported, volume_of};
 use crate::sessions::{counted_parts, fuel_use_of, imports_of};
 use invoked_run::{CallEnd, CalledOnce, call_once, exported_type};
@@ -35,7 +36,6 @@ use sandbox_telling::supplies::{GuestTexts, terminals_of};
 use std::alloc::Global;
 use stream_answers::{Inlet, Outlet, print_all};
 use value_words::{NoNumbers, line_of, numbers_of};
-use vol_commands::open_for_run;
 use vol_sector::Device;
 use wasm_module::{Module, ValueType};
 use wasm_store::InstanceFault;

@@ -25,6 +25,7 @@ ghost use Rattle.sandbox_runs.specs.Execution.{RunsOn, Runs, Executes, StaysWith
 use crate::checking::ended_task;
 use crate::ending::ended;
 use crate::invoking::invoke_valid;
+use crate::opening::open_for_run;
 use crate::sessions::{launch_bare, launch_prepared};
 use observed_run::FuelProfile;
 use sandbox_args::Run;
@@ -47,7 +48,7 @@ use std::alloc::Global;
 use std::io;
 use std::io::Write;
 use stream_answers::{Inlet, Outlet};
-use vol_commands::{export_from, format_where, import_into, open_for_run, perform};
+use vol_commands::{export_from, format_where, import_into, perform};
 use vol_sector::{Device, Refused, VolumeFault};
 
 /// The status where a guest's own one is greater than `GREATEST`.

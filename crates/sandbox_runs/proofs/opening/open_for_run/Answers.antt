@@ -5,7 +5,7 @@ use Rattle.vol_commands.specs.Going.{OpensWithin, device_of_opening}
 use Rattle.vol_commands.specs.Volumes.{IsRefusedFor}
 use Rattle.vol_commands.proofs.Going.{opening_goes}
 use Rattle.vol_commands.proofs.FreshVolume.{refused_open}
-use Rattle.vol_commands.proofs.opening.open_for_run.Goals as goal
+use Rattle.sandbox_runs.proofs.opening.open_for_run.Goals as goal
 
 -- the file's volume was refused
 pub returns-in-Some-clause-refused : goal.returns-in-Some-clause-refused
