@@ -18,8 +18,8 @@ ghost use Rattle.plugin_core.specs.declared.stage.Stage.TheVariants as stages;
 ghost use Rattle.plugin_session.specs.Instance.{used_by};
 
 use crate::opening::open_for_run;
-use crate::program::{Executed, FAULT, no_session, no_volume, parts_of, reported, volume_of};
-use crate::sessions::{counted_parts, fuel_use_of, imports_of};
+use crate::program::{Executed, FAULT, no_session, no_volume, reported, volume_of};
+use crate::sessions::{fuel_use_of, imports_of, parts_of};
 use invoked_run::{CallEnd, CalledOnce, call_once, exported_type};
 use observed_run::FuelProfile;
 use plugin_session::{Instance, Plugin};
@@ -279,19 +279,19 @@ fn launch_call<D: Device + Drop, R: Inlet + Drop, W1: Outlet + Drop, W2: Outlet 
     name: &str,
     bytes: &[u8],
     valid: Valid<'_>,
-    parts: HostParts<'_, '_, D, R, W1, W2>,
+    parts: HostParts<'_, '_, D, Counted<R>, Counted<W1>, Counted<W2>>,
     stacks: Option<FuelProfile>,
 ) -> (Executed<D, R, W1, W2>, Vec<u8>)
     requires pages { parts.settings.pages ≡ run.now.limits.pages }
     ensures fuel_use { TellsUse stacks result.0.stopped }
-    ensures launches { LaunchesCall D.honest D.disk D.size D.failures D.goes_on R.remaining
-        W1.contents W2.contents (hearing R.gave R.refused W1.took W1.refused W2.took W2.refused)
-        name.now valid.entry run.now parts.entry result.0 }
+    ensures launches { (its : PartsValue D R W1 W2) → parts.entry ≡ counting run.now its
+        → LaunchesCall D.honest D.disk D.size D.failures D.goes_on R.remaining W1.contents
+        W2.contents (hearing R.gave R.refused W1.took W1.refused W2.took W2.refused) name.now
+        valid.entry run.now its result.0 }
     ensures answered { RunAnswered W1.flushed W1.refuses W2.flushed W2.refuses result.0 }
     ensures lines { AreLinesBy bytes.now valid.entry run.now.frames result.0.stopped
         result.1.items }
 {
-    let parts = counted_parts(run, parts);
     let arguments = match arguments_of(alloc, run, name, valid.module()) {
         Ok(arguments) => arguments,
         Err(fault) => return (no_session(run, parts, fault), no_lines(alloc, run)),
