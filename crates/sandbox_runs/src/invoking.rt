@@ -42,7 +42,7 @@ use wasm_store::InstanceFault;
 
 /// What a function is called with, and the type of its result, if it has one.
 #[derive(Drop)]
-struct Arguments {
+struct CallArguments {
     numbers: Vec<u64>,
     value_type: Option<ValueType>,
 }
@@ -53,7 +53,7 @@ fn arguments_of(
     run: &Run<'_>,
     name: &str,
     guest: &Module<'_>,
-) -> Result<Arguments, SessionFault>
+) -> Result<CallArguments, SessionFault>
     ensures { MatchResult result (λ a. AreArguments guest.now name.now (texts run.now.words.items)
         a.numbers.items a.value_type) (HasNoArguments guest.now name.now
         (texts run.now.words.items)) }
@@ -62,7 +62,7 @@ fn arguments_of(
         return Err(SessionFault::Setting);
     };
     match numbers_of(alloc, func_type.params.as_slice(), run.words.as_slice()) {
-        Ok(numbers) => Ok(Arguments {
+        Ok(numbers) => Ok(CallArguments {
             numbers,
             value_type: func_type.results.as_slice().get(0).copied(),
         }),
@@ -211,7 +211,7 @@ fn call_within<D: Device + Drop, R: Inlet + Drop, W1: Outlet + Drop, W2: Outlet 
     run: &Run<'_>,
     name: &str,
     instance: Instance<'_, '_, '_, D, Counted<R>, Counted<W1>, Counted<W2>>,
-    arguments: &Arguments,
+    arguments: &CallArguments,
     fuel_use: Option<FuelUse>,
 ) -> Executed<D, R, W1, W2>
     requires begun { (used_by instance ≡ 0) × (instance.stage ≡ stages.Opening)
@@ -240,7 +240,7 @@ fn launch_instance<D: Device + Drop, R: Inlet + Drop, W1: Outlet + Drop, W2: Out
     run: &Run<'_>,
     name: &str,
     plugin: &Plugin<'_>,
-    arguments: &Arguments,
+    arguments: &CallArguments,
     parts: HostParts<'_, '_, D, Counted<R>, Counted<W1>, Counted<W2>>,
     stacks: Option<FuelProfile>,
 ) -> Executed<D, R, W1, W2>
