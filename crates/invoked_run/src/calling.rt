@@ -115,7 +115,7 @@ where
     requires unused { used_by instance ≡ 0 }
     requires opening { instance.stage ≡ stages.Opening }
     ensures { CallsOnceAndEnds (devices D.Device R.Read W1.Write W2.Write R.gave R.refused W1.took
-        W1.refused W2.took W2.refused) instance name.now arguments.now fuel room.new result }
+        W1.refused W2.took W2.refused) instance.entry name.now arguments.now fuel room.new result }
 {
     let mut instance = instance;
     let end = call_within(&mut instance, name, arguments, fuel);

@@ -13,10 +13,10 @@ unreachable-requires g c = c.in_default.ensures.refused.1 c.going.invariant.goes
 
 -- a call of WASI was answered
 pub going-preserved : goal.going-preserved
-going-preserved g c = goes_on (devices g.D.Device g.R.Read g.W1.Write g.W2.Write g.R.Inlet.gave g.R.Inlet.refused g.W1.Outlet.took g.W1.Outlet.refused g.W2.Outlet.took g.W2.Outlet.refused) _ _ _ c.args.fuel _ c.going.invariant (ap (λ n. c.args.fuel - n) c.used.ensures) _ _ _ c.in-Ok.ensures.went c.in-Called.is
+going-preserved g c = goes_on (devices g.D.Device g.R.Read g.W1.Write g.W2.Write g.R.Inlet.gave g.R.Inlet.refused g.W1.Outlet.took g.W1.Outlet.refused g.W2.Outlet.took g.W2.Outlet.refused) _ _ _ c.args.fuel _ c.going.invariant (ap (λ n. c.args.fuel - n) c.used.ensures) _ _ _ c.in-Ok.ensures.went c.in-Paused-Called.is
 
-pub going-decreases : goal.going-decreases
-going-decreases g c = measure_falls (devices g.D.Device g.R.Read g.W1.Write g.W2.Write g.R.Inlet.gave g.R.Inlet.refused g.W1.Outlet.took g.W1.Outlet.refused g.W2.Outlet.took g.W2.Outlet.refused) _ _ _ c.args.fuel _ c.going.invariant (ap (λ n. c.args.fuel - n) c.used.ensures) _ _ _ c.in-Ok.ensures.went c.in-Called.is
+pub going-smaller : goal.going-smaller
+going-smaller g c = measure_falls (devices g.D.Device g.R.Read g.W1.Write g.W2.Write g.R.Inlet.gave g.R.Inlet.refused g.W1.Outlet.took g.W1.Outlet.refused g.W2.Outlet.took g.W2.Outlet.refused) _ _ _ c.args.fuel _ c.going.invariant (ap (λ n. c.args.fuel - n) c.used.ensures) _ _ _ c.in-Ok.ensures.went c.in-Paused-Called.is
 
 -- it stops
 pub returns-in-Returned : goal.returns-in-Returned
@@ -25,8 +25,8 @@ returns-in-Returned g c = has_returned (devices g.D.Device g.R.Read g.W1.Write g
 pub returns-in-Asked : goal.returns-in-Asked
 returns-in-Asked g c = was_asked (devices g.D.Device g.R.Read g.W1.Write g.W2.Write g.R.Inlet.gave g.R.Inlet.refused g.W1.Outlet.took g.W1.Outlet.refused g.W2.Outlet.took g.W2.Outlet.refused) _ _ _ c.args.fuel _ c.going.invariant (ap (λ n. c.args.fuel - n) c.used.ensures) _ _ c.in-Ok.ensures.went c.in-Asked.is
 
-pub returns-in-Spent : goal.returns-in-Spent
-returns-in-Spent g c = has_spent (devices g.D.Device g.R.Read g.W1.Write g.W2.Write g.R.Inlet.gave g.R.Inlet.refused g.W1.Outlet.took g.W1.Outlet.refused g.W2.Outlet.took g.W2.Outlet.refused) _ _ _ c.args.fuel _ c.going.invariant (ap (λ n. c.args.fuel - n) c.used.ensures) _ c.in-Ok.ensures.went c.in-Spent.is
+pub returns-in-Paused-Spent : goal.returns-in-Paused-Spent
+returns-in-Paused-Spent g c = has_spent (devices g.D.Device g.R.Read g.W1.Write g.W2.Write g.R.Inlet.gave g.R.Inlet.refused g.W1.Outlet.took g.W1.Outlet.refused g.W2.Outlet.took g.W2.Outlet.refused) _ _ _ c.args.fuel _ c.going.invariant (ap (λ n. c.args.fuel - n) c.used.ensures) _ c.in-Ok.ensures.went c.in-Paused-Spent.is
 
-pub returns-in-Ended : goal.returns-in-Ended
-returns-in-Ended g c = has_ended (devices g.D.Device g.R.Read g.W1.Write g.W2.Write g.R.Inlet.gave g.R.Inlet.refused g.W1.Outlet.took g.W1.Outlet.refused g.W2.Outlet.took g.W2.Outlet.refused) _ _ _ c.args.fuel _ c.going.invariant (ap (λ n. c.args.fuel - n) c.used.ensures) _ _ c.in-Ok.ensures.went c.in-Ended.is
+pub returns-in-Paused-Ended : goal.returns-in-Paused-Ended
+returns-in-Paused-Ended g c = has_ended (devices g.D.Device g.R.Read g.W1.Write g.W2.Write g.R.Inlet.gave g.R.Inlet.refused g.W1.Outlet.took g.W1.Outlet.refused g.W2.Outlet.took g.W2.Outlet.refused) _ _ _ c.args.fuel _ c.going.invariant (ap (λ n. c.args.fuel - n) c.used.ensures) _ _ c.in-Ok.ensures.went c.in-Paused-Ended.is
