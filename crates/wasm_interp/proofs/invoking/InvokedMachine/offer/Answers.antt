@@ -1,4 +1,4 @@
-use Rattle.std.proofs.Common.{◌≡◌, ◌∙◌, ℕ, List, length, reverse, take, drop, refl, ap, sym, subst, inr, arith}
+use Rattle.std.proofs.Common.{◌≡◌, ◌∙◌, ℕ, suc, ◌+◌, List, length, reverse, take, drop, refl, ap, sym, subst, inr, arith}
 use Rattle.std.proofs.lemmas.List.{reverse-reverse}
 use Rattle.std.specs.Arc.{arc_value}
 use Rattle.wasm_syntax.specs.declared.module.FuncType.{FuncType}
@@ -26,7 +26,7 @@ below-arguments-requires g c =
 
 -- the call has its unit
 pub overflow_add-used : goal.overflow_add-used
-overflow_add-used g c = (c.self.invariant.answers c.in-Asking.ask c.in-Asking.is).0
+overflow_add-used g c = omega (arith, (c.self.invariant.answers c.in-Asking.ask c.in-Asking.is).0)
 
 pub invariant_of-self : goal.invariant_of-self
 invariant_of-self g c =
@@ -42,6 +42,8 @@ returns-clause-offered g c =
     let above : ℕ = c.in-Asking.ask.above in
     let old : State = c.self.inside.state in
     let new : State = record old { memory = c.call.new.memory } in
+    let one : old.used + 1 ≡ suc old.used = omega arith in
+    let told = subst (λ (n : ℕ). g.H.Host.calls c.args.host.now old.memory n c.args.call c.below-arguments.result.now c.call.new.self c.call.new.memory c.call.result) one c.call.ensures in
     rw (← c.self.view_is) (record {
       function = c.in-Asking.ask.function;
       func_type = f;
@@ -53,7 +55,7 @@ returns-clause-offered g c =
         arguments_are = c.below-arguments.ensures ∙ ap (λ (xs : List ℕ). take (length c.as_slice-params.result.now) (drop above (reverse xs))) c.as_slice-values.ensures.value ∙ ap (λ (n : ℕ). take n (drop above (reverse old.values.items))) (ap length c.as_slice-params.ensures);
       };
       memory = c.call.new.memory;
-      answered = rw (reverse-reverse c.below-arguments.result.now) c.call.ensures;
+      answered = rw (reverse-reverse c.below-arguments.result.now) told;
       left = is_written r old new c.call.new.memory (inr (c.in-Asking.ask, c.in-Asking.is)) refl refl c.self.invariant;
     })
 
