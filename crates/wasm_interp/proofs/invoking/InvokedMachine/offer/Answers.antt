@@ -1,4 +1,4 @@
-use Rattle.std.proofs.Common.{◌≡◌, ◌∙◌, ℕ, List, length, reverse, take, drop, refl, ap, sym, subst, inr, arith}
+use Rattle.std.proofs.Common.{◌≡◌, ◌∙◌, ℕ, suc, ◌+◌, List, length, reverse, take, drop, refl, ap, sym, subst, inr, arith}
 use Rattle.std.proofs.lemmas.List.{reverse-reverse}
 use Rattle.std.specs.Arc.{arc_value}
 use Rattle.wasm_syntax.specs.declared.module.FuncType.{FuncType}
@@ -11,8 +11,8 @@ use Rattle.wasm_interp.proofs.PlainSteps.Invoking.{arguments_asked, is_written, 
 use Rattle.wasm_interp.proofs.PlainSteps.Refusing.{ask_once}
 use Rattle.wasm_interp.proofs.invoking.InvokedMachine.offer.Goals as goal
 
-pub below-requires : goal.below-requires
-below-requires c =
+pub below-arguments-requires : goal.below-arguments-requires
+below-arguments-requires g c =
     let r : Prepared = arc_value c.self.inside.prepared in
     let f : FuncType = c.in-Some.func_type.now in
     let is_import : IsImportType r.valid c.in-Asking.ask.function f = subst (λ (m : Module). IsImportType m c.in-Asking.ask.function f) (c.module.ensures.value ∙ ap (λ (p : Prepared). p.valid) c.deref-prepared.ensures) c.in-Some.ensures.found in
@@ -26,43 +26,45 @@ below-requires c =
 
 -- the call has its unit
 pub overflow_add-used : goal.overflow_add-used
-overflow_add-used c = (c.self.invariant.answers c.in-Asking.ask c.in-Asking.is).0
+overflow_add-used g c = omega (arith, (c.self.invariant.answers c.in-Asking.ask c.in-Asking.is).0)
 
 pub invariant_of-self : goal.invariant_of-self
-invariant_of-self c =
+invariant_of-self g c =
     let old : State = c.self.inside.state in
     let new : State = record old { memory = c.call.new.memory } in
     written_invocable (arc_value c.self.inside.prepared) old new c.call.new.memory (inr (c.in-Asking.ask, c.in-Asking.is)) refl refl c.self.invariant
 
 pub returns-clause-offered : goal.returns-clause-offered
-returns-clause-offered c =
+returns-clause-offered g c =
     let r : Prepared = arc_value c.self.inside.prepared in
     let f : FuncType = c.in-Some.func_type.now in
     let is_import : IsImportType r.valid c.in-Asking.ask.function f = subst (λ (m : Module). IsImportType m c.in-Asking.ask.function f) (c.module.ensures.value ∙ ap (λ (p : Prepared). p.valid) c.deref-prepared.ensures) c.in-Some.ensures.found in
     let above : ℕ = c.in-Asking.ask.above in
     let old : State = c.self.inside.state in
     let new : State = record old { memory = c.call.new.memory } in
+    let one : old.used + 1 ≡ suc old.used = omega arith in
+    let told = subst (λ (n : ℕ). g.H.Host.calls c.args.host.now old.memory n c.args.call c.below-arguments.result.now c.call.new.self c.call.new.memory c.call.result) one c.call.ensures in
     rw (← c.self.view_is) (record {
       function = c.in-Asking.ask.function;
       func_type = f;
-      arguments = reverse c.below.result.now;
+      arguments = reverse c.below-arguments.result.now;
       asked_for = record {
         above = above;
         asks = c.in-Asking.is;
         is_import = is_import;
-        arguments_are = c.below.ensures ∙ ap (λ (xs : List ℕ). take (length c.as_slice-params.result.now) (drop above (reverse xs))) c.as_slice-values.ensures.value ∙ ap (λ (n : ℕ). take n (drop above (reverse old.values.items))) (ap length c.as_slice-params.ensures);
+        arguments_are = c.below-arguments.ensures ∙ ap (λ (xs : List ℕ). take (length c.as_slice-params.result.now) (drop above (reverse xs))) c.as_slice-values.ensures.value ∙ ap (λ (n : ℕ). take n (drop above (reverse old.values.items))) (ap length c.as_slice-params.ensures);
       };
       memory = c.call.new.memory;
-      answered = rw (reverse-reverse c.below.result.now) c.call.ensures;
+      answered = rw (reverse-reverse c.below-arguments.result.now) told;
       left = is_written r old new c.call.new.memory (inr (c.in-Asking.ask, c.in-Asking.is)) refl refl c.self.invariant;
     })
 
 -- nobody is asked
 pub returns-in_default-clause-not : goal.returns-in_default-clause-not
-returns-in_default-clause-not c = rw (← c.self.view_is) (refl, refl, λ k. c.in_default.not-Asking _ k.3.asks)
+returns-in_default-clause-not g c = rw (← c.self.view_is) (refl, refl, λ k. c.in_default.not-Asking _ k.3.asks)
 
 pub returns-in_default-import_type-clause-not : goal.returns-in_default-import_type-clause-not
-returns-in_default-import_type-clause-not c =
+returns-in_default-import_type-clause-not g c =
     let r : Prepared = arc_value c.self.inside.prepared in
     let same = c.module.ensures.value ∙ ap (λ (p : Prepared). p.valid) c.deref-prepared.ensures in
     rw (← c.self.view_is) (
