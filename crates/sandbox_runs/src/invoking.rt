@@ -17,8 +17,9 @@ ghost use Rattle.sandbox_telling.specs.internal.Supplies.{AreSupplies};
 ghost use Rattle.plugin_core.specs.declared.stage.Stage.TheVariants as stages;
 ghost use Rattle.plugin_session.specs.Instance.{used_by};
 
-use crate::program::{Executed, FAULT, no_session, no_volume, parts_of, reported, volume_of};
-use crate::sessions::{counted_parts, fuel_use_of, imports_of};
+use crate::opening::open_for_run;
+use crate::program::{Executed, FAULT, no_session, no_volume, reported, volume_of};
+use crate::sessions::{fuel_use_of, imports_of, parts_of};
 use invoked_run::{CallEnd, CalledOnce, call_once, exported_type};
 use observed_run::FuelProfile;
 use plugin_session::{Instance, Plugin};
@@ -35,14 +36,13 @@ use sandbox_telling::supplies::{GuestTexts, terminals_of};
 use std::alloc::Global;
 use stream_answers::{Inlet, Outlet, print_all};
 use value_words::{NoNumbers, line_of, numbers_of};
-use vol_commands::open_for_run;
 use vol_sector::Device;
 use wasm_module::{FuncType, Module, ValueType};
 use wasm_store::InstanceFault;
 
 /// What a function is called with, and the type of its result, if it has one.
 #[derive(Drop)]
-struct Arguments {
+struct CallArguments {
     numbers: Vec<u64>,
     value_type: Option<ValueType>,
 }
@@ -70,7 +70,7 @@ fn arguments_of(
     run: &Run<'_>,
     name: &str,
     guest: &Module<'_>,
-) -> Result<Arguments, SessionFault>
+) -> Result<CallArguments, SessionFault>
     ensures { MatchResult result (λ a. AreArguments guest.now name.now (texts run.now.words.items)
         a.numbers.items a.value_type) (HasNoArguments guest.now name.now
         (texts run.now.words.items)) }
@@ -80,7 +80,7 @@ fn arguments_of(
     };
     let (types, words) = (func_type.params.as_slice(), run.words.as_slice());
     match numbers_of(alloc, types, words) {
-        Ok(numbers) => Ok(Arguments {
+        Ok(numbers) => Ok(CallArguments {
             numbers,
             value_type: value_type_of(func_type),
         }),
@@ -252,7 +252,7 @@ fn call_within<D: Device + Drop, R: Inlet + Drop, W1: Outlet + Drop, W2: Outlet 
     run: &Run<'_>,
     name: &str,
     instance: Instance<'_, '_, '_, D, Counted<R>, Counted<W1>, Counted<W2>>,
-    arguments: &Arguments,
+    arguments: &CallArguments,
     fuel_use: Option<FuelUse>,
 ) -> Executed<D, R, W1, W2>
     requires begun { (used_by instance ≡ 0) × (instance.stage ≡ stages.Opening)
@@ -282,7 +282,7 @@ fn launch_instance<D: Device + Drop, R: Inlet + Drop, W1: Outlet + Drop, W2: Out
     run: &Run<'_>,
     name: &str,
     plugin: &Plugin<'_>,
-    arguments: &Arguments,
+    arguments: &CallArguments,
     parts: HostParts<'_, '_, D, Counted<R>, Counted<W1>, Counted<W2>>,
     stacks: Option<FuelProfile>,
 ) -> Executed<D, R, W1, W2>
@@ -321,19 +321,19 @@ fn launch_call<D: Device + Drop, R: Inlet + Drop, W1: Outlet + Drop, W2: Outlet 
     name: &str,
     bytes: &[u8],
     valid: Valid<'_>,
-    parts: HostParts<'_, '_, D, R, W1, W2>,
+    parts: HostParts<'_, '_, D, Counted<R>, Counted<W1>, Counted<W2>>,
     stacks: Option<FuelProfile>,
 ) -> (Executed<D, R, W1, W2>, Vec<u8>)
     requires pages { parts.settings.pages ≡ run.now.limits.pages }
     ensures fuel_use { TellsUse stacks result.0.stopped }
-    ensures launches { LaunchesCall D.honest D.disk D.size D.failures D.goes_on R.remaining
-        W1.contents W2.contents (hearing R.gave R.refused W1.took W1.refused W2.took W2.refused)
-        name.now valid.entry run.now parts.entry result.0 }
+    ensures launches { (its : PartsValue D R W1 W2) → parts.entry ≡ counting run.now its
+        → LaunchesCall D.honest D.disk D.size D.failures D.goes_on R.remaining W1.contents
+        W2.contents (hearing R.gave R.refused W1.took W1.refused W2.took W2.refused) name.now
+        valid.entry run.now its result.0 }
     ensures answered { RunAnswered W1.flushed W1.refuses W2.flushed W2.refuses result.0 }
     ensures lines { AreLinesBy bytes.now valid.entry run.now.frames result.0.stopped
         result.1.items }
 {
-    let parts = counted_parts(run, parts);
     let arguments = match arguments_of(alloc, run, name, valid.module()) {
         Ok(arguments) => arguments,
         Err(fault) => return (no_session(run, parts, fault), no_lines(alloc, run)),
