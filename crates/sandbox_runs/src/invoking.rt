@@ -341,7 +341,8 @@ fn launch_call<D: Device + Drop, R: Inlet + Drop, W1: Outlet + Drop, W2: Outlet 
     match Plugin::new(alloc, valid, run.limits.pages) {
         Ok(plugin) => {
             let left = launch_instance(alloc, run, name, &plugin, &arguments, parts, stacks);
-            let lines = lines_of(alloc, run, bytes, plugin.module().module(), &left.stopped);
+            let guest = plugin.module();
+            let lines = lines_of(alloc, run, bytes, guest.module(), &left.stopped);
             (left, lines)
         }
         Err(refused) => {
