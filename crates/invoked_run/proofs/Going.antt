@@ -6,7 +6,7 @@ use Rattle.wasm_store.specs.declared.call.Errno.{Errno}
 use Rattle.wasm_steps.specs.declared.pause.Outcome.{Outcome}
 use Rattle.wasm_steps.specs.declared.pause.Outcome.TheVariants.{OutOfFuel}
 use Rattle.wasm_steps.specs.declared.pause.Pause.TheVariants.{Called, Spent, Ended as Stopped}
-use Rattle.wasm_interp.specs.Machine.{Snapshot, Represents, entries_left}
+use Rattle.wasm_interp.specs.Machine.{Represents, entries_left}
 use Rattle.wasm_places.specs.declared.invocable.Event.{Event}
 use Rattle.wasm_places.specs.declared.invocable.Event.TheVariants.{Asked, Paused, Returned as Back}
 use Rattle.wasm_interp.specs.Invoking.{results_of}
