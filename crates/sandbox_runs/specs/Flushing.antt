@@ -3,7 +3,8 @@
 -- a status is 124 and a line fault 41, is what the outputs answered.
 use Rattle.std.specs.Prelude.{◌≡◌, ◌⊎◌, ℕ, List, Bool, true, false, None}
 use Rattle.sandbox_device.specs.declared.opening.FileOutput.{FileOutput}
-use Rattle.sandbox_device.specs.Written.{Flushes, Puts, WasCut, WasFlushed, WasPut}
+use Rattle.sandbox_device.specs.FileEvidence.{WasRefused}
+use Rattle.sandbox_device.specs.Written.{Flushes, Puts, Refuses, WasCut, WasFlushed, WasPut}
 use Rattle.sandbox_runs.specs.declared.program.Executed.{Executed}
 
 -- it came to this by such an answer
@@ -32,3 +33,7 @@ FileFlushed before after = Flushes WasCut WasFlushed before.on after.on
 -- ...and put bytes at its end
 abbrev pub FileTook : FileOutput → List ℕ → FileOutput → Type 0
 FileTook before bytes after = Puts WasCut WasPut before.on bytes after.on
+
+-- ...or refused to be cut, or what was asked of it then
+abbrev pub FileRefused : FileOutput → FileOutput → Type 0
+FileRefused before after = Refuses WasCut WasRefused before.on after.on
