@@ -6,4 +6,3 @@ pub mod Lines
 pub mod Charging
 pub mod Going
 pub mod Ending
-mod Refused

@@ -3,4 +3,4 @@ use Rattle.sandbox_device.specs.Named.{has_lost}
 use Rattle.sandbox_device.proofs.identity.refuse_where_replaced.Goals as goal
 
 pub returns-in-Some : goal.returns-in-Some
-returns-in-Some c = inr (has_lost _ _)
+returns-in-Some g c = inr (has_lost _ _)

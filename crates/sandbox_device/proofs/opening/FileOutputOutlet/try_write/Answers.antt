@@ -5,4 +5,4 @@ use Rattle.sandbox_device.proofs.opening.FileOutputOutlet.try_write.Goals as goa
 
 pub returns-clause-told : goal.returns-clause-told
 returns-clause-told c =
-    told_both (λ n. Puts WasCut WasPut c.args.self.now.on (take n c.args.buf.now) c.write.new.self.on) c.write.result c.write.ensures.puts c.write.ensures.refused
+    told_both (λ n. Puts WasCut WasPut c.args.self.now.on (take n c.args.buf.now) c.write.new.self.on) _ c.write.result c.write.ensures.puts c.write.ensures.refused
