@@ -125,7 +125,7 @@ module _ {D R W1 W2 : Type 0} (on : Devices D R W1 W2) where
 
   -- one call is a list of acts
   pub once_follows : (s t : S) (name arguments : List ℕ) (fuel : ℕ) (end : CallEnd) → CallsOnce on s t name arguments fuel end → Follows s t
-  once_follows s t name arguments fuel end (inl (g, no)) = gone_by s t fuel end g
+  once_follows s t name arguments fuel end (inl (g, none)) = gone_by s t fuel end g
   once_follows s t name arguments fuel end (inr (opened, value, g, inl (why, is, same, refuses))) =
       subst (λ (x : S). Follows s x) (sym same) (gone_by s opened fuel (Returned value) g)
   once_follows s t name arguments fuel end (inr (opened, value, g, inr (entered, (x, exported, does), more))) =
@@ -135,6 +135,6 @@ module _ {D R W1 W2 : Type 0} (on : Devices D R W1 W2) where
 
   -- and takes no more than its fuel
   pub once_within : (s t : S) (name arguments : List ℕ) (fuel : ℕ) (end : CallEnd) → CallsOnce on s t name arguments fuel end → used_by t ≤ fuel
-  once_within s t name arguments fuel end (inl (g, no)) = g.within
+  once_within s t name arguments fuel end (inl (g, none)) = g.within
   once_within s t name arguments fuel end (inr (opened, value, g, inl (why, is, same, refuses))) = subst (λ (x : S). used_by x ≤ fuel) (sym same) g.within
   once_within s t name arguments fuel end (inr (opened, value, g, inr (entered, invokes, more))) = more.within

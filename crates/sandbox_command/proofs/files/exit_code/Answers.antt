@@ -8,7 +8,8 @@ use Rattle.sandbox_args.specs.Request.{Text}
 use Rattle.sandbox_command.specs.Around.{calling, flushing}
 use Rattle.sandbox_command.specs.Files.{IsAnswered}
 use Rattle.stream_answers.specs.System.{HasRefused, WasGiven}
-use Rattle.sandbox_runs.specs.Flushing.{FileFlushed, FileRefused, FileTook}
+use Rattle.sandbox_runs.specs.Flushing.{FileFlushed}
+use Rattle.sandbox_places.specs.System.{FileRefused, FileTook}
 use Rattle.sandbox_command.proofs.files.exit_code.Goals as goal
 
 -- what is noted of terminals is no part of what is asked for
