@@ -53,7 +53,7 @@ where
     pub fn memory(&self) -> &Memory
         ensures { result.now ≡ self.now.machine.memory }
     {
-        self.machine.memory()
+        self.machine.guest_memory()
     }
 
     /// How many pages of 65,536 bytes the guest's memory has.

@@ -33,7 +33,7 @@ use std::alloc::Global;
 /// The version of the archive.
 #[unsafe(no_mangle)]
 pub extern "C" fn sandbox_version() -> u32
-    ensures { result ≡ 9016 }
+    ensures { result ≡ 9017 }
 {
     sandbox_host::VERSION
 }
