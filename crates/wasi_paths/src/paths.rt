@@ -62,7 +62,8 @@ pub fn reach<'p, D: Device>(
     }
 }
 
-/// Whether this range lies in memory.
+/// Whether the range lies in memory, also one of no bytes.
+#[tactic(auto, using(wasi_bodies::proofs::checks::Chains::guard_passes, wasi_bodies::proofs::checks::Chains::guard_fails))]
 pub fn check_range(memory: &Shown<'_>, pointer: u32, len: u32) -> Result<(), Errno>
     ensures range { MatchResult result (λ u. range_row memory.now.bytes pointer len ≡ Ok u)
         (λ e. range_row memory.now.bytes pointer len ≡ Err e.0) }

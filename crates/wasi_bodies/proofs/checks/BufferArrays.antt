@@ -132,7 +132,7 @@ entry_taken n xs h =
     let whole : n ≡ 4 + (n - 4) = omega arith in
     let pointer : little_number 4 (take n xs) ≡ little_number 4 xs = little_from-take 0 4 n xs (omega arith) in
     let len : little_number 4 (drop 4 (take n xs)) ≡ little_number 4 (drop 4 xs) = ap (λ (k : ℕ). little_number 4 (drop 4 (take k xs))) whole
-        ∙ ap (little_number 4) (drop-take 4 (n - 4) xs) ∙ little_from-take 0 4 (n - 4) (drop 4 xs) (omega arith) in
+    ∙ ap (little_number 4) (drop-take 4 (n - 4) xs) ∙ little_from-take 0 4 (n - 4) (drop 4 xs) (omega arith) in
     λ i. (pointer i, len i)
 
 pub entry_read : (m : List ℕ) (iovs count i : ℕ) → i < count → buffer_at (bytes_at m (iovs + 8 * i) 8) ≡ buffer_at (drop (8 * i) (bytes_at m iovs (8 * count)))

@@ -81,10 +81,10 @@ part_split m part front back ws p len is split first long =
     let k = length part in
     let whole : length (ws ++ back) ≡ k = length-append ws back ∙ omega (arith, long, first, length-append front back) ∙ sym (ap length split) in
     let kept : refill k part (ws ++ back) ≡ ws ++ back = ap (λ (n : ℕ). take n ((ws ++ back) ++ drop (length (ws ++ back)) part)) (sym whole)
-        ∙ take-append_seam (ws ++ back) (drop (length (ws ++ back)) part) in
+    ∙ take-append_seam (ws ++ back) (drop (length (ws ++ back)) part) in
     let behind : drop (p + length ws) m ≡ back ++ drop (p + k) m = ap (λ (n : ℕ). drop (p + n) m) (long ∙ sym first) ∙ sym (drop-drop (length front) p m)
-        ∙ ap (drop (length front)) (sym (take-append-drop k (drop p m)) ∙ ap (λ (l : List ℕ). l ++ drop k (drop p m)) (sym is.1.1 ∙ split) ∙ append_assoc front back (drop k (drop p m)))
-        ∙ drop-append_seam front (back ++ drop k (drop p m)) ∙ ap (λ (l : List ℕ). back ++ l) (drop-drop k p m) in
+    ∙ ap (drop (length front)) (sym (take-append-drop k (drop p m)) ∙ ap (λ (l : List ℕ). l ++ drop k (drop p m)) (sym is.1.1 ∙ split) ∙ append_assoc front back (drop k (drop p m)))
+    ∙ drop-append_seam front (back ++ drop k (drop p m)) ∙ ap (λ (l : List ℕ). back ++ l) (drop-drop k p m) in
     ap (written m p) kept ∙ ap (λ (n : ℕ). take p m ++ ((ws ++ back) ++ drop (p + n) m)) whole
     ∙ ap (λ (l : List ℕ). take p m ++ l) (append_assoc ws back (drop (p + k) m) ∙ ap (λ (l : List ℕ). ws ++ l) (sym behind))
 

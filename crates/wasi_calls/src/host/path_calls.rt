@@ -21,7 +21,11 @@ impl<'s, 't, D: Device, R: Inlet, W1: Outlet, W2: Outlet> Inner<'s, 't, D, R, W1
     ghost use Rattle.wasi_calls.specs.internal.Bodies.{IsSetUp, Serves};
 
     /// `path_create_directory(fd, path, length)`.
-    pub fn path_create_directory(&mut self, memory: &mut Memory, arguments: &[u64]) -> Result<(), Errno>
+    pub fn path_create_directory(
+        &mut self,
+        memory: &mut Memory,
+        arguments: &[u64],
+    ) -> Result<(), Errno>
         requires set_up { IsSetUp R.remaining self.old }
         requires known { KnowsEntries D.honest self.old.volume (table_of self.old.descriptors) }
         ensures { (used : _) → Serves D.honest D.disk D.size D.failures D.goes_on R.remaining
@@ -63,7 +67,11 @@ impl<'s, 't, D: Device, R: Inlet, W1: Outlet, W2: Outlet> Inner<'s, 't, D, R, W1
     }
 
     /// `path_remove_directory(fd, path, length)`.
-    pub fn path_remove_directory(&mut self, memory: &mut Memory, arguments: &[u64]) -> Result<(), Errno>
+    pub fn path_remove_directory(
+        &mut self,
+        memory: &mut Memory,
+        arguments: &[u64],
+    ) -> Result<(), Errno>
         requires set_up { IsSetUp R.remaining self.old }
         requires known { KnowsEntries D.honest self.old.volume (table_of self.old.descriptors) }
         ensures { (used : _) → Serves D.honest D.disk D.size D.failures D.goes_on R.remaining

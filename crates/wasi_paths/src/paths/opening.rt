@@ -387,7 +387,10 @@ pub fn path_open<D: Device>(
         (with_both volume.new (table_of descriptors.new) w) memory.new (errno_of result) }
 {
     let size = memory.len();
-    let shown = Shown::new(memory.first_part(asked.path as usize + asked.len as usize), size);
+    let shown = Shown::new(
+        memory.first_part(asked.path as usize + asked.len as usize),
+        size,
+    );
     let (directory, target) = match find_target(volume, descriptors, &shown, asked) {
         Ok(target) => target,
         Err(errno) => return Err(errno),

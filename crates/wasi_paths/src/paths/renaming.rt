@@ -23,16 +23,14 @@ ghost use Rattle.wasi_paths.specs.internal.paths.Renaming.{AreFacts, replace_che
 ghost use Rattle.wasi_paths.specs.internal.paths.Showing.{CanLend};
 ghost use Rattle.wasi_paths.specs.internal.paths.Climbing.{IsAbove};
 
-use crate::paths::{check_range, reach};
 use crate::paths::removing::is_held;
+use crate::paths::{check_range, reach};
 use path_walk::{Reached, is_directory, wants_a_directory};
 use vol_inode::is_name;
 use vol_sector::Device;
 use vol_tree::{Serial, Volume};
 use wasi_bodies::arguments::{descriptor, word};
-use wasi_bodies::checks::{
-    DescriptorKinds, check_rights, check_that, described, opened_of,
-};
+use wasi_bodies::checks::{DescriptorKinds, check_rights, check_that, described, opened_of};
 use wasi_bodies::errno::{BUSY, ISDIR, NOENT, NOTDIR, NOTEMPTY, refused};
 use wasi_fd::{Descriptor, Descriptors, Fd, Opened, Rights};
 use wasm_store::{Errno, Memory, Shown};

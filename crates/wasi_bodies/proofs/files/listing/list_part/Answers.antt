@@ -53,8 +53,8 @@ returns-in-Err g c = record {
       let told = c.in-Err.ensures.answer h in (
         told.0,
         subst (λ (l : List ℕ). IsBegun m c.args.start (take c.args.len all) l)
-        (sym (part_split m c.part_mut.result.now front c.split_at_mut-part.result.1.now c.list.new.part c.args.start c.args.len c.part_mut.ensures.value cut.value cut.front_len same))
-        (part_begun m all front c.list.new.part c.args.start c.args.len told.2.0
+            (sym (part_split m c.part_mut.result.now front c.split_at_mut-part.result.1.now c.list.new.part c.args.start c.args.len c.part_mut.ensures.value cut.value cut.front_len same))
+            (part_begun m all front c.list.new.part c.args.start c.args.len told.2.0
             c.requires.inside (part_front m c.part_mut.result.now front c.args.start c.args.len c.part_mut.ensures.value cut.front) told.2.1 told.2.2),
       );
 }

@@ -23,7 +23,7 @@ returns c =
           (
             omega (arith, count, all, before, c.touch.ensures.part),
             value ∙ part_lent size bytes.len start bytes.items bytes.ok.0 before
-            ∙ ap (λ (l : List ℕ). bytes_at (filled size bytes.items) start (length l)) (sym value) ∙ ap (λ (m : List ℕ). bytes_at m start (length part)) same,
+                ∙ ap (λ (l : List ℕ). bytes_at (filled size bytes.items) start (length l)) (sym value) ∙ ap (λ (m : List ℕ). bytes_at m start (length part)) same,
           ),
         );
       },
