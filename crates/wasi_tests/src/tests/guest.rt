@@ -126,7 +126,7 @@ pub fn fresh<'s, 't>(
 }
 
 /// Whether memory has these bytes at an address.
-fn has_bytes(memory: &Memory, address: u32, bytes: &[u8]) -> bool {
+fn has_bytes(memory: &mut Memory, address: u32, bytes: &[u8]) -> bool {
     match u32::try_from(bytes.len()) {
         Ok(len) => memory.slice(address, len) == Some(bytes),
         Err(_) => false,

@@ -81,7 +81,7 @@ type Row<'a> = (u8, &'a [u8], Want);
 
 fn has_first_values(made: &Instantiated) -> bool {
     made.memory.len() == 65_536
-        && made.memory.slice(65_532, 4) == Some(b"\0abc".as_slice())
+        && made.memory.load_u32(65_532, 0) == Some(0x6362_6100)
         && made.table.get(0) == Some(None)
         && made.table.get(1) == Some(Some(1))
         && made.globals.as_slice() == [2, 3, 4_294_967_295, 18_446_744_073_709_551_614].as_slice()

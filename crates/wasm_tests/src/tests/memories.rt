@@ -20,7 +20,7 @@ enum Deed<'a> {
     Length(usize),
 }
 
-fn holds(memory: &Memory, address: u32, bytes: &[u8]) -> bool {
+fn holds(memory: &mut Memory, address: u32, bytes: &[u8]) -> bool {
     match u32::try_from(bytes.len()) {
         Ok(len) => memory.slice(address, len) == Some(bytes),
         Err(_) => false,
