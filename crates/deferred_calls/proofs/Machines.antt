@@ -30,10 +30,10 @@ use Rattle.wasm_operands.proofs.Values.{numbers-reverse}
 use Rattle.wasm_operands.proofs.PlainSteps.Moving.{some_same}
 use Rattle.wasm_places.specs.FunctionTypes.{IsImportType}
 use Rattle.wasm_interp.specs.Invocations.{AnswersAt, AnswersBy, AsksBy, Fit, InvokesBy, LetsGoBy, OpensBy, ReturnsBy, TellsStores, WritesBy, values_of}
-use Rattle.wasm_interp.specs.Promises.{ResumedBy}
+use Rattle.wasm_interp.specs.Promises.{PausesBy, ResumedBy}
 use Rattle.deferred_calls.specs.Whole.{answered_by, whole_callee, whole}
 use Rattle.deferred_calls.specs.Deferring.{Grants}
-use Rattle.deferred_calls.specs.Machines.{AreParts, Deferring, GrantsBy, MachinesDefer, PausesBy, StandsForWhole, whole_link}
+use Rattle.deferred_calls.specs.Machines.{AreParts, Deferring, GrantsBy, MachinesDefer, StandsForWhole, whole_link}
 use Rattle.deferred_calls.proofs.Whole.{callee_at, reach, same_type, step}
 use Rattle.deferred_calls.proofs.Granting.{asks_whole, grant_is_the_call, serves_whole}
 

@@ -13,12 +13,11 @@ use Rattle.wasm_store.specs.Instances.{outside}
 use Rattle.wasm_steps.specs.declared.pause.Pause.{Pause}
 use Rattle.wasm_steps.specs.declared.pause.Pause.TheVariants.{Called, Spent}
 use Rattle.wasm_steps.specs.Configuration.{Instance, Configuration}
-use Rattle.wasm_steps.specs.Outcomes.{Paused, UnitsRise}
 use Rattle.wasm_steps.specs.Steps.{CallsOf}
 use Rattle.wasm_operands.specs.Snapshots.{Snapshot, StandsFor}
 use Rattle.wasm_places.specs.FunctionTypes.{IsImportType}
 use Rattle.wasm_interp.specs.Invocations.{AnswersBy, AsksBy, InvokesBy, LetsGoBy, OpensBy, ReturnsBy, TellsStores, WritesBy}
-use Rattle.wasm_interp.specs.Promises.{ResumedBy}
+use Rattle.wasm_interp.specs.Promises.{PausesBy, ResumedBy}
 use Rattle.deferred_calls.specs.Whole.{whole}
 
 -- the call that a module's import is deferred from, by its index
@@ -58,13 +57,6 @@ module _ (deferred : Deferring) (Stands : StandsFor) where
     pub answers : AnswersBy Stands written new (e.0 ∷ [])
     pub is_deferred : deferred old.valid answers.function ≡ Some call
     pub answered : Calls h' asking.memory (suc asking.used) call (reverse answers.arguments) h'' memory (value e)
-
--- what a machine promises of a pause within some units, however it came there
-pub record PausesBy (Stands : StandsFor) (H : Type 0) (Calls : CallsOf H) (h h' : H) (old new : Snapshot) (units : ℕ) (p : Pause) : Type 0 where
-  pub module_is : new.valid ≡ old.valid
-  pub most_values : new.most_values ≡ old.most_values
-  pub units_rise : UnitsRise p units old.used new.used
-  pub run : (i : Instance) (c : Configuration) → Stands old i c → (d : Configuration) × Stands new i d × Paused H Calls i p h c h' d
 
 module _ (deferred : Deferring) (Stands : StandsFor) (H : Type 0) (Calls : CallsOf H) where
   abbrev pub Whole : StandsFor

@@ -126,6 +126,7 @@ module _ {D W1 W2 : Type 0} (honest : D → Type 0) (disk : D → Disk) (sectors
         io = λ e is io. has_failed more host_call new (c.io e is io);
         synced = c.synced;
         exits = λ status is. ap (λ h. whole_host more h) (c.exits status is);
+        ends = c.ends;
         heard = record { input = heard more old new was now run; out = c.heard.out; err = c.heard.err };
       }
 

@@ -1,9 +1,10 @@
 -- An exported function, by its name.
-use Rattle.std.proofs.Common.{◌≡◌, ℕ, ◌+◌, ◌<◌, ◌≤◌, List, length, Some, refl, sym, ap, ◌∙◌, arith, inl, inr, get_or}
+use Rattle.std.proofs.Common.{◌≡◌, ℕ, ◌+◌, ◌<◌, ◌≤◌, List, length, Option, Some, None, IfNone, refl, sym, ap, ◌∙◌, arith, inl, inr, get_or}
 use Rattle.std.specs.Prelude.{slice_get, ◌⊎◌}
 use Rattle.std.proofs.Math.Nat.{eq-or-lt_of_le}
 use Rattle.std.proofs.lemmas.Option.{slice_get_read, slice_get-get_or}
 use Rattle.wasm_syntax.specs.declared.module.Export.{Export}
+use Rattle.wasm_syntax.specs.declared.module.ExportKind.{ExportKind}
 use Rattle.wasm_syntax.specs.declared.module.ExportKind.TheVariants as exports
 use Rattle.wasm_syntax.specs.declared.module.FuncType.{FuncType}
 use Rattle.wasm_syntax.specs.declared.module.Module.{Module}
@@ -12,6 +13,19 @@ use Rattle.invoked_run.specs.Exports.{IsExportOf}
 
 abbrev export_of : List ℕ → ℕ → Export
 export_of name x = record { name = name; kind = exports.Function x }
+
+-- the function that an export is
+abbrev function_of : ExportKind → ℕ
+function_of (exports.Function x) = x
+function_of k = 0
+
+pub same_function : (name : List ℕ) (e : Export) (x y : ℕ) → e ≡ export_of name x → e ≡ export_of name y → x ≡ y
+same_function name e x y is same = ap (λ (e : Export). function_of e.kind) (sym is ∙ same)
+
+-- what follows where there is none
+pub if_none : {A : Type 0} (o : Option A) {P Q : Type 0} → IfNone o P → (P → Q) → IfNone o Q
+if_none None p f = f p
+if_none (Some x) p f = tt
 
 -- no export before this one is a function of the module's own by this name
 pub record NoneBefore (m : Module) (name : List ℕ) (k : ℕ) : Type 0 where

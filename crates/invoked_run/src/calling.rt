@@ -62,9 +62,11 @@ where
         match event {
             Event::Returned => return CallEnd::Returned(instance.result()),
             Event::Asked(_) => return CallEnd::Unanswered,
-            Event::Paused(Pause::Called(_, _)) => continue 'going,
-            Event::Paused(Pause::Spent) => return CallEnd::Ended(Outcome::OutOfFuel),
-            Event::Paused(Pause::Ended(outcome)) => return CallEnd::Ended(outcome),
+            Event::Paused(pause) => match pause {
+                Pause::Called(_, _) => continue 'going,
+                Pause::Spent => return CallEnd::Ended(Outcome::OutOfFuel),
+                Pause::Ended(outcome) => return CallEnd::Ended(outcome),
+            },
         }
     }
 }
@@ -115,7 +117,7 @@ where
     requires unused { used_by instance ≡ 0 }
     requires opening { instance.stage ≡ stages.Opening }
     ensures { CallsOnceAndEnds (devices D.Device R.Read W1.Write W2.Write R.gave R.refused W1.took
-        W1.refused W2.took W2.refused) instance name.now arguments.now fuel room.new result }
+        W1.refused W2.took W2.refused) instance.entry name.now arguments.now fuel room.new result }
 {
     let mut instance = instance;
     let end = call_within(&mut instance, name, arguments, fuel);

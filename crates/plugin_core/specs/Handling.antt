@@ -19,7 +19,7 @@ use Rattle.wasm_steps.specs.Steps.{CallsOf}
 use Rattle.wasm_places.specs.declared.invocable.Event.{Event}
 use Rattle.wasm_places.specs.declared.invocable.Event.TheVariants as event
 use Rattle.wasm_operands.specs.Snapshots.{Snapshot, StandsFor}
-use Rattle.wasm_interp.specs.Promises.{ResumedBy}
+use Rattle.wasm_interp.specs.Promises.{PausesBy}
 use Rattle.wasm_interp.specs.Invocations.{AnswersBy, AsksBy, InvokesBy, LetsGoBy, OpensBy, ReturnsBy, TellsStores, WritesBy, results_of, values_of}
 use Rattle.plugin_steps.specs.Serving.{Exchange}
 use Rattle.plugin_steps.specs.Lives.{returns, traps, exits, is_abandoned}
@@ -130,7 +130,7 @@ module _ (Stands : StandsFor) (H : Type 0) (Calls : CallsOf H) (m : Module) wher
     invokes : {h : H} {s t : Snapshot} (x : ℕ) (args name : List ℕ) → Contains m.exports (record { name = name; kind = exports.Function x }) → InvokesBy Stands s t x args → Handled h s (invoked x args) h t
     writes : {h : H} {s t : Snapshot} (memory : List ℕ) → length memory ≡ length s.memory → WritesBy Stands s t memory → Handled h s (wrote memory) h t
     lets_go : {h : H} {s t : Snapshot} → LetsGoBy Stands s t → Handled h s abandoned h t
-    pauses : {h h' : H} {s t : Snapshot} (units : ℕ) (p : Pause) → ResumedBy Stands H Calls h h' s t units p → Handled h s (paused p) h' t
+    pauses : {h h' : H} {s t : Snapshot} (units : ℕ) (p : Pause) → PausesBy Stands H Calls h h' s t units p → Handled h s (paused p) h' t
     has_returned : {h h' : H} {s t : Snapshot} (units : ℕ) → ReturnsBy Stands H Calls h h' s t units → Handled h s (returned (results_of t)) h' t
     asks : {h h' : H} {s t : Snapshot} (units x : ℕ) → AsksBy Stands H Calls h h' s t units x → Handled h s (asked x) h' t
     answers : {h : H} {s t : Snapshot} (results : List ℕ) → (a : AnswersBy Stands s t results) → Handled h s (answered s.memory a.function a.arguments results) h t

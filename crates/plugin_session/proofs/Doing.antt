@@ -9,17 +9,29 @@ use Rattle.wasm_places.specs.declared.invocable.Event.{Event}
 use Rattle.wasm_places.specs.declared.invocable.Event.TheVariants.{Asked, Paused, Returned}
 use Rattle.wasm_interp.specs.Machine.{Snapshot, Represents}
 use Rattle.wasm_interp.specs.Promise.{Resumed}
+use Rattle.wasm_interp.specs.Promises.{PausesBy}
 use Rattle.wasm_interp.specs.Invoking.{IsAsked, Returns}
 use Rattle.plugin_core.specs.declared.stage.Stage.{Stage}
 use Rattle.plugin_core.specs.Handling.{Goes, Handled, MayDo, act_of, asks, has_returned, pauses}
-use Rattle.plugin_session.specs.Instance.{RisesBy}
+use Rattle.plugin_session.specs.Instance.{Progresses, RisesBy}
+
+-- a resume pauses
+pause_of : (H : Type 0) (Calls : CallsOf H) (h h' : H) (s t : Snapshot) (units : ℕ) (p : Pause) → Resumed H Calls h h' s t units p → PausesBy Represents H Calls h h' s t units p
+pause_of H Calls h h' s t units p v = record {
+  module_is = v.module_is;
+  most_values = v.most_values;
+  units_rise = v.units_rise;
+  run = λ i c st.
+      let (d, now, paused, before, after, unit) = v.run i c st in
+      (d, now, paused);
+}
 
 -- it went on until this event
 pub went : (H : Type 0) (Calls : CallsOf H) (m : Module) (h h' : H) (s t : Snapshot) (units : ℕ) (e : Event) → (e ≡ Returned → Returns H Calls h h' s t units) → ((x : ℕ) → e ≡ Asked x → IsAsked H Calls h h' s t units x)
     → ((p : Pause) → e ≡ Paused p → Resumed H Calls h h' s t units p) → Handled Represents H Calls m h s (act_of e t) h' t
 went H Calls m h h' s t units Returned returned asked paused = has_returned units (returned refl)
 went H Calls m h h' s t units (Asked x) returned asked paused = asks units x (asked x refl)
-went H Calls m h h' s t units (Paused p) returned asked paused = pauses units p (paused p refl)
+went H Calls m h h' s t units (Paused p) returned asked paused = pauses units p (pause_of H Calls h h' s t units p (paused p refl))
 
 -- and took at most the units that it was given
 pub rises : (H : Type 0) (Calls : CallsOf H) (h h' : H) (s t : Snapshot) (units : ℕ) (e : Event) → (e ≡ Returned → Returns H Calls h h' s t units) → ((x : ℕ) → e ≡ Asked x → IsAsked H Calls h h' s t units x)
@@ -27,6 +39,12 @@ pub rises : (H : Type 0) (Calls : CallsOf H) (h h' : H) (s t : Snapshot) (units 
 rises H Calls h h' s t units Returned returned asked paused = (returned refl).units_rise
 rises H Calls h h' s t units (Asked x) returned asked paused = (asked x refl).units_rise
 rises H Calls h h' s t units (Paused p) returned asked paused = (paused p refl).units_rise
+
+-- and made progress
+pub progresses : (H : Type 0) (Calls : CallsOf H) (h h' : H) (s t : Snapshot) (units : ℕ) (e : Event) → ((p : Pause) → e ≡ Paused p → Resumed H Calls h h' s t units p) → Progresses e s t
+progresses H Calls h h' s t units Returned paused = tt
+progresses H Calls h h' s t units (Asked x) paused = tt
+progresses H Calls h h' s t units (Paused p) paused = (paused p refl).progress
 
 -- where a function is at work, it may go on to any event
 pub may_go_on : (g : Stage) (e : Event) (s : Snapshot) → Goes g → MayDo g (act_of e s)

@@ -9,7 +9,7 @@ use Rattle.std.specs.declared.io.ErrorKind.{ErrorKind}
 use Rattle.sandbox_args.specs.Request.{Text}
 use Rattle.sandbox_args.specs.declared.request.Run.{Run}
 use Rattle.sandbox_telling.specs.Reporting.{receiver_of}
-use Rattle.sandbox_command.specs.Places.{Access, Makes, Opens, Reads, Receives, Chain, ChainWithFailure, IsRefusedAmong, IsRefusedOfAll, medium_accesses, reads_of, run_accesses, where_named}
+use Rattle.sandbox_places.specs.Places.{Access, Makes, Opens, Reads, Receives, Chain, ChainWithFailure, IsRefusedAmong, IsRefusedOfAll, medium_accesses, reads_of, run_accesses, where_named}
 use Rattle.sandbox_command.specs.internal.Tests.{AllEndAs, OneEndsAs}
 
 module _ {A P : Type 0} (step : A → P → P → Type 0) where

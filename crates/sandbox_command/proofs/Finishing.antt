@@ -14,7 +14,7 @@ use Rattle.sandbox_args.specs.declared.request.Invocation.{Invocation}
 use Rattle.sandbox_args.specs.declared.request.Invocation.TheVariants as asked
 use Rattle.sandbox_args.specs.Request.{Text}
 use Rattle.wasi_bodies.specs.host.Worlds.{StreamCalls}
-use Rattle.sandbox_command.specs.declared.places.Places.{Ghosts}
+use Rattle.sandbox_places.specs.declared.places.Places.{Ghosts}
 use Rattle.sandbox_runs.specs.declared.program.Executed.{Executed}
 use Rattle.sandbox_command.specs.declared.closing.RunLeft.{RunLeft}
 use Rattle.sandbox_command.specs.declared.opening.RunFiles.{RunFiles}
@@ -29,7 +29,8 @@ use Rattle.sandbox_telling.specs.declared.stopping.Stopped.{Stopped}
 use Rattle.sandbox_command.specs.Alone.{Gives, Hands, HandsAll, IsHandedOver, IsProfiled, IsTold, KeepsIt, PrintsUse, RunsAlone, RunsInMemory, RunsOnMedium, RunsWith, left_of, of_buffer}
 use Rattle.sandbox_command.specs.Around.{Around, in_memory}
 use Rattle.sandbox_runs.specs.Execution.{Runs}
-use Rattle.sandbox_command.specs.Files.{Clashes, IsPerformed, RunsNamed}
+use Rattle.sandbox_places.specs.Clashing.{Clashes}
+use Rattle.sandbox_command.specs.Files.{IsPerformed, RunsNamed}
 use Rattle.sandbox_runs.specs.Flushing.{RunAnswered}
 use Rattle.sandbox_telling.specs.Sources.{calls_of_run, own_of, sink_answered, sink_contents, source_remaining}
 use Rattle.sandbox_runs.specs.Status.{export_status, file_status, import_status}

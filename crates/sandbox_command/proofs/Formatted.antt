@@ -13,9 +13,10 @@ use Rattle.sandbox_telling.specs.declared.streams.Streams.{Streams}
 use Rattle.sandbox_telling.specs.declared.work.VolumeWork.{VolumeWork}
 use Rattle.sandbox_telling.specs.declared.work.VolumeWork.TheVariants as work
 use Rattle.sandbox_command.specs.Around.{Around, EndsGiven}
-use Rattle.sandbox_command.specs.Files.{Clashes, DoesFormat, DoesOn, HasExecuted, IsPerformed}
+use Rattle.sandbox_places.specs.Clashing.{Clashes}
+use Rattle.sandbox_command.specs.Files.{DoesFormat, DoesOn, HasExecuted, IsPerformed}
 use Rattle.sandbox_telling.specs.Formatting.{most_sectors, room_for, version_for}
-use Rattle.sandbox_command.specs.Places.{Access, HasRoom, lengthens}
+use Rattle.sandbox_places.specs.Places.{Access, HasRoom, lengthens}
 use Rattle.sandbox_runs.specs.Status.{file_status}
 
 most_within : (version : Version) → most_sectors version ≤ 16777216

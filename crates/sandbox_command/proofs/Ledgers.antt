@@ -7,7 +7,7 @@ use Rattle.sandbox_args.specs.Request.{Text}
 use Rattle.sandbox_command.specs.declared.opening.Ledger.{Ledger}
 use Rattle.sandbox_telling.specs.declared.stopping.Stopped.{Stopped}
 use Rattle.sandbox_command.specs.Alone.{IsLedger, file_of, stacks_of}
-use Rattle.sandbox_command.specs.Places.{IsOfName}
+use Rattle.sandbox_places.specs.Places.{IsOfName}
 use Rattle.sandbox_telling.specs.Profiling.{TellsUse, no_stacks}
 
 module _ {O : Type 0} (is_output : Text → O → Type 0) where

@@ -1,8 +1,5 @@
 mod Chains
 mod Both
-mod Given
-mod OfName
-mod Wholly
 mod Words
 mod Bounds
 mod Finishing

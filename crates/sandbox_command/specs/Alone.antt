@@ -26,7 +26,7 @@ use Rattle.sandbox_telling.specs.declared.streams.InputSource.{InputSource}
 use Rattle.sandbox_telling.specs.declared.streams.Sink.{Sink}
 use Rattle.sandbox_telling.specs.declared.streams.SpareStreams.{SpareStreams}
 use Rattle.sandbox_telling.specs.declared.streams.Streams.{Streams}
-use Rattle.sandbox_command.specs.declared.places.Places.{Ghosts}
+use Rattle.sandbox_places.specs.declared.places.Places.{Ghosts}
 use Rattle.sandbox_command.specs.declared.opening.Ledger.{Ledger}
 use Rattle.sandbox_command.specs.declared.opening.RunFiles.{RunFiles}
 use Rattle.sandbox_command.specs.declared.opening.Medium.{Medium}
@@ -36,7 +36,7 @@ use Rattle.sandbox_command.specs.Around.{Around, EndsGiven, in_memory}
 use Rattle.sandbox_command.specs.Archive.{Fills, unfilled}
 use Rattle.sandbox_command.specs.Beginning.{IsImage, unread}
 use Rattle.sandbox_runs.specs.Execution.{Runs}
-use Rattle.sandbox_command.specs.Places.{Chain, HandsOut, HandsOver, IsOfImage, IsOfName, IsOfRandom, IsRefusedAmong, IsRefusedOfAll, Prints, report_accesses, run_accesses}
+use Rattle.sandbox_places.specs.Places.{Chain, HandsOut, HandsOver, IsOfImage, IsOfName, IsOfRandom, IsRefusedAmong, IsRefusedOfAll, Prints, report_accesses, run_accesses}
 use Rattle.observed_run.specs.Stacks.{Stacks}
 use Rattle.sandbox_telling.specs.declared.profiling.FuelUse.{FuelUse}
 use Rattle.sandbox_telling.specs.declared.stopping.Stopped.{Stopped}

@@ -10,7 +10,7 @@ use Rattle.vol_sector.specs.declared.device.Device.{Ghosts as Known}
 use Rattle.vol_sector.specs.Past.{LeavesPast}
 use Rattle.wasi_bodies.specs.host.Worlds.{Hearing, StreamCalls, hearing}
 use Rattle.sandbox_device.specs.declared.ram_device.RamDevice.{RamDevice}
-use Rattle.sandbox_command.specs.declared.places.Places.{Ghosts}
+use Rattle.sandbox_places.specs.declared.places.Places.{Ghosts}
 use Rattle.sandbox_telling.specs.declared.streams.Streams.{Streams}
 use Rattle.sandbox_command.specs.Beginning.{memory_disk}
 use Rattle.sandbox_telling.specs.Streams.{AppendsSome}

@@ -1,7 +1,7 @@
 -- What is done on the files that a command line names (`docs/USING.md`, "Commands"), over any `Places` and, in `IsAnswered`,
 -- over the files of the system. No contract says which bytes a named file has; of a volume's file it is said what a crash
 -- leaves, by the premise `KeepsItsModel`. All that is asked for is said, and that nothing follows on what a command had.
-use Rattle.std.specs.Prelude.{◌≡◌, ◌⊎◌, ℕ, Bool, List, Option, Some, None, IsSome, IsSomeAnd, IsTrue, length}
+use Rattle.std.specs.Prelude.{◌≡◌, ◌⊎◌, ℕ, Bool, List, Option, Some, None, IsSomeAnd, length}
 use Rattle.std.specs.Borrow.{Bor}
 use Rattle.std.specs.declared.fs.File.{File}
 use Rattle.std.specs.declared.io.ErrorKind.{ErrorKind as InputKind}
@@ -9,11 +9,10 @@ use Rattle.std.specs.declared.io.Read.{Ghosts as Reader}
 use Rattle.std.specs.declared.io.Write.{Ghosts as Writer}
 use Rattle.clap.specs.declared.error.kind.ErrorKind.{ErrorKind as LineKind}
 use Rattle.clap.specs.Words.{subcommand_of}
-use Rattle.vol_sector.specs.Disk.{Disk}
 use Rattle.vol_sector.specs.Past.{LeavesPast}
 use Rattle.vol_inode.specs.declared.version.Version.{Version}
 use Rattle.sandbox_device.specs.declared.opening.FileOutput.{FileOutput}
-use Rattle.sandbox_device.specs.File.{kept, KeepsItsModel}
+use Rattle.sandbox_device.specs.File.{KeepsItsModel}
 use Rattle.sandbox_device.specs.Named.{WasOpened}
 use Rattle.sandbox_device.specs.Ram.{joined_sectors}
 use Rattle.sandbox_args.specs.declared.request.Run.{Run}
@@ -25,8 +24,8 @@ use Rattle.stream_answers.specs.Hearing.{Hears, Moves, Refuses}
 use Rattle.sandbox_runs.specs.declared.program.Executed.{Executed}
 use Rattle.sandbox_telling.specs.declared.work.VolumeWork.{VolumeWork}
 use Rattle.sandbox_telling.specs.declared.work.VolumeWork.TheVariants as work
-use Rattle.sandbox_command.specs.declared.host_places.HostPlaces.{HostPlaces}
-use Rattle.sandbox_command.specs.declared.host_volume.HostVolume.{HostVolume}
+use Rattle.sandbox_places.specs.declared.host_places.HostPlaces.{HostPlaces}
+use Rattle.sandbox_places.specs.declared.host_volume.HostVolume.{HostVolume}
 use Rattle.sandbox_telling.specs.declared.streams.Streams.{Streams}
 use Rattle.sandbox_command.specs.Alone.{RunsAlone}
 use Rattle.sandbox_command.specs.Around.{Around, Calling, EndsGiven, Flushes}
@@ -35,42 +34,14 @@ use Rattle.sandbox_runs.specs.Flushing.{Answered}
 use Rattle.sandbox_telling.specs.Formatting.{room_for, version_for}
 use Rattle.sandbox_telling.specs.Modules.{profile_for}
 use Rattle.sandbox_runs.specs.Inspecting.{Inspects}
-use Rattle.sandbox_command.specs.Places.{Access, HasRoom, Locks, Reads, WasEnded, WasRefused, lengthens}
+use Rattle.sandbox_places.specs.Places.{Access, HasRoom, Locks, Reads, WasEnded, WasRefused, lengthens}
 use Rattle.sandbox_runs.specs.Status.{command_line_status, file_status, words_status}
 use Rattle.sandbox_telling.specs.Streams.{AppendsSome}
-use Rattle.sandbox_command.specs.System.{IsImageOfName, IsOutput, IsRead, IsVolume, WasGiven, WasPrinted}
+use Rattle.sandbox_places.specs.System.{IsImageOfName, IsOutput, IsRead, IsVolume, WasGiven, WasPrinted}
 use Rattle.sandbox_command.specs.ListOfTests.{RunsList}
 pub use Rattle.sandbox_command.specs.Beginning.{IsImage, memory_disk}
-
--- what each run of a list of tests has of its own, or can't have
-abbrev pub IsForOneRun : Run → Type 0
-IsForOneRun run = IsSome run.stdin ⊎ (IsSome run.stdout ⊎ (IsSome run.stderr ⊎ (IsSome run.report ⊎ (IsSome run.volume ⊎ (IsSome run.volume_out ⊎ (IsSome run.profile ⊎ (IsSome run.image_from ⊎ IsSome run.out_to)))))))
-
--- its stack is to be looked at in steps of no unit, or for no profile
-abbrev pub HasWrongSteps : Run → Type 0
-HasWrongSteps run = (run.profile_every ≡ Some 0) ⊎ (IsSome run.profile_every × (run.profile ≡ None))
-
--- it would begin with two volumes: one of its own, an image, or what a tar stream makes
-abbrev pub HasTwoVolumes : Run → Type 0
-HasTwoVolumes run = (IsSome run.image × IsSome run.volume) ⊎ (IsSome run.image_from × (IsSome run.volume ⊎ IsSome run.image))
-
--- What it leaves would be given out where nothing but its own file has it, or twice: its volume without an image or a tar stream to
--- begin with, or its tree beside a volume of its own, or beside its volume.
-abbrev pub IsMisgiven : Run → Type 0
-IsMisgiven run = (IsSome run.volume_out × (run.image ≡ None) × (run.image_from ≡ None)) ⊎ (IsSome run.out_to × (IsSome run.volume ⊎ IsSome run.volume_out))
-
--- what tells of a command's run alone
-abbrev pub IsForCommand : Run → Type 0
-IsForCommand run = IsSome run.tests ⊎ (IsSome run.report ⊎ IsSome run.profile)
-
--- A run whose options don't go together: two volumes, what it leaves given out so, a seed beside random bytes, a list of tests beside
--- what is for one run, steps of a profile that isn't wanted, or a call of an exported function beside what tells of a command's run.
--- Or a volume is to be large and huge.
-abbrev pub Clashes : Invocation → Type 0
-Clashes (asked.Run run) = HasTwoVolumes run ⊎ (IsMisgiven run ⊎ ((IsSome run.seed × IsSome run.random)
-    ⊎ ((IsSome run.tests × IsForOneRun run) ⊎ (HasWrongSteps run ⊎ (IsSome run.invoke × IsForCommand run)))))
-Clashes (asked.Format file sectors slots large huge new) = IsTrue large × IsTrue huge
-Clashes _ = ⊥
+pub use Rattle.sandbox_places.specs.Clashing.{IsForOneRun, HasWrongSteps, HasTwoVolumes, IsMisgiven, IsForCommand, Clashes}
+pub use Rattle.sandbox_places.specs.FileDisks.{file_disk}
 
 -- ---- over any places
 
@@ -141,10 +112,6 @@ module _ {P I O V R W1 W2 : Type 0} (on : Around P I O V R W1 W2) where
   IsPerformed (asked.Inspect «module» floats) given p q status = DoesInspect floats «module».now given p q status
 
 -- ---- the files of the system
-
--- what is known of the disk of a volume in a file
-abbrev pub file_disk : HostVolume → Disk
-file_disk d = kept d.device.sectors d.device.moments.unsynced d.device.moments.times
 
 -- What a file of a name is, by the evidence of who opened, read, printed and gave it (`System`). What was asked for is known to the code alone that
 -- asked for it.

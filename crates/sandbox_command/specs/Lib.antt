@@ -3,11 +3,9 @@
 -- or a list of tests names.
 pub mod Upheld
 pub mod Beginning
-pub mod Places
 pub mod Around
 pub mod Archive
 pub mod Alone
 pub mod ListOfTests
-pub mod System
 pub mod Files
 pub mod internal

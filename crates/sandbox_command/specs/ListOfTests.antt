@@ -22,14 +22,14 @@ use Rattle.wasi_bodies.specs.host.Worlds.{StreamCalls}
 use Rattle.sandbox_args.specs.declared.request.Run.{Run}
 use Rattle.sandbox_args.specs.Request.{Text}
 use Rattle.sandbox_runs.specs.declared.program.Executed.{Executed}
-use Rattle.sandbox_command.specs.declared.places.Places.{Ghosts}
+use Rattle.sandbox_places.specs.declared.places.Places.{Ghosts}
 use Rattle.sandbox_telling.specs.declared.streams.Streams.{Streams}
 use Rattle.sandbox_command.specs.declared.list_of_tests.TestFiles.{TestFiles}
 use Rattle.sandbox_command.specs.Around.{Around, EndsGiven, in_memory}
 use Rattle.sandbox_command.specs.Beginning.{IsImage, unread}
 use Rattle.sandbox_runs.specs.Execution.{NotLoaded, NotSupplied, RunsOn}
 use Rattle.sandbox_runs.specs.Flushing.{RunAnswered}
-use Rattle.sandbox_command.specs.Places.{Access, Opens, Makes, Reads, Prints, Chain, ChainWithFailure, IsOfImage, IsOfRandom, IsRefusedAmong, file_accesses, reads_of}
+use Rattle.sandbox_places.specs.Places.{Access, Opens, Makes, Reads, Prints, Chain, ChainWithFailure, IsOfImage, IsOfRandom, IsRefusedAmong, file_accesses, reads_of}
 use Rattle.sandbox_runs.specs.Status.{file_status}
 use Rattle.sandbox_telling.specs.Modules.{profile_for}
 use Rattle.sandbox_telling.specs.Stopping.{AreLinesBy, AreLinesOfNone}

@@ -6,18 +6,19 @@ ghost use Rattle.std.specs.Process.{exit_status};
 ghost use Rattle.sandbox_command.specs.Around.{EndsGiven, around, calling, flushing};
 ghost use Rattle.sandbox_command.specs.Files.{HasExecuted, IsAnswered, IsPerformed, IsPerformedOnSystem, DoesInspect};
 ghost use Rattle.stream_answers.specs.System.{HasRefused, WasGiven};
-ghost use Rattle.sandbox_runs.specs.Flushing.{FileFlushed, FileTook};
+ghost use Rattle.sandbox_runs.specs.Flushing.{FileFlushed};
+ghost use Rattle.sandbox_places.specs.System.{FileRefused, FileTook};
 ghost use Rattle.sandbox_runs.specs.Status.{file_status};
 
-use crate::clashing::clashes;
-use crate::host_places::HostPlaces;
 use crate::inspecting::inspect;
 use crate::list_of_tests::run_list;
 use crate::opening::MODULE_READ;
-use crate::places::Places;
 use crate::refusals::tell_of_clash;
 use crate::runs::{end_refused, run_alone};
 use sandbox_args::{GivenTerminals, Invocation, invocation};
+use sandbox_places::clashing::clashes;
+use sandbox_places::host_places::HostPlaces;
+use sandbox_places::places::Places;
 use sandbox_runs::program;
 use sandbox_telling::formatting::{room_for, version_for};
 use sandbox_telling::modules::profile_for;
@@ -53,8 +54,8 @@ pub fn exit_code<R: Inlet + Drop, W1: Outlet + Drop, W2: Outlet + Drop>(
     mut err: W2,
 ) -> ExitCode
     ensures tells { IsAnswered R.Read W1.Write W2.Write
-        (flushing FileFlushed HasRefused W1.flushed W1.refuses W2.flushed W2.refuses)
-        (calling WasGiven HasRefused FileTook HasRefused R.gave R.refused W1.took W1.refused W2.took
+        (flushing FileFlushed FileRefused W1.flushed W1.refuses W2.flushed W2.refuses)
+        (calling WasGiven HasRefused FileTook FileRefused R.gave R.refused W1.took W1.refused W2.took
         W2.refused) (record { input = input; out = out; err = err }) (exit_status result) }
     ensures within { exit_status result ≤ 125 }
 {
@@ -80,8 +81,8 @@ pub fn perform<R: Inlet + Drop, W1: Outlet + Drop, W2: Outlet + Drop>(
     err: W2,
 ) -> u8
     ensures tells { IsPerformedOnSystem R.Read W1.Write W2.Write
-        (flushing FileFlushed HasRefused W1.flushed W1.refuses W2.flushed W2.refuses)
-        (calling WasGiven HasRefused FileTook HasRefused R.gave R.refused W1.took W1.refused W2.took
+        (flushing FileFlushed FileRefused W1.flushed W1.refuses W2.flushed W2.refuses)
+        (calling WasGiven HasRefused FileTook FileRefused R.gave R.refused W1.took W1.refused W2.took
         W2.refused) invocation.now (record { input = input; out = out; err = err }) result }
     ensures within { result ≤ 124 }
 {

@@ -3,32 +3,24 @@
 #![tactic(auto)]
 
 mod archive;
-mod clashing;
 mod closing;
 mod files;
-mod host_places;
-mod host_volume;
 mod inspecting;
-mod invoking;
 pub mod laws;
 mod list_of_tests;
 mod opening;
-mod places;
-mod possession;
-mod reading;
-mod receiver;
 mod refusals;
 mod runs;
 
 pub use files::{exit_code, perform, perform_in};
-pub use host_volume::HostVolume;
 pub use list_of_tests::run_list;
 pub use observed_run::{FuelProfile, Names};
-pub use places::Places;
 pub use sandbox_args::{
     Change, GivenTerminals, GuestLimits, Invocation, ListForm, Run, Task, invocation,
 };
 pub use sandbox_device::{FileDevice, FileOutput, Hindrance, RamDevice};
+pub use sandbox_places::host_volume::HostVolume;
+pub use sandbox_places::places::Places;
 pub use sandbox_report::{Printed, Summary};
 pub use sandbox_runs::program::{Executed, execute, refuse_command_line, refuse_words};
 pub use sandbox_telling::profiling::FuelUse;

@@ -5,12 +5,12 @@ ghost use Rattle.std.specs.IoError.{error_kind};
 ghost use Rattle.std.specs.declared.io.ErrorKind.TheVariants as failing;
 ghost use Rattle.sandbox_command.specs.Alone.{AreOpened, HasReport, IsFresh, IsLedger, IsMedium, Lacks};
 ghost use Rattle.sandbox_command.specs.Beginning.{IsImage};
-ghost use Rattle.sandbox_command.specs.Places.{Chain, IsOfImage, IsOfName, IsOfRandom, IsRefusedAmong, IsRefusedOfAll, Makes, Opens, Reads, Receives, file_accesses, medium_accesses, reads_of, report_accesses, run_accesses, where_named};
+ghost use Rattle.sandbox_places.specs.Places.{Chain, IsOfImage, IsOfName, IsOfRandom, IsRefusedAmong, IsRefusedOfAll, Makes, Opens, Reads, Receives, file_accesses, medium_accesses, reads_of, report_accesses, run_accesses, where_named};
 
-use crate::places::Places;
 use observed_run::FuelProfile;
 use sandbox_args::Run;
 use sandbox_device::RamDevice;
+use sandbox_places::places::Places;
 use sandbox_telling::profiling::no_stacks;
 use sandbox_telling::reporting::receiver_of;
 use std::alloc::Global;

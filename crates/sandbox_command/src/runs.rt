@@ -6,7 +6,7 @@ ghost use Rattle.sandbox_command.specs.Alone.{IsLedger, IsTold, IsUnfilled, Keep
 ghost use Rattle.sandbox_command.specs.Around.{EndsGiven, around, calling, flushing};
 ghost use Rattle.sandbox_command.specs.Archive.{Fills};
 ghost use Rattle.sandbox_command.specs.Beginning.{unread};
-ghost use Rattle.sandbox_command.specs.Places.{IsOfName};
+ghost use Rattle.sandbox_places.specs.Places.{IsOfName};
 ghost use Rattle.sandbox_runs.specs.Status.{file_status};
 ghost use Rattle.sandbox_telling.specs.Stopping.{AreLinesOfNone};
 ghost use Rattle.sandbox_args.specs.Request.{Text};
@@ -14,10 +14,10 @@ ghost use Rattle.sandbox_args.specs.Request.{Text};
 use crate::archive::{filled, refuse_archive, unfilled};
 use crate::closing::{Ending, RunLeft, delivered, finished, profiled, refuse, told, unread};
 use crate::opening::{Ledger, Medium, RunFiles, made_report, open_all};
-use crate::places::Places;
 use observed_run::FuelProfile;
 use sandbox_args::Run;
 use sandbox_device::RamDevice;
+use sandbox_places::places::Places;
 use sandbox_runs::program;
 use sandbox_telling::stopping::no_lines;
 use sandbox_telling::streams::{

@@ -1,9 +1,9 @@
 -- What outputs answer when they are flushed, after a run or a command has ended. That one was flushed, or that it refused that, is
 -- shown by who asked it alone, over any `Outlet` (`stream_answers`): so what `flushed` of an end says, by which
 -- a status is 124 and a line fault 41, is what the outputs answered.
-use Rattle.std.specs.Prelude.{◌≡◌, ◌⊎◌, ℕ, List, Bool, true, false, None}
+use Rattle.std.specs.Prelude.{◌≡◌, ◌⊎◌, Bool, true, false, None}
 use Rattle.sandbox_device.specs.declared.opening.FileOutput.{FileOutput}
-use Rattle.sandbox_device.specs.Written.{Flushes, Puts, WasCut, WasFlushed, WasPut}
+use Rattle.sandbox_device.specs.Written.{Flushes, WasCut, WasFlushed}
 use Rattle.sandbox_runs.specs.declared.program.Executed.{Executed}
 
 -- it came to this by such an answer
@@ -28,7 +28,3 @@ module _ {W1 W2 : Type 0} (out_flushed out_refuses : W1 → W1 → Type 0) (err_
 -- ---- the system: a file of an output was cut, if it wasn't before, and flushed
 abbrev pub FileFlushed : FileOutput → FileOutput → Type 0
 FileFlushed before after = Flushes WasCut WasFlushed before.on after.on
-
--- ...and put bytes at its end
-abbrev pub FileTook : FileOutput → List ℕ → FileOutput → Type 0
-FileTook before bytes after = Puts WasCut WasPut before.on bytes after.on

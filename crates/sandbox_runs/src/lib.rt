@@ -5,5 +5,6 @@
 pub mod checking;
 pub mod ending;
 mod invoking;
+mod opening;
 pub mod program;
 pub mod sessions;

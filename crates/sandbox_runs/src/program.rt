@@ -4,7 +4,6 @@ ghost use Rattle.std.specs.Prelude.{◌≡◌, ◌⊎◌, ◌≤◌, true, Some,
 ghost use Rattle.std.specs.Io.KnownBytes.{Keeps};
 ghost use Rattle.std.specs.IoError.{error_kind};
 ghost use Rattle.clap.specs.Values.{kind_of};
-ghost use Rattle.sandbox_core.specs.Session.{given};
 ghost use Rattle.sandbox_report.specs.declared.fault.Fault.TheVariants as reason;
 ghost use Rattle.wasi_bodies.specs.host.Worlds.{hearing};
 ghost use Rattle.sandbox_runs.specs.StreamCalling.{calls_of};
@@ -17,7 +16,6 @@ ghost use Rattle.sandbox_telling.specs.Stopping.{TellsLines};
 ghost use Rattle.sandbox_telling.specs.Streams.{AppendsSome};
 ghost use Rattle.sandbox_telling.specs.Reporting.{broken_in, kept_where_not_begun, kept_where_refused, not_run, run_summary, session_reason, volume_of};
 ghost use Rattle.sandbox_runs.specs.Running.{returned_device};
-ghost use Rattle.sandbox_telling.specs.Supplies.{AreSettings};
 ghost use Rattle.sandbox_telling.specs.internal.Runnable.{IsReadyFor, module_in};
 ghost use Rattle.sandbox_telling.specs.internal.Supplies.{AreSupplies};
 ghost use Rattle.sandbox_runs.specs.Execution.{RunsOn, Runs, Executes, StaysWithin};
@@ -25,7 +23,8 @@ ghost use Rattle.sandbox_runs.specs.Execution.{RunsOn, Runs, Executes, StaysWith
 use crate::checking::ended_task;
 use crate::ending::ended;
 use crate::invoking::invoke_valid;
-use crate::sessions::{launch_bare, launch_prepared};
+use crate::opening::open_for_run;
+use crate::sessions::{launch_bare, launch_prepared, parts_of};
 use observed_run::FuelProfile;
 use sandbox_args::Run;
 use sandbox_core::{HostParts, LoadFault, Outcome, Report, SessionFault, Tally, Volume, load_with};
@@ -41,13 +40,13 @@ use sandbox_telling::reporting::{
 use sandbox_telling::runnable::Runnable;
 use sandbox_telling::stopping::{Stopped, lines_of, no_lines};
 use sandbox_telling::streams::Streams;
-use sandbox_telling::supplies::{GuestTexts, settings, supplied};
+use sandbox_telling::supplies::{GuestTexts, supplied};
 use sandbox_telling::work::VolumeWork;
 use std::alloc::Global;
 use std::io;
 use std::io::Write;
 use stream_answers::{Inlet, Outlet};
-use vol_commands::{export_from, format_where, import_into, open_for_run, perform};
+use vol_commands::{export_from, format_where, import_into, perform};
 use vol_sector::{Device, Refused, VolumeFault};
 
 /// The status where a guest's own one is greater than `GREATEST`.
@@ -396,28 +395,6 @@ pub(crate) fn volume_of<'a>(run: &Run<'a>) -> Option<&'a str>
     ensures { result ≡ volume_of run.now }
 {
     run.volume.or(run.image.or(run.image_from))
-}
-
-/// What the session of a run is made of beside its module.
-pub(crate) fn parts_of<'a, 't, D: Device, R, W1, W2>(
-    run: &Run<'t>,
-    supplies: &'a GuestTexts<'t>,
-    random: &'a [u8],
-    volume: Volume<D>,
-    streams: Streams<R, W1, W2>,
-) -> HostParts<'a, 't, D, R, W1, W2>
-    requires { AreSupplies run.now supplies.now }
-    ensures settings { AreSettings run.now random.now result.settings }
-    ensures parts { result ≡ given result.settings volume streams.input streams.out streams.err }
-{
-    let Streams { input, out, err } = streams;
-    HostParts {
-        settings: settings(run, supplies, random),
-        volume,
-        input,
-        out,
-        err,
-    }
 }
 
 /// Ends a run whose volume is refused. Gives the device and the streams back.

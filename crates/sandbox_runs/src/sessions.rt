@@ -2,13 +2,15 @@
 
 ghost use Rattle.std.specs.Prelude.{◌≡◌, None, IfSome, Some, length};
 ghost use Rattle.sandbox_core.specs.Devices.{devices};
-ghost use Rattle.sandbox_core.specs.Session.{limited_to, used_by};
+ghost use Rattle.sandbox_core.specs.Session.{given, limited_to, used_by};
+ghost use Rattle.wasi_calls.specs.declared.host.wasi_host.HostParts.{HostParts as PartsValue};
 ghost use Rattle.wasi_bodies.specs.host.Worlds.{hearing};
 ghost use Rattle.sandbox_runs.specs.Flushing.{BothAnswered, RunAnswered};
 ghost use Rattle.sandbox_telling.specs.Profiling.{IsThere, IsUseWith, ReportsCharged, TellsUse, no_stacks, slice_of};
 ghost use Rattle.sandbox_telling.specs.Reporting.{counting, output_of};
 ghost use Rattle.sandbox_runs.specs.Running.{Launches};
-ghost use Rattle.sandbox_telling.specs.Supplies.{terminals_of};
+ghost use Rattle.sandbox_telling.specs.Supplies.{AreSettings, terminals_of};
+ghost use Rattle.sandbox_telling.specs.internal.Supplies.{AreSupplies};
 ghost use Rattle.sandbox_runs.specs.internal.Seeds.{prepared_by, with_seed, with_terminals};
 ghost use Rattle.sandbox_runs.specs.internal.Sessions.{RunsSession};
 
@@ -17,12 +19,13 @@ use observed_run::{FuelProfile, ToldRun, run_profiled, run_told};
 use sandbox_args::Run;
 use sandbox_core::{
     Frame, HostParts, RefusedParts, RefusedSession, Resumable, Session, SharedModule,
-    SharedSession, Valid,
+    SharedSession, Valid, Volume,
 };
 use sandbox_report::Counted;
 use sandbox_telling::profiling::{FuelUse, slice_of};
 use sandbox_telling::stopping::{room_for, stopped_with};
-use sandbox_telling::supplies::terminals_of;
+use sandbox_telling::streams::Streams;
+use sandbox_telling::supplies::{GuestTexts, settings, terminals_of};
 use std::alloc::Global;
 use stream_answers::{Inlet, Outlet};
 use vol_sector::Device;
@@ -212,23 +215,24 @@ fn output_of(run: &Run<'_>) -> u64
     run.limits.output.unwrap_or(u64::MAX)
 }
 
-/// The parts of a session whose streams are counted, and whose outputs take so many bytes at most as the words say.
-pub(crate) fn counted_parts<'s, 't, D: Device, R, W1, W2>(
-    run: &Run<'_>,
-    parts: HostParts<'s, 't, D, R, W1, W2>,
-) -> HostParts<'s, 't, D, Counted<R>, Counted<W1>, Counted<W2>>
-    ensures { result ≡ counting run.now parts.entry }
+/// What the session of a run is made of beside its module. The streams are counted, and the outputs take so many bytes at most as
+/// the words say.
+pub(crate) fn parts_of<'a, 't, D: Device, R, W1, W2>(
+    run: &Run<'t>,
+    supplies: &'a GuestTexts<'t>,
+    random: &'a [u8],
+    volume: Volume<D>,
+    streams: Streams<R, W1, W2>,
+) -> HostParts<'a, 't, D, Counted<R>, Counted<W1>, Counted<W2>>
+    requires { AreSupplies run.now supplies.now }
+    ensures settings { AreSettings run.now random.now result.settings }
+    ensures parts { result ≡ counting run.now (given result.settings volume streams.input
+        streams.out streams.err) }
 {
-    let HostParts {
-        settings,
-        volume,
-        input,
-        out,
-        err,
-    } = parts;
     let most = output_of(run);
+    let Streams { input, out, err } = streams;
     HostParts {
-        settings,
+        settings: settings(run, supplies, random),
         volume,
         input: Counted::new(input, u64::MAX),
         out: Counted::new(out, most),
@@ -236,21 +240,22 @@ pub(crate) fn counted_parts<'s, 't, D: Device, R, W1, W2>(
     }
 }
 
-/// Runs a valid module, of which nothing is prepared, with these settings on an open volume. Gives the module and the volume's device
-/// back. Where there are stacks, they get the units of the run.
+/// Runs a valid module, of which nothing is prepared, with these settings on an open volume, and with streams that are counted from
+/// here on. Gives the module and the volume's device back. Where there are stacks, they get the units of the run.
 pub fn launch_bare<'a, D: Device + Drop, R: Inlet + Drop, W1: Outlet + Drop, W2: Outlet + Drop>(
     alloc: Global,
     run: &Run<'_>,
     valid: Valid<'a>,
-    parts: HostParts<'_, '_, D, R, W1, W2>,
+    parts: HostParts<'_, '_, D, Counted<R>, Counted<W1>, Counted<W2>>,
     stacks: Option<FuelProfile>,
 ) -> (Valid<'a>, Executed<D, R, W1, W2>)
     requires { IfSome stacks (λ s. s ≡ no_stacks) }
     ensures module { result.0 ≡ valid.entry }
     ensures fuel_use { TellsUse stacks result.1.stopped }
-    ensures launches { Launches D.honest D.disk D.size D.failures D.goes_on R.remaining W1.contents
-        W2.contents (hearing R.gave R.refused W1.took W1.refused W2.took W2.refused) valid.entry
-        run.now parts.entry result.1 }
+    ensures launches { (its : PartsValue D R W1 W2) → parts.entry ≡ counting run.now its
+        → Launches D.honest D.disk D.size D.failures D.goes_on R.remaining W1.contents W2.contents
+        (hearing R.gave R.refused W1.took W1.refused W2.took W2.refused) valid.entry run.now its
+        result.1 }
     ensures answered { RunAnswered W1.flushed W1.refuses W2.flushed W2.refuses result.1 }
 {
     let HostParts {
@@ -259,7 +264,7 @@ pub fn launch_bare<'a, D: Device + Drop, R: Inlet + Drop, W1: Outlet + Drop, W2:
         input,
         out,
         err,
-    } = counted_parts(run, parts);
+    } = parts;
     let imported = imports_of(valid.module());
     match Session::new(alloc, valid, settings, volume, input, out, err) {
         Ok(session) => run_session(alloc, run, imported, session, stacks),
@@ -278,15 +283,16 @@ pub fn launch_prepared<D: Device + Drop, R: Inlet + Drop, W1: Outlet + Drop, W2:
     alloc: Global,
     run: &Run<'_>,
     shared: &SharedModule<'_>,
-    parts: HostParts<'_, '_, D, R, W1, W2>,
+    parts: HostParts<'_, '_, D, Counted<R>, Counted<W1>, Counted<W2>>,
     stacks: Option<FuelProfile>,
 ) -> Executed<D, R, W1, W2>
     requires pages { parts.settings.pages ≡ shared.now.pages }
     requires new { IfSome stacks (λ s. s ≡ no_stacks) }
     ensures fuel_use { TellsUse stacks result.stopped }
-    ensures launches { Launches D.honest D.disk D.size D.failures D.goes_on R.remaining W1.contents
-        W2.contents (hearing R.gave R.refused W1.took W1.refused W2.took W2.refused)
-        shared.now.valid run.now parts.entry result }
+    ensures launches { (its : PartsValue D R W1 W2) → parts.entry ≡ counting run.now its
+        → Launches D.honest D.disk D.size D.failures D.goes_on R.remaining W1.contents W2.contents
+        (hearing R.gave R.refused W1.took W1.refused W2.took W2.refused) shared.now.valid run.now
+        its result }
     ensures answered { RunAnswered W1.flushed W1.refuses W2.flushed W2.refuses result }
 {
     let HostParts {
@@ -295,7 +301,7 @@ pub fn launch_prepared<D: Device + Drop, R: Inlet + Drop, W1: Outlet + Drop, W2:
         input,
         out,
         err,
-    } = counted_parts(run, parts);
+    } = parts;
     let valid = shared.module();
     let imported = imports_of(valid.module());
     match SharedSession::new(alloc, shared, settings, volume, input, out, err) {

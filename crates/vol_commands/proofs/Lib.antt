@@ -9,8 +9,8 @@ mod Filled
 mod Beginning
 mod Missing
 mod Opened
-mod Going
-mod FreshVolume
+pub mod Going
+pub mod FreshVolume
 mod PastVolumes
 mod Refusals
 mod Meant

@@ -1,5 +1,5 @@
 -- The volume of a run: that in the file that the run names, or, where it names none, an empty one of 202 sectors and
--- 16 slots (`docs/USING.md`, "Options of `run`"). `open_for_run` promises `IsOpenFor` or `IsRefusedFor`, each with a
+-- 16 slots (`docs/USING.md`, "Options of `run`"). `open_for_run` of `sandbox_runs` promises `IsOpenFor` or `IsRefusedFor`, each with a
 -- case for a run that names a file and one for a run that names none.
 use Rattle.std.specs.Prelude.{◌≡◌, ◌⊎◌, ◌↔◌, ◌<◌, ℕ, false, Option, Some, None}
 use Rattle.std.specs.Borrow.{Bor}

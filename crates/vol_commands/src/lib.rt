@@ -1,5 +1,5 @@
 //! Tasks on the volume of a device: what the commands list, print, put, change, check, upgrade and
-//! format, and the volume of a run.
+//! format, and the volume of a run that names none.
 #![tactic(auto)]
 
 mod changing;
@@ -23,5 +23,5 @@ pub use failure::Failure;
 pub use formatting::{MAGIC, format_as, format_where};
 pub use importing::{ImportFailure, import_into};
 pub use laws::removed_tree_takes_all_below;
-pub use opening::{FRESH_SECTORS, open_for_run};
+pub use opening::{FRESH_SECTORS, open_fresh};
 pub use tasks::perform;

@@ -2,3 +2,4 @@
 -- `HostCalls` in `Worlds`, which ties what a host answers to the rows over worlds.
 pub mod Links
 pub mod Making
+pub mod Wanting

@@ -12,6 +12,8 @@ use Rattle.wasm_steps.specs.Configuration.{Val, val, numbers, Callee, signature_
 use Rattle.wasm_steps.specs.Steps.{CallsOf, Reach, tick}
 use Rattle.wasm_store.specs.Allocation.{AllLinks, Allocates, HasInitializer}
 use Rattle.wasm_store.specs.Instances.{outside}
+use Rattle.wasm_store.specs.declared.call.Answer.{Answer}
+use Rattle.wasm_store.specs.declared.call.HostCall.{HostCall}
 use Rattle.wasm_store.specs.Values.{IsInType}
 use Rattle.plugin_steps.specs.Serving.{Exchange, ServeStep, with_memory}
 use Rattle.plugin_steps.specs.Asking.{Asks}
@@ -117,6 +119,17 @@ module _ (Stands : StandsFor) where
   pub record WritesBy (old new : Snapshot) (memory : List ℕ) : Type 0 where
     pub is : new ≡ record old { memory = memory }
     pub run : (i : Instance) (c : Configuration) → Stands old i c → Stands new i (with_memory memory c)
+
+  -- A host has answered what the embedder is asked for, over the machine's memory and with the unit of the call: memory is what it left, and
+  -- nothing else has changed. The embedder still owes its guest the answer.
+  pub record OffersBy (H : Type 0) (Calls : CallsOf H) (h h' : H) (old new : Snapshot) (call : HostCall) (answer : Answer) : Type 0 where
+    pub function : ℕ
+    pub func_type : FuncType
+    pub arguments : List ℕ
+    pub asked_for : IsAskedFor old function func_type arguments
+    pub memory : List ℕ
+    pub answered : Calls h old.memory (suc old.used) call (reverse arguments) h' memory answer
+    pub left : WritesBy old new memory
 
   -- An instance that has just been opened stands for its first configuration: its start function and its initializer are entered next,
   -- and once they have returned its exports can be called.

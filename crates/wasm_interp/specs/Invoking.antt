@@ -4,6 +4,8 @@ use Rattle.wasm_syntax.specs.declared.module.FuncType.{FuncType}
 use Rattle.wasm_syntax.specs.declared.module.Module.{Module}
 use Rattle.wasm_steps.specs.Steps.{CallsOf}
 use Rattle.wasm_store.specs.Allocation.{AllLinks}
+use Rattle.wasm_store.specs.declared.call.Answer.{Answer}
+use Rattle.wasm_store.specs.declared.call.HostCall.{HostCall}
 use Rattle.wasm_places.specs.declared.invocable.NotAnswered.{NotAnswered}
 use Rattle.wasm_places.specs.declared.invocable.NotAnswered.TheVariants.{NotAsked}
 use Rattle.wasm_places.specs.declared.invocable.NotAnswered.TheVariants as notAnswered
@@ -14,7 +16,7 @@ use Rattle.wasm_places.specs.declared.invocable.NotWritten.{NotWritten}
 use Rattle.wasm_places.specs.declared.invocable.NotWritten.TheVariants.{AtWork, PastEnd}
 use Rattle.wasm_operands.specs.declared.phase.Phase.TheVariants.{Between}
 use Rattle.wasm_interp.specs.Machine.{Snapshot, Represents}
-use Rattle.wasm_interp.specs.Invocations.{InvokesBy, ReturnsBy, AsksBy, AnswersBy, LetsGoBy, WritesBy, OpensBy}
+use Rattle.wasm_interp.specs.Invocations.{InvokesBy, ReturnsBy, AsksBy, AnswersBy, LetsGoBy, OffersBy, OpensBy, WritesBy}
 pub use Rattle.wasm_places.specs.FunctionTypes.{IsOwnType, IsImportType}
 pub use Rattle.wasm_interp.specs.Invocations.{Fit, values_of, invocation_over, results_of, IsAskedFor, AnswersAt, TellsStores}
 
@@ -38,6 +40,9 @@ IsLetGo = LetsGoBy Represents
 
 abbrev pub IsWritten : Snapshot → Snapshot → List ℕ → Type 0
 IsWritten = WritesBy Represents
+
+abbrev pub IsOffered : (H : Type 0) → CallsOf H → H → H → Snapshot → Snapshot → HostCall → Answer → Type 0
+IsOffered = OffersBy Represents
 
 -- Why a function isn't invoked: none of the module's own has this number and at most 16 arguments; or these aren't of its types.
 abbrev pub IsNotInvoked : Module → ℕ → List ℕ → NotInvoked → Type 0

@@ -31,6 +31,13 @@ module _ (Stands : StandsFor) where
     pub runs : outcome_of new ≡ None
     pub room : new.room ≡ 4097
 
+  -- what is promised of a pause within some units, however the machine came there: by a resume, or by an answer after it
+  pub record PausesBy (H : Type 0) (Calls : CallsOf H) (h h' : H) (old new : Snapshot) (units : ℕ) (p : Pause) : Type 0 where
+    pub module_is : new.valid ≡ old.valid
+    pub most_values : new.most_values ≡ old.most_values
+    pub units_rise : UnitsRise p units old.used new.used
+    pub run : (i : Instance) (c : Configuration) → Stands old i c → (d : Configuration) × Stands new i d × Paused H Calls i p h c h' d
+
   -- what a resume with this many units promises: whatever configuration the machine stood for, it stands for one that steps
   -- of that lead to, the units of both are those of the machine, and the pause says which steps; memory is refused only to a
   -- step whose unit is left; the most values stay

@@ -11,11 +11,11 @@ use Rattle.sandbox_report.specs.declared.summary.Summary.{Summary}
 use Rattle.sandbox_report.specs.Reporting.{report_text}
 use Rattle.sandbox_args.specs.declared.request.Run.{Run}
 use Rattle.sandbox_args.specs.Request.{Text}
-use Rattle.sandbox_command.specs.declared.places.Places.{Ghosts}
+use Rattle.sandbox_places.specs.declared.places.Places.{Ghosts}
 use Rattle.sandbox_command.specs.declared.list_of_tests.PreparedTest.{PreparedTest}
 use Rattle.sandbox_command.specs.declared.list_of_tests.TestFiles.{TestFiles}
 use Rattle.sandbox_command.specs.Beginning.{IsImage}
-use Rattle.sandbox_command.specs.Places.{Access, Chain, ChainWithFailure, IsOfImage, Prints}
+use Rattle.sandbox_places.specs.Places.{Access, Chain, ChainWithFailure, IsOfImage, Prints}
 use Rattle.sandbox_command.specs.ListOfTests.{IsWord, stream_accesses}
 
 -- no word stands at its beginning, with a blank behind it

@@ -10,6 +10,7 @@ use Rattle.wasi_fd.specs.declared.table.Descriptors.{Descriptors}
 use Rattle.wasi_fd.specs.Table.{table_of}
 use Rattle.wasm_store.specs.declared.call.HostCall.{HostCall}
 use Rattle.wasm_store.specs.declared.call.HostCall.TheVariants as call
+use Rattle.wasm_store.specs.declared.call.HostCall.TheVariants.{ProcExit}
 use Rattle.wasm_store.specs.declared.call.Errno.{Errno}
 use Rattle.wasm_store.specs.declared.call.Answer.{Answer}
 use Rattle.wasm_store.specs.declared.call.Answer.TheVariants.{Value as value, Exit as exit}
@@ -170,4 +171,6 @@ module _ {D R W1 W2 : Type 0} (honest : D → Type 0) (disk : D → Disk) (secto
     pub io : (e : Errno) → answer ≡ value e → e.0 ≡ 29 → HasFailed call new
     pub synced : honest old.volume.device → (e : Errno) → answer ≡ value e → IsSynced call e.0 (disk new.volume.device) new.volume.numbers new.volume.tree
     pub exits : (status : ℕ) → answer ≡ exit status → new ≡ old
+    -- no other call ends the guest
+    pub ends : (status : ℕ) → answer ≡ exit status → call ≡ ProcExit
     pub heard : HearsStreams ear old new

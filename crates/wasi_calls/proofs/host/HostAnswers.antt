@@ -53,6 +53,7 @@ module _ {D R W1 W2 : Type 0} (honest : D → Type 0) (disk : D → Disk) (secto
         let same : e.0 ≡ other.0 = ap number_in (sym is ∙ told) in
         subst (λ (n : ℕ). IsSynced c n (disk new.volume.device) new.volume.numbers new.volume.tree) same (synced h);
     exits = λ status told. absurd (value_exit e status (sym is ∙ told));
+    ends = λ status told. absurd (value_exit e status (sym is ∙ told));
     heard = serves.heard;
   }
 
@@ -67,6 +68,7 @@ module _ {D R W1 W2 : Type 0} (honest : D → Type 0) (disk : D → Disk) (secto
         io = λ e told. absurd (value_exit e status (sym told));
         synced = λ h e told. absurd (value_exit e status (sym told));
         exits = λ other told. refl;
+        ends = λ other told. refl;
         heard = unheard ear (state_of old) (state_of old) refl refl refl;
       }
 

@@ -1,14 +1,20 @@
 //! The fields of a host. What holds of them is the invariant of `WasiHost`.
 
-ghost use Rattle.std.specs.Prelude.{◌≡◌};
+ghost use Rattle.std.specs.Prelude.{◌≡◌, ◌≤◌, IfSome, vec_capacity};
+ghost use Rattle.wasi_fd.specs.Table.{table_of};
+ghost use Rattle.wasi_bodies.specs.declared.checks.buffers.TheConstants.{MOST_BUFFERS};
+ghost use Rattle.wasi_calls.specs.host.Wanting.{WantsInput};
 
 use crate::host::wasi_host::HostParts;
 use rand_chacha::ChaCha20Rng;
 use vol_sector::Device;
 use vol_tree::{MemorySpan, Volume};
+use wasi_bodies::checks::buffers::{Request, total_len};
+use wasi_bodies::checks::{DescriptorKinds, allowed};
 use wasi_bodies::settings::Settings;
 use wasi_bodies::streams::{Input, Output, Terminals};
-use wasi_fd::Descriptors;
+use wasi_fd::{Descriptor, Descriptors, Rights, Stream};
+use wasm_store::Memory;
 
 /// The fields of a host, with no invariant: `WasiHost` has it.
 #[derive(Drop)]
@@ -69,6 +75,31 @@ impl<'s, 't, D: Device, R: Drop, W1: Drop, W2: Drop> Inner<'s, 't, D, R, W1, W2>
             input,
             out,
             err,
+        }
+    }
+}
+
+impl<'s, 't, D: Device, R, W1, W2> Inner<'s, 't, D, R, W1, W2> {
+    /// How many bytes of the input an `fd_read` with these arguments asks for, where it reads that and no check refuses it.
+    pub fn wanted_input(&mut self, memory: &Memory, arguments: &[u64]) -> Option<u64>
+        requires { MOST_BUFFERS ≤ vec_capacity self.old.buffers }
+        ensures wanted { IfSome result (WantsInput (table_of self.old.descriptors) memory.now
+            arguments.now) }
+        ensures kept { self.new ≡ record self.old { buffers = self.new.buffers } }
+        ensures place { MOST_BUFFERS ≤ vec_capacity self.new.buffers }
+    {
+        let request = Request::new(arguments, 3);
+        let takes = DescriptorKinds::NoDirectories;
+        let target = match allowed(&self.descriptors, request.fd, takes, Rights::FD_READ) {
+            Ok(target) => target,
+            Err(_) => return None,
+        };
+        let Descriptor::Stream(Stream::Input) = target else {
+            return None;
+        };
+        match request.find_buffers(&mut self.buffers, memory) {
+            Ok(()) => Some(total_len(self.buffers.as_slice())),
+            Err(_) => None,
         }
     }
 }

@@ -10,6 +10,7 @@ use rand_chacha::ChaCha20Rng;
 use rand_core::SeedableRng;
 use std::alloc::Global;
 use std::marker::Model;
+use std::mem;
 use stream_answers::{Inlet, Outlet};
 use vol_sector::Device;
 use vol_tree::Volume;
@@ -65,8 +66,12 @@ impl<'s, 't, D: Device, R: Inlet + Drop, W1: Outlet + Drop, W2: Outlet + Drop> W
     W1,
     W2,
 > {
+    ghost use Rattle.std.specs.Prelude.{IfSome, true};
+    ghost use Rattle.std.specs.Io.KnownBytes.{IsAtEnd};
+    ghost use Rattle.wasi_fd.specs.Table.{table_of};
     ghost use Rattle.wasi_bodies.specs.host.Worlds.{stream_failed};
     ghost use Rattle.wasi_calls.specs.host.Making.{IsNewHost, IsRefusedFor, parts_of};
+    ghost use Rattle.wasi_calls.specs.host.Wanting.{WantsInput};
 
     /// A host over these parts, whose streams are the descriptors 0 to 2. It has the room for all its
     /// calls, none of which takes memory.
@@ -151,6 +156,34 @@ impl<'s, 't, D: Device, R: Inlet + Drop, W1: Outlet + Drop, W2: Outlet + Drop> W
         ensures { result.now ≡ self.now.err.writer }
     {
         &self.inner.err.writer
+    }
+
+    /// The reader of descriptor 0.
+    pub fn input(&self) -> &R
+        ensures { result.now ≡ self.now.input.reader }
+    {
+        &self.inner.input.reader
+    }
+
+    /// Gives descriptor 0 another reader, and hands back the one that it had. Once the guest has seen the end of its input, neither
+    /// has bytes left that it tells.
+    pub fn replace_input(&mut self, reader: R) -> R
+        requires { self.old.input.ended ≡ true → IsAtEnd (R.remaining reader) }
+        ensures replaced { self.new ≡ record self.old { input = record self.old.input { reader =
+            reader } } }
+        ensures before { result ≡ self.old.input.reader }
+        ensures end { self.old.input.ended ≡ true → IsAtEnd (R.remaining result) }
+    {
+        mem::replace(&mut self.inner.input.reader, reader)
+    }
+
+    /// How many bytes of the input an `fd_read` with these arguments asks for, where it reads that and no check refuses it.
+    pub fn wanted_input(&mut self, memory: &Memory, arguments: &[u64]) -> Option<u64>
+        ensures wanted { IfSome result (WantsInput (table_of self.old.descriptors) memory.now
+            arguments.now) }
+        ensures kept { self.new ≡ self.old }
+    {
+        self.inner.wanted_input(memory, arguments)
     }
 
     /// The device of the volume, as it is now: what isn't committed isn't there yet.

@@ -9,7 +9,7 @@ use Rattle.sandbox_report.specs.declared.fault.Fault.{Fault}
 use Rattle.sandbox_report.specs.declared.summary.Summary.{Summary}
 use Rattle.sandbox_report.specs.Reporting.{report_text}
 use Rattle.sandbox_args.specs.Request.{Text}
-use Rattle.sandbox_command.specs.Places.{Access, Prints}
+use Rattle.sandbox_places.specs.Places.{Access, Prints}
 use Rattle.sandbox_command.specs.internal.Tests.{IsToldAs}
 use Rattle.sandbox_command.proofs.list_of_tests.is_told_of_guest.Goals as goal
 

@@ -3,7 +3,7 @@ use Rattle.sandbox_args.specs.Request.{Text}
 use Rattle.sandbox_core.specs.declared.fault.SessionFault.{SessionFault}
 use Rattle.sandbox_core.specs.declared.fault.SessionFault.TheVariants.{Setting, Memory}
 use Rattle.sandbox_command.specs.declared.list_of_tests.TestFiles.{TestFiles}
-use Rattle.sandbox_command.specs.Places.{IsOfRandom}
+use Rattle.sandbox_places.specs.Places.{IsOfRandom}
 use Rattle.sandbox_runs.specs.Status.{session_status}
 use Rattle.sandbox_command.specs.ListOfTests.{HasNoTest, Lists}
 use Rattle.sandbox_command.proofs.list_of_tests.run_lines.Goals as goal

@@ -15,10 +15,10 @@ use Rattle.std.specs.declared.io.Read.{Ghosts as Reader}
 use Rattle.std.specs.declared.io.Write.{Ghosts as Writer}
 use Rattle.wasi_bodies.specs.host.Worlds.{StreamCalls}
 use Rattle.sandbox_runs.specs.StreamCalling.{calls_of}
-use Rattle.sandbox_command.specs.declared.places.Places.{Ghosts}
+use Rattle.sandbox_places.specs.declared.places.Places.{Ghosts}
 use Rattle.sandbox_command.specs.declared.list_of_tests.TestFiles.{TestFiles}
 use Rattle.sandbox_command.specs.Beginning.{unread}
-use Rattle.sandbox_command.specs.Places.{Makes}
+use Rattle.sandbox_places.specs.Places.{Makes}
 use Rattle.sandbox_command.specs.ListOfTests.{HasFailed, HasRun, IsTested, IsTestedOrUnread}
 use Rattle.sandbox_telling.specs.internal.Runnable.{module_in}
 use Rattle.sandbox_command.specs.internal.Tests.{IsTold, OneEndsAs}

@@ -1,7 +1,7 @@
 use Rattle.std.proofs.Common.{Option, inl, refl, sym, subst}
 use Rattle.std.specs.Borrow.{Bor}
 use Rattle.sandbox_args.specs.Request.{Text}
-use Rattle.sandbox_command.specs.Places.{Chain, Reads, reads_of}
+use Rattle.sandbox_places.specs.Places.{Chain, Reads, reads_of}
 use Rattle.sandbox_command.proofs.Chains.{named_refused}
 use Rattle.sandbox_command.proofs.opening.memory_of.Goals as goal
 

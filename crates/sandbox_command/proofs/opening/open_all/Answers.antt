@@ -2,7 +2,7 @@ use Rattle.std.proofs.Common.{inl, inr}
 use Rattle.std.specs.IoError.{error_kind}
 use Rattle.std.specs.declared.io.Error.{Error}
 use Rattle.sandbox_command.specs.Alone.{IsLedger, IsMedium, Lacks}
-use Rattle.sandbox_command.specs.Places.{IsOfName, IsOfRandom, Receives}
+use Rattle.sandbox_places.specs.Places.{IsOfName, IsOfRandom, Receives}
 use Rattle.sandbox_command.proofs.Both.{if_err, of_error, of_errors, of_ok, of_values}
 use Rattle.sandbox_command.proofs.Chains.{all_asked, err_lacks, input_lacks, its_chain, its_refusal, medium_lacks, module_lacks, out_lacks, profile_lacks, random_lacks, receiver_lacks}
 use Rattle.sandbox_command.proofs.opening.open_all.Goals as goal

@@ -1,4 +1,4 @@
-use Rattle.sandbox_command.specs.Places.{Reads}
+use Rattle.sandbox_places.specs.Places.{Reads}
 use Rattle.sandbox_command.proofs.Chains.{named_refused}
 use Rattle.sandbox_command.proofs.opening.random_of.Goals as goal
 

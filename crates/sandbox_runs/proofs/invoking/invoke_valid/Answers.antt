@@ -1,4 +1,5 @@
-use Rattle.std.proofs.Common.{subst, sym}
+use Rattle.std.proofs.Common.{refl, subst, sym}
+use Rattle.sandbox_core.specs.Session.{given}
 use Rattle.sandbox_telling.specs.Stopping.{AreLinesBy}
 use Rattle.vol_commands.specs.Volumes.{IsOpenFor, IsRefusedFor}
 use Rattle.wasi_bodies.specs.host.Worlds.{hearing}
@@ -9,10 +10,11 @@ use Rattle.sandbox_runs.proofs.invoking.invoke_valid.Goals as goal
 -- the function was called, or not, on the open volume
 pub returns-in-Ok-clause-invokes : goal.returns-in-Ok-clause-invokes
 returns-in-Ok-clause-invokes g c =
+    let its = given c.parts_of-parts.result.settings c.in-Ok.volume c.args.streams.input c.args.streams.out c.args.streams.err in
     call_on_volume g.D.Device g.R.Read.remaining g.W1.Write.contents g.W2.Write.contents (hearing g.R.Inlet.gave g.R.Inlet.refused g.W1.Outlet.took g.W1.Outlet.refused g.W2.Outlet.took g.W2.Outlet.refused) c.args.run.now c.args.name.now c.args.valid c.args.random.now
-    c.args.device c.args.streams.input c.args.streams.out c.args.streams.err c.in-Ok.volume c.parts_of-parts.result c.launch_call.result.0
+    c.args.device c.args.streams.input c.args.streams.out c.args.streams.err c.in-Ok.volume its c.launch_call.result.0
     (subst (λ named. IsOpenFor g.D.Device.honest g.D.Device.disk g.D.Device.size g.D.Device.failures named c.args.device c.in-Ok.volume) c.volume_of.ensures c.in-Ok.ensures.opens)
-    c.parts_of-parts.ensures.settings c.parts_of-parts.ensures.parts c.launch_call.ensures.launches
+    c.parts_of-parts.ensures.settings refl (c.launch_call.ensures.launches its c.parts_of-parts.ensures.parts)
 
 -- the volume is refused
 pub returns-in-Err-clause-invokes : goal.returns-in-Err-clause-invokes

@@ -6,16 +6,16 @@ use Rattle.sandbox_runs.proofs.sessions.launch_bare.Goals as goal
 
 -- the session ran
 pub returns-in-Ok-clause-launches : goal.returns-in-Ok-clause-launches
-returns-in-Ok-clause-launches g c =
-    ran g.D.Device g.R.Read.remaining g.W1.Write.contents g.W2.Write.contents (hearing g.R.Inlet.gave g.R.Inlet.refused g.W1.Outlet.took g.W1.Outlet.refused g.W2.Outlet.took g.W2.Outlet.refused) c.args.run.now c.args.valid c.args.parts c.counted_parts-volume.result c.counted_parts-volume.ensures
+returns-in-Ok-clause-launches g c = λ its same.
+    ran g.D.Device g.R.Read.remaining g.W1.Write.contents g.W2.Write.contents (hearing g.R.Inlet.gave g.R.Inlet.refused g.W1.Outlet.took g.W1.Outlet.refused g.W2.Outlet.took g.W2.Outlet.refused) c.args.run.now c.args.valid its c.args.parts same
     c.in-Ok.session c.in-Ok.ensures.opens c.in-Ok.ensures.shares c.imports_of-imported.result
     (c.imports_of-imported.ensures ∙ ap (λ m. length m.imports) c.«module».ensures.value) c.run_session.result.1 c.run_session.ensures.ran
 
 -- there is no session
 pub returns-in-Err-clause-launches : goal.returns-in-Err-clause-launches
-returns-in-Err-clause-launches g c =
+returns-in-Err-clause-launches g c = λ its same.
     let ended = c.no_session.ensures in
-    no_session g.D.Device g.R.Read.remaining g.W1.Write.contents g.W2.Write.contents (hearing g.R.Inlet.gave g.R.Inlet.refused g.W1.Outlet.took g.W1.Outlet.refused g.W2.Outlet.took g.W2.Outlet.refused) c.args.run.now c.args.valid c.args.parts c.counted_parts-volume.result c.counted_parts-volume.ensures
+    no_session g.D.Device g.R.Read.remaining g.W1.Write.contents g.W2.Write.contents (hearing g.R.Inlet.gave g.R.Inlet.refused g.W1.Outlet.took g.W1.Outlet.refused g.W2.Outlet.took g.W2.Outlet.refused) c.args.run.now c.args.valid its c.args.parts same
     c.in-Err.field-0 c.in-Err.ensures.hands_back c.in-Err.ensures.refused
     c.no_session.result ended.ends ended.flushed ended.summary ended.device ended.input ended.out ended.err
 

@@ -1,5 +1,0 @@
-use Rattle.sandbox_command.proofs.OfName.{cut_output}
-use Rattle.sandbox_command.proofs.host_places.HostPlaces.cut_apart.Goals as goal
-
-pub returns : goal.returns
-returns c = cut_output c.args.name.now c.args.file c.cut.new.self c.requires c.in_ok-cut.ensures

@@ -1,6 +1,0 @@
-use Rattle.sandbox_command.specs.Places.{Makes}
-use Rattle.sandbox_command.proofs.Given.{refused}
-use Rattle.sandbox_command.proofs.host_places.HostPlacesPlaces.make.Goals as goal
-
-pub returns : goal.returns
-returns c = record { asked = tt; refused = refused (Makes c.args.name.now) c.made-done.result; output = c.made-done.ensures.named }

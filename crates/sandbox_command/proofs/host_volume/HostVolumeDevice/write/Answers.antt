@@ -1,5 +1,0 @@
-use Rattle.sandbox_command.proofs.host_volume.HostVolumeDevice.write.Goals as goal
-
--- the device inside goes on from that of the first
-pub returns-clause-goes_on : goal.returns-clause-goes_on
-returns-clause-goes_on c end lt first from = c.write.ensures.goes_on end lt first.device from

@@ -1,0 +1,3 @@
+pub mod Given
+pub mod OfName
+pub mod Wholly

@@ -1,0 +1,28 @@
+use Rattle.std.proofs.Common.{◌≡◌, ◌≤◌, length, inl, inr, arith, rules}
+use Rattle.stream_answers.specs.Pieces.{AtLast, nothing, gives}
+use Rattle.sandbox_places.proofs.Wholly.{at_end, in_all}
+use Rattle.sandbox_places.proofs.reading.read_whole.Goals as goal
+
+pub loop-left-init : goal.loop-left-init
+loop-left-init g c = record { gave = search (rules, nothing); count = search rules; piece = search rules }
+
+pub loop-left-preserved : goal.loop-left-preserved
+loop-left-preserved g c =
+    let came = c.in_ok-count.ensures.gave in
+    let whole : length c.read_more.new.piece ≡ c.min-room.result = search rules in
+    let few : c.in_ok-count.count ≤ c.loop-left.left = omega (arith, whole, c.in_ok-count.ensures.few, c.min-room.ensures) in
+    record {
+      gave = gives _ came.0 c.loop-left.invariant.gave came.2 came.3;
+      count = in_all c.loop-left.bytes.items came.0 c.read_more.new.bytes.items c.loop-left.left c.in_ok-count.count c.args.most came.3 came.1 c.loop-left.invariant.count few;
+      piece = search rules;
+    }
+
+-- the end
+pub returns-then-count-eq0 : goal.returns-then-count-eq0
+returns-then-count-eq0 g c =
+    let came = c.in_ok-count.ensures.gave in
+    inr (at_end (AtLast g.R.Inlet.gave g.R.Inlet.refused) _ c.loop-left.bytes.items c.loop-left.input came.0 c.read_more.new.bytes.items c.read_more.new.input c.in_ok-count.count
+    came.1 c.if-count-eq0.true came.2 came.3 c.loop-left.invariant.gave)
+
+pub returns : goal.returns
+returns g c = inl (c.loop-left.invariant.gave, omega (arith, c.loop-left.invariant.count, c.loop-left-test.false))

@@ -1,0 +1,4 @@
+pub mod Places
+pub mod System
+pub mod Clashing
+pub mod FileDisks

@@ -1,0 +1,68 @@
+//! Streams that are read whole.
+
+ghost use Rattle.std.specs.Prelude.{◌≡◌, ◌≤◌, ◌++◌, ℕ, List, IfOk, length, take};
+ghost use Rattle.stream_answers.specs.Pieces.{AtLast, IsWhole};
+
+use std::alloc::Global;
+use std::io;
+use std::io::ErrorKind;
+use stream_answers::Inlet;
+
+/// Bytes that are read at once, in memory of the heap.
+const PIECE: usize = 16_384;
+
+/// Reads once, and again where that is interrupted: how many bytes of the piece came, none only at the end.
+fn read_piece<R: Inlet>(input: &mut R, piece: &mut [u8]) -> io::Result<usize>
+    ensures few { IfOk result (λ n. n ≤ length piece.new) }
+    ensures gave { IfOk result (λ n. AtLast R.gave R.refused input.old (take n piece.new)
+        input.new) }
+{
+    for _tries in 0..u64::MAX {
+        match input.try_read(piece) {
+            Ok(count) => return Ok(count),
+            Err(error) => {
+                if error.kind() != ErrorKind::Interrupted {
+                    return Err(error);
+                }
+            }
+        }
+    }
+    Err(io::Error::from(ErrorKind::Interrupted))
+}
+
+/// Reads once, and puts what came behind what is there: how many bytes, none only at the end.
+fn read_more<R: Inlet>(input: &mut R, piece: &mut [u8], bytes: &mut Vec<u8>) -> io::Result<usize>
+    ensures few { IfOk result (λ n. n ≤ length piece.new) }
+    ensures gave { IfOk result (λ n. (more : List ℕ) × (length more ≡ n)
+        × AtLast R.gave R.refused input.old more input.new
+        × (bytes.new.items ≡ bytes.old.items ++ more)) }
+{
+    let count = read_piece(input, piece)?;
+    bytes.extend_from_slice(&piece[..count])?;
+    Ok(count)
+}
+
+/// Reads a stream to its end, or this many bytes of it where it has more, into memory for so many as are expected. Where a read is
+/// interrupted it is asked again.
+pub fn read_whole<R: Inlet>(
+    alloc: Global,
+    input: &mut R,
+    most: u64,
+    expected: usize,
+) -> io::Result<Vec<u8>>
+    ensures { IfOk result (λ bytes. IsWhole (AtLast R.gave R.refused) most input.old bytes.items
+        input.new) }
+{
+    let mut bytes = Vec::with_capacity(alloc, expected)?;
+    let mut piece = vec![in alloc; 0; PIECE]?;
+    let mut left = most;
+    while left > 0 {
+        let room = left.min(PIECE as u64) as usize;
+        let count = read_more(input, &mut piece[..room], &mut bytes)?;
+        if count == 0 {
+            return Ok(bytes);
+        }
+        left -= count as u64;
+    }
+    Ok(bytes)
+}
