@@ -1,5 +1,3 @@
--- What private contracts and proofs cite. `Bodies` comes first, since it has what the body of each call that answers
--- says; it and `Asking` serve several subjects, and each folder serves one.
+-- What private contracts and proofs cite: `Bodies` has what the body of each call that answers says, and `host` serves links.
 pub mod Bodies
-pub mod paths
 pub mod host
