@@ -11,6 +11,9 @@ use std::marker::Model;
 /// Bytes of a page (section 4.2.8).
 pub const PAGE_SIZE: usize = 65_536;
 
+/// How many bytes are touched beyond those that are asked for: a page of most hosts.
+const AHEAD: usize = 4_096;
+
 /// The bytes of a guest's memory (section 4.2.8), which every contract sees as a list.
 ///
 /// Only a first part is kept, up to the highest place that was written; what stands behind it are zeros. There is room
@@ -104,8 +107,8 @@ fn read_part(bytes: &[u8], start: usize, room: &mut [u8])
     back.fill(0);
 }
 
-/// Writes zeros behind the first part, so that it reaches at least this end, and a page more where there is one: to write
-/// upwards byte by byte touches once a page.
+/// Writes zeros behind the first part, so that it reaches at least this end, and `AHEAD` more where there is as much: to write
+/// upwards byte by byte touches once in so many bytes.
 #[inline(never)]
 fn touch(bytes: &mut Vec<u8>, size: usize, end: usize)
     requires inside { end ≤ size }
@@ -119,7 +122,7 @@ fn touch(bytes: &mut Vec<u8>, size: usize, end: usize)
     if end <= bytes.len() {
         return;
     }
-    let step = PAGE_SIZE.min(size - end);
+    let step = AHEAD.min(size - end);
     if bytes.resize(end + step, 0).is_err() {
         unreachable!()
     }
