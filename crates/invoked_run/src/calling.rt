@@ -62,9 +62,11 @@ where
         match event {
             Event::Returned => return CallEnd::Returned(instance.result()),
             Event::Asked(_) => return CallEnd::Unanswered,
-            Event::Paused(Pause::Called(_, _)) => continue 'going,
-            Event::Paused(Pause::Spent) => return CallEnd::Ended(Outcome::OutOfFuel),
-            Event::Paused(Pause::Ended(outcome)) => return CallEnd::Ended(outcome),
+            Event::Paused(pause) => match pause {
+                Pause::Called(_, _) => continue 'going,
+                Pause::Spent => return CallEnd::Ended(Outcome::OutOfFuel),
+                Pause::Ended(outcome) => return CallEnd::Ended(outcome),
+            },
         }
     }
 }

@@ -4,4 +4,5 @@ pub mod AfterFlush
 pub mod Seeding
 pub mod Charged
 pub mod Launching
+pub mod Results
 pub mod Calling

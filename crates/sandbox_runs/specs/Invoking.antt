@@ -37,6 +37,7 @@ use Rattle.invoked_run.specs.declared.calling.CalledOnce.{CalledOnce}
 use Rattle.invoked_run.specs.Calling.{CallsOnceAndEnds}
 use Rattle.invoked_run.specs.Exports.{IsExportOf}
 use Rattle.value_words.specs.declared.reading.NoNumbers.{NoNumbers}
+use Rattle.value_words.specs.declared.reading.NoNumbers.TheVariants as wanting
 use Rattle.value_words.specs.Numbers.{AreNumbersOf, HasNone, value_text}
 use Rattle.sandbox_report.specs.declared.counted.Counted.{Counted}
 use Rattle.sandbox_report.specs.declared.fault.Fault.{Fault}
@@ -58,6 +59,12 @@ use Rattle.sandbox_telling.specs.Supplies.{AreSettings, terminals_of}
 abbrev pub AreArguments : Module → (name : Text) → (words : List Text) → List ℕ → Option ValueType → Type 0
 AreArguments m name words numbers value_type = (f : FuncType) × IsExportOf m name f × AreNumbersOf f.params words numbers × (value_type ≡ slice_get f.results 0)
 
+-- the fault where words write no numbers
+abbrev pub fault_of : NoNumbers → SessionFault
+fault_of wanting.Memory = Memory
+fault_of wanting.Count = Setting
+fault_of (wanting.Word k) = Setting
+
 -- No function of the module's own is exported by this name, or the words write no numbers of its types; or memory was refused.
 abbrev pub HasNoArguments : Module → (name : Text) → (words : List Text) → SessionFault → Type 0
 HasNoArguments m name words fault =
@@ -66,10 +73,20 @@ HasNoArguments m name words fault =
 
 -- ---- what is told of its end
 
--- The line of a value was printed, or a part of it, and then the output is to blame.
+-- A line was printed, or a part of it, and then the output is to blame.
+abbrev pub PrintsLine : (line : List ℕ) → (before after : Option (List ℕ)) → Option Fault → Type 0
+PrintsLine line before after None = Appends before after line
+PrintsLine line before after (Some fault) = (fault ≡ reason.File) × AppendsPart before after line
+
+-- that of a value
 abbrev pub PrintsValue : ValueType → ℕ → (before after : Option (List ℕ)) → Option Fault → Type 0
-PrintsValue value_type value before after None = Appends before after (value_text value_type value ++ codes "\n")
-PrintsValue value_type value before after (Some fault) = (fault ≡ reason.File) × AppendsPart before after (value_text value_type value ++ codes "\n")
+PrintsValue value_type value before after fault = PrintsLine (value_text value_type value ++ codes "\n") before after fault
+
+-- that of a function's result, if it has one
+abbrev pub PrintsResult : (value : Option ℕ) → Option ValueType → (before after : Option (List ℕ)) → Option Fault → Type 0
+PrintsResult (Some value) (Some value_type) before after fault = PrintsValue value_type value before after fault
+PrintsResult (Some value) None before after fault = Keeps before after × (fault ≡ None)
+PrintsResult None value_type before after fault = Keeps before after × (fault ≡ None)
 
 -- nothing was printed
 abbrev pub PrintsNothing : (before after : Option (List ℕ)) → (outcome is : Outcome) → (fault why : Option Fault) → Type 0
@@ -78,9 +95,7 @@ PrintsNothing before after outcome is fault why = Keeps before after × (outcome
 -- By which outcome and which fault a run ends whose call ended so, and what is printed: where it has returned, the result, if the
 -- function has one.
 abbrev pub TellsCall : CallEnd → Option ValueType → (before after : Option (List ℕ)) → Outcome → Option Fault → Type 0
-TellsCall (Returned (Some value)) (Some value_type) before after outcome fault = (outcome ≡ Exited 0) × PrintsValue value_type value before after fault
-TellsCall (Returned (Some value)) None before after outcome fault = PrintsNothing before after outcome (Exited 0) fault None
-TellsCall (Returned None) value_type before after outcome fault = PrintsNothing before after outcome (Exited 0) fault None
+TellsCall (Returned value) value_type before after outcome fault = (outcome ≡ Exited 0) × PrintsResult value value_type before after fault
 TellsCall (Ended o) value_type before after outcome fault = PrintsNothing before after outcome o fault None
 TellsCall Unanswered value_type before after outcome fault = PrintsNothing before after outcome (Exited 0) fault (Some (reason.Instance Import))
 TellsCall (NotCalledFor e) value_type before after outcome fault = PrintsNothing before after outcome (Exited 0) fault (Some reason.Setting)

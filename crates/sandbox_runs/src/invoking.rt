@@ -1,13 +1,13 @@
 //! `run --invoke`: an exported function that is called once, in the place of `_start`.
 
-ghost use Rattle.std.specs.Prelude.{◌≡◌, MatchResult, None, Some};
+ghost use Rattle.std.specs.Prelude.{◌≡◌, MatchResult, None, Some, slice_get};
 ghost use Rattle.sandbox_args.specs.Request.{texts};
 ghost use Rattle.wasi_calls.specs.declared.host.wasi_host.HostParts.{HostParts as PartsValue};
 ghost use Rattle.wasi_bodies.specs.host.Worlds.{hearing};
 ghost use Rattle.sandbox_telling.specs.declared.stopping.Stopped.{Stopped};
 ghost use Rattle.sandbox_runs.specs.Execution.{InvokesOn};
 ghost use Rattle.sandbox_runs.specs.Flushing.{BothAnswered, RunAnswered};
-ghost use Rattle.sandbox_runs.specs.Invoking.{AreArguments, BlamesCall, HasNoArguments, IsToldOfCall, LaunchesCall, PrintsValue, TellsCall};
+ghost use Rattle.sandbox_runs.specs.Invoking.{AreArguments, BlamesCall, HasNoArguments, IsToldOfCall, LaunchesCall, PrintsLine, PrintsResult, PrintsValue, TellsCall, fault_of};
 ghost use Rattle.sandbox_telling.specs.Profiling.{TellsUse};
 ghost use Rattle.sandbox_telling.specs.Reporting.{counting};
 ghost use Rattle.sandbox_telling.specs.Stopping.{AreLinesBy};
@@ -37,7 +37,7 @@ use std::alloc::Global;
 use stream_answers::{Inlet, Outlet, print_all};
 use value_words::{NoNumbers, line_of, numbers_of};
 use vol_sector::Device;
-use wasm_module::{Module, ValueType};
+use wasm_module::{FuncType, Module, ValueType};
 use wasm_store::InstanceFault;
 
 /// What a function is called with, and the type of its result, if it has one.
@@ -45,6 +45,23 @@ use wasm_store::InstanceFault;
 struct CallArguments {
     numbers: Vec<u64>,
     value_type: Option<ValueType>,
+}
+
+/// The type of a function's result, if it has one.
+fn value_type_of(func_type: &FuncType) -> Option<ValueType>
+    ensures { result ≡ slice_get func_type.now.results 0 }
+{
+    func_type.results.as_slice().first().copied()
+}
+
+/// The fault of words that write no numbers.
+fn fault_of(why: NoNumbers) -> SessionFault
+    ensures { result ≡ fault_of why }
+{
+    match why {
+        NoNumbers::Memory => SessionFault::Memory,
+        NoNumbers::Count | NoNumbers::Word(_) => SessionFault::Setting,
+    }
 }
 
 /// The numbers that the words of a run write for the exported function of this name.
@@ -61,30 +78,57 @@ fn arguments_of(
     let Some(func_type) = exported_type(guest, name) else {
         return Err(SessionFault::Setting);
     };
-    match numbers_of(alloc, func_type.params.as_slice(), run.words.as_slice()) {
+    let (types, words) = (func_type.params.as_slice(), run.words.as_slice());
+    match numbers_of(alloc, types, words) {
         Ok(numbers) => Ok(CallArguments {
             numbers,
-            value_type: func_type.results.as_slice().get(0).copied(),
+            value_type: value_type_of(func_type),
         }),
-        Err(NoNumbers::Memory) => Err(SessionFault::Memory),
-        Err(NoNumbers::Count | NoNumbers::Word(_)) => Err(SessionFault::Setting),
+        Err(why) => Err(fault_of(why)),
     }
 }
 
-/// Prints the line of a value. Tells the fault of an output that doesn't take it.
-fn print_value<W: Outlet>(out: &mut W, value_type: ValueType, value: u64) -> Option<Fault>
-    ensures { PrintsValue value_type value (W.contents out.old) (W.contents out.new) result }
+/// Prints a line. Tells the fault of an output that doesn't take it.
+fn print_line<W: Outlet>(out: &mut W, line: &[u8]) -> Option<Fault>
+    ensures { PrintsLine line.now (W.contents out.old) (W.contents out.new) result }
 {
-    let Ok(line) = line_of(value_type, value) else {
-        return Some(Fault::File);
-    };
-    match print_all(out, line.as_slice()) {
+    match print_all(out, line) {
         Ok(()) => None,
         Err(_) => Some(Fault::File),
     }
 }
 
+/// Prints the line of a value. Tells the fault of an output that doesn't take it.
+#[tactic(auto, using(crate::proofs::Results::nothing_printed))]
+fn print_value<W: Outlet>(out: &mut W, value_type: ValueType, value: u64) -> Option<Fault>
+    ensures { PrintsValue value_type value (W.contents out.old) (W.contents out.new) result }
+{
+    match line_of(value_type, value) {
+        Ok(line) => print_line(out, line.as_slice()),
+        Err(_) => Some(Fault::File),
+    }
+}
+
+/// Prints the line of a result, where there is one. Tells the fault of an output that doesn't take it.
+#[tactic(auto, using(crate::proofs::Results::keeps))]
+fn print_result<W: Outlet>(
+    out: &mut W,
+    value: Option<u64>,
+    value_type: Option<ValueType>,
+) -> Option<Fault>
+    ensures { PrintsResult value value_type (W.contents out.old) (W.contents out.new) result }
+{
+    let Some(value) = value else {
+        return None;
+    };
+    match value_type {
+        Some(value_type) => print_value(out, value_type, value),
+        None => None,
+    }
+}
+
 /// Prints what a call has given, and tells how a run ended so: by which outcome, and by which fault where none tells of it.
+#[tactic(auto, using(crate::proofs::Results::keeps))]
 fn tell_call<W: Outlet>(
     out: &mut W,
     end: CallEnd,
@@ -93,14 +137,11 @@ fn tell_call<W: Outlet>(
     ensures { TellsCall end value_type (W.contents out.old) (W.contents out.new) result.0 result.1 }
 {
     let done = Outcome::Exited(0);
-    match (end, value_type) {
-        (CallEnd::Returned(Some(value)), Some(value_type)) => {
-            (done, print_value(out, value_type, value))
-        }
-        (CallEnd::Returned(_), _) => (done, None),
-        (CallEnd::Ended(outcome), _) => (outcome, None),
-        (CallEnd::Unanswered, _) => (done, Some(Fault::Instance(InstanceFault::Import))),
-        (CallEnd::Refused(_), _) => (done, Some(Fault::Setting)),
+    match end {
+        CallEnd::Returned(value) => (done, print_result(out, value, value_type)),
+        CallEnd::Ended(outcome) => (outcome, None),
+        CallEnd::Unanswered => (done, Some(Fault::Instance(InstanceFault::Import))),
+        CallEnd::Refused(_) => (done, Some(Fault::Setting)),
     }
 }
 

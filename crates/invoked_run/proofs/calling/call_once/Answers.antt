@@ -19,8 +19,8 @@ returns g c =
       pages = c.pages-pages.ensures;
       broken = c.has_failed_stream-broken.ensures;
       frames = c.tell_frames-depth.ensures;
-      volume = c.finish.ensures.volume;
-      input = c.finish.ensures.input;
-      out = c.finish.ensures.out;
-      err = c.finish.ensures.err;
+      volume = c.finish-volume.ensures.volume;
+      input = c.finish-volume.ensures.input;
+      out = c.finish-volume.ensures.out;
+      err = c.finish-volume.ensures.err;
     }
