@@ -12,7 +12,7 @@ import time
 sys.path[:0] = [sys.argv[1], os.path.join(os.path.dirname(os.path.abspath(__file__)), "..", "..", "tools")]
 import sandbox  # noqa: E402
 import sandbox_plugin as plugins  # noqa: E402
-from wasm_binary import I32, MAGIC, s, section, sized, u, vector  # noqa: E402
+from wasm_binary import MAGIC, s, section, sized, u, vector  # noqa: E402
 
 F = (b"env", b"f")
 wrong = []

@@ -1,31 +1,23 @@
 -- What goes on until it stops, and one call as a list of acts.
 use Rattle.std.proofs.Common.{◌≡◌, ◌≤◌, ◌<◌, ◌+◌, ◌-◌, ℕ, List, [], ◌∷◌, ◌++◌, Option, refl, sym, subst, inl, inr, arith}
 use Rattle.std.specs.Prelude.{slice_get}
-use Rattle.wasm_syntax.specs.declared.module.Module.{Module}
 use Rattle.wasm_store.specs.declared.call.HostCall.{HostCall}
 use Rattle.wasm_store.specs.declared.call.Errno.{Errno}
 use Rattle.wasm_steps.specs.declared.pause.Outcome.{Outcome}
 use Rattle.wasm_steps.specs.declared.pause.Outcome.TheVariants.{OutOfFuel}
 use Rattle.wasm_steps.specs.declared.pause.Pause.TheVariants.{Called, Spent, Ended as Stopped}
-use Rattle.wasm_steps.specs.Steps.{CallsOf}
-use Rattle.wasm_interp.specs.Machine.{Snapshot, Represents, entries_left}
+use Rattle.wasm_interp.specs.Machine.{Represents, entries_left}
 use Rattle.wasm_places.specs.declared.invocable.Event.{Event}
 use Rattle.wasm_places.specs.declared.invocable.Event.TheVariants.{Asked, Paused, Returned as Back}
 use Rattle.wasm_interp.specs.Invoking.{results_of}
-use Rattle.wasi_bodies.specs.host.Worlds.{HostState}
-use Rattle.sandbox_core.specs.Devices.{Devices, Calls as HostCalls}
-use Rattle.plugin_core.specs.Handling.{Act, Goes as AtWork, Handled, paused, pauses}
+use Rattle.sandbox_core.specs.Devices.{Devices}
+use Rattle.plugin_core.specs.Handling.{Act, Goes as AtWork, paused}
 use Rattle.plugin_session.specs.Headline.{History, FollowBy}
 use Rattle.plugin_session.specs.Instance.{InstanceState, Does, Goes, RisesBy, used_by}
 use Rattle.invoked_run.specs.declared.calling.CallEnd.{CallEnd}
 use Rattle.invoked_run.specs.declared.calling.CallEnd.TheVariants.{Returned, Ended, Unanswered, Refused}
 use Rattle.invoked_run.specs.Calling.{AreAnswered, CallsOnce, GoesUntil, IsNoReturn, StopsSo}
 use Rattle.invoked_run.specs.internal.Going.{HasGone}
-
--- an answered call takes a unit, or enters what was to be entered
-pub call_progresses : (H : Type 0) (Calls : CallsOf H) (m : Module) (h h' : H) (s t : Snapshot) (call : HostCall) (e : Errno)
-    → Handled Represents H Calls m h s (paused (Called call e)) h' t → s.used + entries_left t < t.used + entries_left s
-call_progresses H Calls m h h' s t call e (pauses units _ resumed) = resumed.progress
 
 -- what is none of the returns is no return
 pub no_return : (end : CallEnd) → ((value : Option ℕ) → end ≡ Returned value → ⊥) → IsNoReturn end
@@ -99,7 +91,7 @@ module _ {D R W1 W2 : Type 0} (on : Devices D R W1 W2) where
         → fuel - new.machine.used + entries_left new.machine < fuel - now.machine.used + entries_left now.machine
     measure_falls e call errno g is =
         let called = subst (λ (b : Event). Goes on now new units b) is g in
-        let progress = call_progresses (HostState D R W1 W2) (HostCalls on) now.machine.valid now.host new.host now.machine new.machine call errno called.does.handled in
+        let progress = called.progress in
         let rises = called.within in
         let last = within_fuel (Paused (Called call errno)) called.within in
         omega (arith, progress, rises, last)

@@ -13,7 +13,7 @@ use Rattle.wasm_interp.specs.Promises.{PausesBy}
 use Rattle.wasm_interp.specs.Invoking.{IsAsked, Returns}
 use Rattle.plugin_core.specs.declared.stage.Stage.{Stage}
 use Rattle.plugin_core.specs.Handling.{Goes, Handled, MayDo, act_of, asks, has_returned, pauses}
-use Rattle.plugin_session.specs.Instance.{RisesBy}
+use Rattle.plugin_session.specs.Instance.{Progresses, RisesBy}
 
 -- a resume pauses
 pause_of : (H : Type 0) (Calls : CallsOf H) (h h' : H) (s t : Snapshot) (units : ℕ) (p : Pause) → Resumed H Calls h h' s t units p → PausesBy Represents H Calls h h' s t units p
@@ -39,6 +39,12 @@ pub rises : (H : Type 0) (Calls : CallsOf H) (h h' : H) (s t : Snapshot) (units 
 rises H Calls h h' s t units Returned returned asked paused = (returned refl).units_rise
 rises H Calls h h' s t units (Asked x) returned asked paused = (asked x refl).units_rise
 rises H Calls h h' s t units (Paused p) returned asked paused = (paused p refl).units_rise
+
+-- and made progress
+pub progresses : (H : Type 0) (Calls : CallsOf H) (h h' : H) (s t : Snapshot) (units : ℕ) (e : Event) → ((p : Pause) → e ≡ Paused p → Resumed H Calls h h' s t units p) → Progresses e s t
+progresses H Calls h h' s t units Returned paused = tt
+progresses H Calls h h' s t units (Asked x) paused = tt
+progresses H Calls h h' s t units (Paused p) paused = (paused p refl).progress
 
 -- where a function is at work, it may go on to any event
 pub may_go_on : (g : Stage) (e : Event) (s : Snapshot) → Goes g → MayDo g (act_of e s)

@@ -9,6 +9,7 @@ use Rattle.wasm_store.specs.Allocating.{NotAllocated}
 use Rattle.wasm_places.specs.declared.invocable.Event.{Event}
 use Rattle.wasm_places.specs.declared.invocable.Event.TheVariants as events
 use Rattle.wasm_steps.specs.Outcomes.{UnitsRise}
+use Rattle.wasm_interp.specs.Promises.{CallProgresses}
 use Rattle.wasm_interp.specs.Machine.{Snapshot, Represents, limited}
 use Rattle.wasm_interp.specs.Invoking as machine
 use Rattle.wasi_bodies.specs.declared.streams.Terminals.{Terminals}
@@ -53,6 +54,12 @@ RisesBy (events.Paused p) units before after = UnitsRise p units before after
 RisesBy events.Returned units before after = (before ≤ after) × (after ≤ before + units)
 RisesBy (events.Asked x) units before after = (before ≤ after) × (after ≤ before + units)
 
+-- an answered call takes a unit, or enters a function that was to be entered: an instance that goes on and on comes to an end
+abbrev pub Progresses : Event → Snapshot → Snapshot → Type 0
+Progresses (events.Paused p) old new = CallProgresses p old new
+Progresses events.Returned old new = Unit {0}
+Progresses (events.Asked x) old new = Unit {0}
+
 -- an instance of the module can be opened, with at most this many pages
 abbrev pub IsOpenable : Module → ℕ → Type 0
 IsOpenable m pages = (s : Snapshot) × machine.Opens links pages m s
@@ -80,6 +87,7 @@ module _ {D R W1 W2 : Type 0} (on : Devices D R W1 W2) where
   pub record Goes (old new : InstanceState D R W1 W2) (units : ℕ) (e : Event) : Type 0 where
     pub does : Does old (act_of e new.machine) new
     pub within : RisesBy e units (used_by old) (used_by new)
+    pub progress : Progresses e old.machine new.machine
 
   -- the embedder has answered what it was asked for, with these results
   abbrev pub Answers : InstanceState D R W1 W2 → InstanceState D R W1 W2 → List ℕ → Type 0

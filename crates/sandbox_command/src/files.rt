@@ -7,7 +7,7 @@ ghost use Rattle.sandbox_command.specs.Around.{EndsGiven, around, calling, flush
 ghost use Rattle.sandbox_command.specs.Files.{HasExecuted, IsAnswered, IsPerformed, IsPerformedOnSystem, DoesInspect};
 ghost use Rattle.stream_answers.specs.System.{HasRefused, WasGiven};
 ghost use Rattle.sandbox_runs.specs.Flushing.{FileFlushed};
-ghost use Rattle.sandbox_places.specs.System.{FileTook};
+ghost use Rattle.sandbox_places.specs.System.{FileRefused, FileTook};
 ghost use Rattle.sandbox_runs.specs.Status.{file_status};
 
 use crate::inspecting::inspect;
@@ -54,8 +54,8 @@ pub fn exit_code<R: Inlet + Drop, W1: Outlet + Drop, W2: Outlet + Drop>(
     mut err: W2,
 ) -> ExitCode
     ensures tells { IsAnswered R.Read W1.Write W2.Write
-        (flushing FileFlushed HasRefused W1.flushed W1.refuses W2.flushed W2.refuses)
-        (calling WasGiven HasRefused FileTook HasRefused R.gave R.refused W1.took W1.refused W2.took
+        (flushing FileFlushed FileRefused W1.flushed W1.refuses W2.flushed W2.refuses)
+        (calling WasGiven HasRefused FileTook FileRefused R.gave R.refused W1.took W1.refused W2.took
         W2.refused) (record { input = input; out = out; err = err }) (exit_status result) }
     ensures within { exit_status result ≤ 125 }
 {
@@ -81,8 +81,8 @@ pub fn perform<R: Inlet + Drop, W1: Outlet + Drop, W2: Outlet + Drop>(
     err: W2,
 ) -> u8
     ensures tells { IsPerformedOnSystem R.Read W1.Write W2.Write
-        (flushing FileFlushed HasRefused W1.flushed W1.refuses W2.flushed W2.refuses)
-        (calling WasGiven HasRefused FileTook HasRefused R.gave R.refused W1.took W1.refused W2.took
+        (flushing FileFlushed FileRefused W1.flushed W1.refuses W2.flushed W2.refuses)
+        (calling WasGiven HasRefused FileTook FileRefused R.gave R.refused W1.took W1.refused W2.took
         W2.refused) invocation.now (record { input = input; out = out; err = err }) result }
     ensures within { result ≤ 124 }
 {

@@ -12,6 +12,14 @@ pub record IsReplaced {B : Type 0} (filled : B → List ℕ → B → Type 0) (s
   pub renames : renamed lasting named
   pub settles : settled named new
 
+-- One of these was refused, after those before it.
+pub data IsNotReplaced {B : Type 0} (filled : B → List ℕ → B → Type 0) (synced renamed refused : B → B → Type 0) (bytes : List ℕ) (old new : B) : Type 0 where
+  unfilled : refused old new → IsNotReplaced filled synced renamed refused bytes old new
+  unsynced : (written : B) → filled old bytes written → refused written new → IsNotReplaced filled synced renamed refused bytes old new
+  unnamed : (written lasting : B) → filled old bytes written → synced written lasting → refused lasting new → IsNotReplaced filled synced renamed refused bytes old new
+  unsettled : (written lasting named : B) → filled old bytes written → synced written lasting → renamed lasting named → refused named new
+      → IsNotReplaced filled synced renamed refused bytes old new
+
 -- No contract says what the system does, so `was_filled` and its like show it of anything; but only the proofs of the one instance of
 -- the trait cite them.
 pub WasFilled : {B : Type 0} → B → List ℕ → B → Type 0
@@ -41,3 +49,10 @@ WasSettled old new = Unit {0}
 pub was_settled : {B : Type 0} (old new : B) → WasSettled old new
 unfolding WasSettled
 was_settled old new = tt
+
+pub WasHindered : {B : Type 0} → B → B → Type 0
+WasHindered old new = Unit {0}
+
+pub was_hindered : {B : Type 0} (old new : B) → WasHindered old new
+unfolding WasHindered
+was_hindered old new = tt

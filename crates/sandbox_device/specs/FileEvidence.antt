@@ -1,7 +1,10 @@
 -- What became of a file of the system. No contract says what the system does, so `was_written` and its like show it of any file;
 -- but only the proofs of `SectorFile` for `File` cite them, and all others see relations of which they know nothing: so who says that
 -- a file was written has asked for that, and was answered with success.
-use Rattle.std.specs.Prelude.{◌⊎◌, ◌≤◌, ◌<◌, ℕ, List, length}
+use Rattle.std.specs.Prelude.{◌≡◌, ◌⊎◌, ◌≤◌, ◌<◌, ℕ, List, length, min}
+use Rattle.std.specs.IoError.{error_kind}
+use Rattle.std.specs.declared.io.Error.{Error}
+use Rattle.std.specs.declared.io.ErrorKind.TheVariants.{OutOfMemory}
 use Rattle.std.specs.declared.fs.File.{File}
 use Rattle.vol_sector.specs.Record.{image_of}
 
@@ -68,3 +71,15 @@ IsSettled synced measured sectors old new = synced old new × (n : ℕ) × measu
 -- It refused to make it last; or did so, but its length couldn't be asked for, or it had fewer sectors.
 abbrev pub IsUnsettled : {F : Type 0} → (refused synced : F → F → Type 0) → (measured : F → ℕ → Type 0) → ℕ → F → F → Type 0
 IsUnsettled refused synced measured sectors old new = refused old new ⊎ (synced old new × (refused new new ⊎ ((n : ℕ) × measured new n × (n < sectors))))
+
+-- It was found to have as many sectors as these, or more where those are as many as this, or 16,777,216.
+abbrev pub IsLongAs : {F : Type 0} → (measured : F → ℕ → Type 0) → (most : ℕ) → F → List (List ℕ) → Type 0
+IsLongAs measured most file sectors = (n : ℕ) × measured file n × (min (min n 16777216) most ≤ length sectors)
+
+-- It was found to have fewer sectors than this.
+abbrev pub IsShorter : {F : Type 0} → (measured : F → ℕ → Type 0) → ℕ → F → Type 0
+IsShorter measured sectors file = (n : ℕ) × measured file n × (n < sectors)
+
+-- Why a file is no device: memory was refused, or the file refused a call.
+abbrev pub IsNoDevice : {F : Type 0} → (refused : F → F → Type 0) → F → Error → Type 0
+IsNoDevice refused file error = (error_kind error ≡ OutOfMemory) ⊎ refused file file

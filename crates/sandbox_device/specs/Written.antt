@@ -1,6 +1,6 @@
 -- An output: what its file has stays until the first write or flush, which cuts it, and no other call does. `CutsOnce`, `Puts` and
--- `Flushes` say so of any file; the rest is of files of the system.
-use Rattle.std.specs.Prelude.{◌≡◌, ℕ, Bool, true, false, List}
+-- `Flushes` say so of any file, and `Refuses` what failed; the rest is of files of the system.
+use Rattle.std.specs.Prelude.{◌≡◌, ◌⊎◌, ℕ, Bool, true, false, List}
 use Rattle.std.specs.declared.fs.File.{File}
 use Rattle.sandbox_device.specs.declared.opening.OutputOn.{OutputOn}
 
@@ -31,6 +31,25 @@ module _ {F : Type 0} (cut : F → F → Type 0) where
     pub flushes : flushed cut_first.file new.file
     pub is_cut : new.is_cut ≡ true
     pub same : new.is_new ≡ old.is_new
+
+-- It wasn't cut, and refused to be.
+pub record RefusesCut {F : Type 0} (refused : F → F → Type 0) (old new : OutputOn F) : Type 0 where
+  pub uncut : old.is_cut ≡ false
+  pub refuses : refused old.file new.file
+  pub is_cut : new.is_cut ≡ false
+  pub same : new.is_new ≡ old.is_new
+
+-- It was cut, if it wasn't before, and then it refused what was asked.
+pub record RefusesCutFile {F : Type 0} (cut refused : F → F → Type 0) (old new : OutputOn F) : Type 0 where
+  pub cut_first : OutputOn F
+  pub cuts : CutsOnce cut old cut_first
+  pub refuses : refused cut_first.file new.file
+  pub is_cut : new.is_cut ≡ true
+  pub same : new.is_new ≡ old.is_new
+
+-- It refused to be cut, or what was asked then.
+abbrev pub Refuses : {F : Type 0} → (cut refused : F → F → Type 0) → OutputOn F → OutputOn F → Type 0
+Refuses cut refused old new = RefusesCut refused old new ⊎ RefusesCutFile cut refused old new
 
 -- No contract says what the system does, so `was_cut` and its like show it of any file; but only the proofs of `WrittenFile` for `File`
 -- cite them.

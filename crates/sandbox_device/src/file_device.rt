@@ -1,17 +1,17 @@
 //! A device in a file of the system.
 
-ghost use Rattle.std.specs.Prelude.{◌≡◌, ◌+◌, ◌^◌, ◌<◌, ◌≤◌, ◌↔◌, ◌⊎◌, ℕ, IfOk, IsTrue, OnOk, MatchResult, is_err, length, max, min, true};
+ghost use Rattle.std.specs.Prelude.{◌≡◌, ◌+◌, ◌^◌, ◌<◌, ◌≤◌, ◌↔◌, ◌⊎◌, ℕ, IfErr, IfOk, IsTrue, OnErr, OnOk, MatchResult, is_err, length, max, min, true};
 ghost use Rattle.vol_sector.specs.Disk.{counted, put, After, Keeps, Leaves, OneMore, Only, Wrote};
 ghost use Rattle.vol_sector.specs.Past.{LeavesPast, StillGoesOn};
 ghost use Rattle.vol_sector.specs.Record.{image_of};
 ghost use Rattle.vol_sector.specs.internal.PastLaws.{past_same, past_then};
 ghost use Rattle.sandbox_device.specs.File.{BeginsWith, IsOfSize, kept, version_4};
-ghost use Rattle.sandbox_device.specs.FileEvidence.{AreRead, AreReadTo, IsSettled, IsUnsettled, WasLocked};
-ghost use Rattle.sandbox_device.specs.Named.{WasOpened};
+ghost use Rattle.sandbox_device.specs.FileEvidence.{AreRead, AreReadTo, IsLongAs, IsNoDevice, IsSettled, IsShorter, IsUnsettled, WasLocked};
+ghost use Rattle.sandbox_device.specs.Named.{IsHindered, WasOpened};
 ghost use Rattle.sandbox_device.specs.Opening.{StandsApart};
 ghost use Rattle.sandbox_device.specs.internal.FileLaws.{mixed_since, mixed_now, now_may_stay};
 
-use crate::identity::Identity;
+use crate::identity::refuse_where_replaced;
 use crate::moments::Moments;
 use crate::opening::open_apart;
 use crate::sector_file::SectorFile;
@@ -64,7 +64,7 @@ fn begins_as_version_4(sectors: &[[u8; 512]]) -> bool
 /// a volume of version 4. (So that a long file that is no such volume isn't read whole to be refused.)
 fn count_of(there: u32, wanted: u32, beginning: &[[u8; 512]]) -> u32
     ensures few { result ≤ there }
-    ensures enough { min there 65536 ≤ result }
+    ensures enough { min there (max wanted 65536) ≤ result }
     ensures sized { result ≤ max wanted 65536 ⊎ BeginsWith version_4 beginning.now }
 {
     let most = wanted.max(MOST_OF_OLDER);
@@ -85,6 +85,7 @@ fn read_piece<F: SectorFile>(
     requires small { first + length images.old < 2 ^ 32 }
     requires read { AreReadTo F.gave file.now first sectors.old }
     ensures read { OnOk result (AreReadTo F.gave file.now (first + length images.old) sectors.new) }
+    ensures refused { OnErr result (F.refused file.now file.now) }
     ensures count { length sectors.new ≡ length sectors.old }
     ensures begins { 0 < first → image_of sectors.new 0 ≡ image_of sectors.old 0 }
 {
@@ -106,6 +107,7 @@ fn read_sectors<F: SectorFile>(
     ensures read { IfOk result (AreRead F.gave file.now) }
     ensures begins { IfOk result (λ s. 0 < length beginning.now
         → image_of s 0 ≡ image_of beginning.now 0) }
+    ensures refused { IfErr result (IsNoDevice F.refused file.now) }
 {
     let mut sectors = Sectors::zeros(alloc, count)?;
     sectors.put_all(0, beginning);
@@ -127,7 +129,9 @@ pub(crate) fn whole_sectors<F: SectorFile>(
 ) -> io::Result<Sectors>
     ensures few { IfOk result (λ s. length s ≤ 16777216) }
     ensures sized { IfOk result (λ s. IsOfSize (max wanted 65536) s) }
+    ensures measured { IfOk result (IsLongAs F.measured (max wanted 65536) file.now) }
     ensures read { IfOk result (AreRead F.gave file.now) }
+    ensures refused { IfErr result (IsNoDevice F.refused file.now) }
 {
     let there = file.sectors()?.min(u64::from(MOST_SECTORS)) as u32;
     let mut piece = [[0; 512]; PIECE as usize];
@@ -140,16 +144,14 @@ pub(crate) fn whole_sectors<F: SectorFile>(
 /// Locks a file that was opened under this name. It fails where it is locked, and where another file has come in its place
 /// before it was.
 fn locked<R: Files>(files: &R, file: File, path: &str) -> io::Result<File>
+    requires { WasOpened path.now file }
     ensures same { IfOk result (λ it. it ≡ file) }
     ensures locked { IfOk result WasLocked }
+    ensures refused { OnErr result (IsHindered path.now) }
 {
     file.take_lock()?;
-    match Identity::of(&file)? {
-        Some(identity) if Identity::of_path(files, path) != Some(identity) => {
-            Err(io::Error::from(ErrorKind::WouldBlock))
-        }
-        _ => Ok(file),
-    }
+    refuse_where_replaced(files, path, &file)?;
+    Ok(file)
 }
 
 /// Makes last what was written to a file, and asks whether it still has all of its sectors.
@@ -172,6 +174,7 @@ impl FileDevice {
         ensures apart { IfOk result StandsApart }
         ensures opened { IfOk result (WasOpened path.now) }
         ensures locked { IfOk result WasLocked }
+        ensures refused { OnErr result (IsHindered path.now) }
     {
         let mut how = OpenOptions::new();
         how.read(true).write(true);
@@ -184,6 +187,7 @@ impl FileDevice {
         ensures apart { IfOk result StandsApart }
         ensures opened { IfOk result (WasOpened path.now) }
         ensures locked { IfOk result WasLocked }
+        ensures refused { OnErr result (IsHindered path.now) }
     {
         let mut how = OpenOptions::new();
         how.read(true).write(true).create(true);
@@ -202,6 +206,8 @@ impl<F: SectorFile + Drop> FileDevice<F> {
         ensures unused { IfOk result (λ d. d.failures ≡ 0) }
         ensures same { IfOk result (λ d. d.file ≡ file) }
         ensures read { IfOk result (λ d. AreRead F.gave file d.sectors) }
+        ensures refused { IfErr result (λ error. IsNoDevice F.refused file error
+            ⊎ IsShorter F.measured (min sectors 16777216) file) }
     {
         let wanted = sectors.min(MOST_SECTORS);
         if file.sectors()? < u64::from(wanted) {
@@ -239,6 +245,8 @@ impl<F: SectorFile + Drop> FileDevice<F> {
         ensures unused { IfOk result (λ d. d.failures ≡ 0) }
         ensures same { IfOk result (λ d. d.file ≡ file) }
         ensures read { IfOk result (λ d. AreRead F.gave file d.sectors) }
+        ensures refused { IfErr result (λ error. IsNoDevice F.refused file error
+            ⊎ IsShorter F.measured (min sectors 16777216) file) }
     {
         let device = FileDevice::of(alloc, file)?;
         if device.begins_with(beginning) {
@@ -256,6 +264,7 @@ impl<F: SectorFile + Drop> FileDevice<F> {
         ensures unused { IfOk result (λ d. d.failures ≡ 0) }
         ensures same { IfOk result (λ d. d.file ≡ file) }
         ensures read { IfOk result (λ d. AreRead F.gave file d.sectors) }
+        ensures refused { IfErr result (IsNoDevice F.refused file) }
     {
         FileDevice::with(alloc, file, 0)
     }
@@ -267,6 +276,8 @@ impl<F: SectorFile + Drop> FileDevice<F> {
         ensures unused { IfOk result (λ d. d.failures ≡ 0) }
         ensures same { IfOk result (λ d. d.file ≡ file) }
         ensures read { IfOk result (λ d. AreRead F.gave file d.sectors) }
+        ensures measured { IfOk result (λ d. IsLongAs F.measured (max wanted 65536) file d.sectors) }
+        ensures refused { IfErr result (IsNoDevice F.refused file) }
     {
         let sectors = whole_sectors(alloc, &file, wanted)?;
         Ok(FileDevice {

@@ -1,7 +1,12 @@
 //! Which file of the system is open, whatever it is called.
 
+ghost use Rattle.std.specs.Prelude.{◌⊎◌, OnErr};
+ghost use Rattle.sandbox_device.specs.FileEvidence.{WasRefused};
+ghost use Rattle.sandbox_device.specs.Named.{HasLost};
+
 use std::fs::{File, Metadata};
 use std::io;
+use std::io::ErrorKind;
 use std::os::unix::fs::MetadataExt;
 use std::rt::Files;
 
@@ -33,7 +38,9 @@ fn at<R: Files>(files: &R, path: &str) -> Option<Identity> {
 
 impl Identity {
     /// Which regular file this is; none where it is none. It fails where the system doesn't tell.
-    pub fn of(file: &File) -> io::Result<Option<Identity>> {
+    pub fn of(file: &File) -> io::Result<Option<Identity>>
+        ensures { OnErr result (WasRefused file.now file.now) }
+    {
         Ok(regular(&file.metadata()?))
     }
 
@@ -50,5 +57,24 @@ impl Identity {
             at(files, "/proc/self/fd/1"),
             at(files, "/proc/self/fd/2"),
         ]
+    }
+}
+
+/// Whether this is a regular file. It fails where the system doesn't tell.
+pub(crate) fn is_regular(file: &File) -> io::Result<bool>
+    ensures { OnErr result (WasRefused file.now file.now) }
+{
+    Ok(file.metadata()?.is_file())
+}
+
+/// Refuses a regular file in whose place another one has come under this name.
+pub(crate) fn refuse_where_replaced<R: Files>(files: &R, path: &str, file: &File) -> io::Result<()>
+    ensures { OnErr result (WasRefused file.now file.now ⊎ HasLost path.now file.now) }
+{
+    match Identity::of(file)? {
+        Some(identity) if Identity::of_path(files, path) != Some(identity) => {
+            Err(io::Error::from(ErrorKind::WouldBlock))
+        }
+        _ => Ok(()),
     }
 }

@@ -1,12 +1,12 @@
 //! A device in memory.
 
-ghost use Rattle.std.specs.Prelude.{◌≡◌, ◌<◌, ◌≤◌, IfOk, OnOk, length, refl, replicate};
+ghost use Rattle.std.specs.Prelude.{◌≡◌, ◌<◌, ◌≤◌, IfErr, IfOk, OnOk, length, refl, replicate};
 ghost use Rattle.std.specs.Io.KnownBytes.{Appends};
 ghost use Rattle.vol_sector.specs.Past.{LeavesPast};
 ghost use Rattle.vol_sector.specs.Record.{image_of};
 ghost use Rattle.vol_sector.specs.internal.PastLaws.{past_same, past_then};
 ghost use Rattle.sandbox_device.specs.File.{IsOfSize};
-ghost use Rattle.sandbox_device.specs.FileEvidence.{AreRead, WasRead};
+ghost use Rattle.sandbox_device.specs.FileEvidence.{AreRead, IsNoDevice, WasRead, WasRefused};
 ghost use Rattle.sandbox_device.specs.Ram.{joined_sectors, held};
 ghost use Rattle.sandbox_device.specs.internal.RamLaws.{now_is_since, now_is_all};
 
@@ -58,6 +58,7 @@ impl RamDevice {
         ensures few { IfOk result (λ d. length d.sectors ≤ 16777216) }
         ensures sized { IfOk result (λ d. IsOfSize 65536 d.sectors) }
         ensures read { IfOk result (λ d. AreRead WasRead file.now d.sectors) }
+        ensures refused { IfErr result (IsNoDevice WasRefused file.now) }
     {
         Ok(RamDevice {
             sectors: whole_sectors(alloc, file, 0)?,

@@ -2,15 +2,16 @@
 //!
 //! Whoever is ended meanwhile leaves the file as it was, and maybe what was written beside it, which the next one takes away.
 
-ghost use Rattle.std.specs.Prelude.{◌≡◌, IfNone, IfOk, IfSome, OnOk, string_bytes};
+ghost use Rattle.std.specs.Prelude.{◌≡◌, ◌⊎◌, IfNone, IfOk, IfSome, MatchResult, OnErr, OnOk, string_bytes};
 ghost use Rattle.sandbox_device.specs.declared.replacing.ReplacingWay.TheVariants.{Beside};
 ghost use Rattle.sandbox_device.specs.Opening.{StandsApart};
 ghost use Rattle.sandbox_device.specs.Contents.{bytes_of};
-ghost use Rattle.sandbox_device.specs.Named.{IsForName, IsGiven, IsThere, LeadsTo, WasOverwritten};
-ghost use Rattle.sandbox_device.specs.Replaced.{WasReplaced};
+ghost use Rattle.sandbox_device.specs.FileEvidence.{WasRefused};
+ghost use Rattle.sandbox_device.specs.Named.{HasNoPlaceBeside, IsForName, IsGiven, IsHindered, IsNotGiven, IsNotOpened, IsNotToBeReplaced, IsThere, IsUntold, LeadsTo, WasNotFollowed, WasNotOverwritten, WasOpened, WasOverwritten};
+ghost use Rattle.sandbox_device.specs.Replaced.{WasNotReplaced, WasReplaced};
 
 use crate::beside::{Beside, replace};
-use crate::identity::Identity;
+use crate::identity::{Identity, is_regular, refuse_where_replaced};
 use crate::new_bytes::Contents;
 use crate::opening::open_apart;
 use crate::written_file::lock_to_write;
@@ -68,7 +69,8 @@ pub struct Replacement {
 
 /// The name that a name leads to, behind all links; the file needn't be there.
 fn behind_links<R: Files + AllocGlobal>(rt: &R, path: &str) -> io::Result<String>
-    ensures { IfOk result (λ target. LeadsTo path.now (string_bytes target)) }
+    ensures { MatchResult result (λ target. LeadsTo path.now (string_bytes target))
+        (λ _. WasNotFollowed path.now) }
 {
     let mut target = String::from_str(rt.alloc(), path)?;
     for _ in 0..MOST_LINKS {
@@ -115,18 +117,10 @@ fn is_locked_by_us(file: &File) -> bool {
     file.try_lock().is_ok()
 }
 
-/// Refuses a regular file in whose place another one has come.
-fn refuse_where_replaced<R: Files>(rt: &R, path: &str, file: &File) -> io::Result<()> {
-    match Identity::of(file)? {
-        Some(identity) if Identity::of_path(rt, path) != Some(identity) => {
-            Err(io::Error::from(ErrorKind::WouldBlock))
-        }
-        _ => Ok(()),
-    }
-}
-
 /// Whether a name leads to this very file.
-fn leads_to<R: Files>(rt: &R, path: &str, file: &File) -> io::Result<bool> {
+fn leads_to<R: Files>(rt: &R, path: &str, file: &File) -> io::Result<bool>
+    ensures { OnErr result (WasRefused file.now file.now) }
+{
     let identity = Identity::of(file)?;
     Ok(identity.is_some() && Identity::of_path(rt, path) == identity)
 }
@@ -168,7 +162,9 @@ fn make_spare<R: Files<File = File>>(rt: &R, path: String) -> io::Result<SpareFi
 }
 
 /// Clears the names beside a file, and makes a file of the first one that isn't taken.
-fn spare_beside<R: Files<File = File> + AllocGlobal>(rt: &R, path: &str) -> io::Result<SpareFile> {
+fn spare_beside<R: Files<File = File> + AllocGlobal>(rt: &R, path: &str) -> io::Result<SpareFile>
+    ensures { OnErr result (HasNoPlaceBeside path.now) }
+{
     let mut spare = Err(io::Error::from(ErrorKind::AlreadyExists));
     for number in 0..NAMES {
         let name = name_beside(rt, path, number)?;
@@ -178,6 +174,14 @@ fn spare_beside<R: Files<File = File> + AllocGlobal>(rt: &R, path: &str) -> io::
         }
     }
     spare
+}
+
+/// Makes a file beside one that is to be made, and takes it away: whether that can be done at all.
+fn try_beside<R: Files<File = File> + AllocGlobal>(rt: &R, path: &str) -> io::Result<()>
+    ensures { OnErr result (HasNoPlaceBeside path.now) }
+{
+    let spare = spare_beside(rt, path)?;
+    rt.remove_file(spare.path.as_str())
 }
 
 /// Gives a file the owner and the mode of another one.
@@ -224,7 +228,7 @@ struct Successor<'a, R> {
 }
 
 impl<R: Files<File = File> + AllocGlobal> Beside for Successor<'_, R> {
-    ghost use Rattle.sandbox_device.specs.Beside.{WasFilled, WasMadeLasting, WasRenamed, WasSettled};
+    ghost use Rattle.sandbox_device.specs.Beside.{WasFilled, WasHindered, WasMadeLasting, WasRenamed, WasSettled};
 
     ghost filled = { λ old bytes new. WasFilled old bytes new };
 
@@ -233,6 +237,8 @@ impl<R: Files<File = File> + AllocGlobal> Beside for Successor<'_, R> {
     ghost renamed = { λ old new. WasRenamed old new };
 
     ghost settled = { λ old new. WasSettled old new };
+
+    ghost refused = { λ old new. WasHindered old new };
 
     fn fill(&mut self, contents: Contents<'_>) -> io::Result<()> {
         write_contents(self.rt, &self.spare.file, contents)
@@ -251,8 +257,18 @@ impl<R: Files<File = File> + AllocGlobal> Beside for Successor<'_, R> {
     }
 }
 
-/// How what is there is replaced, of which these are the metadata.
-fn way_of<R: Files>(rt: &R, path: &str, file: &File, found: &Metadata) -> io::Result<ReplacingWay> {
+/// What the system tells of a file.
+fn told_of(file: &File) -> io::Result<Metadata>
+    ensures { OnErr result (WasRefused file.now file.now) }
+{
+    file.metadata()
+}
+
+/// How what is there is replaced.
+fn way_of<R: Files>(rt: &R, path: &str, file: &File) -> io::Result<ReplacingWay>
+    ensures { OnErr result (WasRefused file.now file.now) }
+{
+    let found = told_of(file)?;
     if !found.is_file() {
         return Ok(ReplacingWay::Stream);
     }
@@ -265,9 +281,24 @@ fn way_of<R: Files>(rt: &R, path: &str, file: &File, found: &Metadata) -> io::Re
     Ok(ReplacingWay::InPlace(Hindrance::Folder))
 }
 
+/// Locks a file that was opened to write under a name that leads to this one, and gives how it is replaced.
+fn way_of_locked<R: Files>(
+    rt: &R,
+    path: &str,
+    target: &str,
+    file: &File,
+) -> io::Result<ReplacingWay>
+    requires { WasOpened path.now file.now }
+    ensures { OnErr result (IsHindered path.now) }
+{
+    lock_to_write(file)?;
+    refuse_where_replaced(rt, path, file)?;
+    way_of(rt, target, file)
+}
+
 /// What is there under a name, or a file that is made there.
 fn there<R: Files<File = File>>(rt: &R, path: &str, old: Option<File>) -> io::Result<File>
-    ensures { IfOk result (IsThere path.now old) }
+    ensures { MatchResult result (IsThere path.now old) (λ _. IsNotOpened path.now) }
 {
     match old {
         Some(file) => Ok(file),
@@ -347,9 +378,10 @@ fn overwrite<R: Files<File = File> + AllocGlobal>(
     file: &File,
     contents: Contents<'_>,
 ) -> io::Result<()>
-    ensures { OnOk result (WasOverwritten file.now (bytes_of contents.entry)) }
+    ensures { MatchResult result (λ _. WasOverwritten file.now (bytes_of contents.entry))
+        (λ _. WasNotOverwritten file.now) }
 {
-    if !file.metadata()?.is_file() {
+    if !is_regular(file)? {
         write_contents(rt, file, contents)?;
         let _ = file.sync_all();
         return Ok(());
@@ -373,15 +405,14 @@ impl Replacement {
     pub fn open<R: Files<File = File> + AllocGlobal>(rt: &R, path: &str) -> io::Result<Replacement>
         ensures apart { IfOk result (λ it. IfSome it.old StandsApart) }
         ensures named { IfOk result (IsForName path.now) }
+        ensures refused { OnErr result (IsNotToBeReplaced path.now) }
     {
         let target = behind_links(rt, path)?;
         let mut how = OpenOptions::new();
         how.write(true);
         match open_apart(rt, &how, path) {
             Ok(file) => {
-                lock_to_write(&file)?;
-                refuse_where_replaced(rt, path, &file)?;
-                let way = way_of(rt, target.as_str(), &file, &file.metadata()?)?;
+                let way = way_of_locked(rt, path, target.as_str(), &file)?;
                 Ok(Replacement {
                     path: target,
                     old: Some(file),
@@ -389,8 +420,7 @@ impl Replacement {
                 })
             }
             Err(error) if error.kind() == ErrorKind::NotFound && names_a_file(target.as_str()) => {
-                let spare = spare_beside(rt, target.as_str())?;
-                rt.remove_file(spare.path.as_str())?;
+                try_beside(rt, target.as_str())?;
                 Ok(Replacement {
                     path: target,
                     old: None,
@@ -402,7 +432,9 @@ impl Replacement {
     }
 
     /// Which file is there, if it is a regular one.
-    pub fn identity(&self) -> io::Result<Option<Identity>> {
+    pub fn identity(&self) -> io::Result<Option<Identity>>
+        ensures { OnErr result (IsUntold self.now.old) }
+    {
         match &self.old {
             Some(file) => Identity::of(file),
             None => Ok(None),
@@ -424,6 +456,8 @@ impl Replacement {
             (WasReplaced R (string_bytes self.path) (bytes_of contents.entry))) }
         ensures given { OnOk result (IsGiven R (string_bytes self.path) self.old
             (bytes_of contents.entry)) }
+        ensures refused { OnErr result (IsNotGiven R (string_bytes self.path) self.old
+            (bytes_of contents.entry)) }
     {
         match self.way {
             ReplacingWay::Beside => self.fill_beside(rt, contents),
@@ -439,15 +473,19 @@ impl Replacement {
     }
 
     /// Whether what was there has been removed since.
-    fn has_no_name(&self) -> io::Result<bool> {
+    fn has_no_name(&self) -> io::Result<bool>
+        ensures { OnErr result (IsUntold self.now.old) }
+    {
         match &self.old {
-            Some(file) => Ok(file.metadata()?.nlink() == 0),
+            Some(file) => Ok(told_of(file)?.nlink() == 0),
             None => Ok(false),
         }
     }
 
     /// Locks the file that has come under the name since it was opened, if one has: it is replaced too, unless someone else uses it.
-    fn newcomer<R: Files<File = File>>(&self, rt: &R) -> io::Result<Option<File>> {
+    fn newcomer<R: Files<File = File>>(&self, rt: &R) -> io::Result<Option<File>>
+        ensures { OnErr result (IsUntold self.now.old ⊎ IsHindered (string_bytes self.now.path)) }
+    {
         let found = Identity::of_path(rt, self.path.as_str());
         if found.is_none() || found == self.identity()? {
             return Ok(None);
@@ -455,13 +493,14 @@ impl Replacement {
         let mut how = OpenOptions::new();
         how.write(true);
         let file = open_apart(rt, &how, self.path.as_str())?;
-        lock_to_write(&file)?;
-        refuse_where_replaced(rt, self.path.as_str(), &file)?;
+        way_of_locked(rt, self.path.as_str(), self.path.as_str(), &file)?;
         Ok(Some(file))
     }
 
     /// A file beside it, of its owner and its mode, and its folder.
-    fn spare<R: Files<File = File> + AllocGlobal>(&self, rt: &R) -> io::Result<(SpareFile, File)> {
+    fn spare<R: Files<File = File> + AllocGlobal>(&self, rt: &R) -> io::Result<(SpareFile, File)>
+        ensures { OnErr result (HasNoPlaceBeside (string_bytes self.now.path)) }
+    {
         let folder = open_folder(rt, self.path.as_str())?;
         let spare = spare_beside(rt, self.path.as_str())?;
         if let Some(old) = &self.old {
@@ -481,7 +520,8 @@ impl Replacement {
         folder: &File,
         contents: Contents<'_>,
     ) -> io::Result<()>
-        ensures { OnOk result (WasReplaced R (string_bytes self.now.path)
+        ensures { MatchResult result (λ _. WasReplaced R (string_bytes self.now.path)
+            (bytes_of contents.entry)) (λ _. WasNotReplaced R (string_bytes self.now.path)
             (bytes_of contents.entry)) }
     {
         let mut successor = Successor {
@@ -503,6 +543,8 @@ impl Replacement {
         ensures replaced { IfOk result (λ hindrance. IfNone hindrance
             (WasReplaced R (string_bytes self.path) (bytes_of contents.entry))) }
         ensures given { OnOk result (IsGiven R (string_bytes self.path) self.old
+            (bytes_of contents.entry)) }
+        ensures refused { OnErr result (IsNotGiven R (string_bytes self.path) self.old
             (bytes_of contents.entry)) }
     {
         let newcomer = self.newcomer(rt)?; // locked until the new bytes have the name
@@ -530,7 +572,8 @@ impl Replacement {
         rt: &R,
         contents: Contents<'_>,
     ) -> io::Result<()>
-        ensures { OnOk result (IsGiven R (string_bytes self.path) self.old
+        ensures { MatchResult result (λ _. IsGiven R (string_bytes self.path) self.old
+            (bytes_of contents.entry)) (λ _. IsNotGiven R (string_bytes self.path) self.old
             (bytes_of contents.entry)) }
     {
         let Replacement { path, old, .. } = self;

@@ -1,6 +1,6 @@
 //! A file of sectors, by the calls that a device makes of it.
 
-ghost use Rattle.std.specs.Prelude.{◌↔◌, ◌+◌, ◌<◌, ℕ, List, IfOk, MatchResult, OnOk, length};
+ghost use Rattle.std.specs.Prelude.{◌↔◌, ◌+◌, ◌<◌, ℕ, List, MatchResult, OnErr, OnOk, length};
 ghost use Rattle.vol_sector.specs.Record.{image_of};
 
 use std::fs::File;
@@ -38,18 +38,20 @@ pub trait SectorFile {
 
     /// Takes its lock. It fails where another use of the file has it.
     fn take_lock(&self) -> io::Result<()>
-        ensures { IfOk result (λ _. locked self.now) };
+        ensures { MatchResult result (λ _. locked self.now) (λ _. refused self.now self.now) };
 
     /// How many whole sectors it has by now.
     fn sectors(&self) -> io::Result<u64>
         ensures { MatchResult result (λ n. measured self.now n) (λ _. refused self.now self.now) };
 
     /// Gives it this many sectors, where it has fewer. What it has stays.
-    fn lengthen(&self, sectors: u32) -> io::Result<()>;
+    fn lengthen(&self, sectors: u32) -> io::Result<()>
+        ensures { OnErr result (refused self.now self.now) };
 
     /// Reads sectors from one on.
     fn read_into(&self, first: u32, images: &mut [[u8; 512]]) -> io::Result<()>
-        ensures { OnOk result ((n : ℕ) → n < length images.new → gave self.now (first + n) (image_of images.new n)) };
+        ensures gave { OnOk result ((n : ℕ) → n < length images.new → gave self.now (first + n) (image_of images.new n)) }
+        ensures refused { OnErr result (refused self.now self.now) };
 
     /// Writes a sector.
     fn write(&mut self, n: u32, image: &[u8; 512]) -> io::Result<()>

@@ -1,9 +1,10 @@
 //! A file that is written from its beginning, by the calls that an output makes of it.
 
-ghost use Rattle.std.specs.Prelude.{ℕ, List, IfOk, OnOk, take};
+ghost use Rattle.std.specs.Prelude.{ℕ, List, MatchResult, OnErr, take};
 ghost use Rattle.std.specs.Io.{WritesAtMost};
+ghost use Rattle.sandbox_device.specs.FileEvidence.{WasRefused};
 
-use crate::identity::Identity;
+use crate::identity::{Identity, is_regular};
 use std::fs::{File, TryLockError};
 use std::io;
 use std::io::{ErrorKind, Write};
@@ -11,8 +12,8 @@ use std::io::{ErrorKind, Write};
 /// What an output needs of a file, and no more.
 ///
 /// What became of the file is known by evidence alone: a caller that is proved for all files can show only by a call which succeeded
-/// that the file was locked or cut, that bytes were written to it, and that they were flushed. As long as no such call was made, the
-/// file is as it was.
+/// that the file was locked or cut, that bytes were written to it, and that they were flushed, and only by one which failed that it
+/// refused. As long as no such call was made, the file is as it was.
 pub trait WrittenFile {
     /// The file was locked, if it has a lock.
     ghost locked: { Self → Type 0 };
@@ -26,28 +27,34 @@ pub trait WrittenFile {
     /// Between these states what was written was flushed.
     ghost flushed: { Self → Self → Type 0 };
 
+    /// Between these states a call failed.
+    ghost refused: { Self → Self → Type 0 };
+
     /// Takes its lock. It fails where another use of the file has it.
     fn take_write_lock(&self) -> io::Result<()>
-        ensures { OnOk result (locked self.now) };
+        ensures { MatchResult result (λ _. locked self.now) (λ _. refused self.now self.now) };
 
     /// Which file it is, if it is a regular one.
-    fn which(&self) -> io::Result<Option<Identity>>;
+    fn which(&self) -> io::Result<Option<Identity>>
+        ensures { OnErr result (refused self.now self.now) };
 
     /// Cuts it to nothing. What has no length, as a pipe or a terminal, stays as it is.
     fn cut_to_nothing(&mut self) -> io::Result<()>
-        ensures { OnOk result (cut self.old self.new) };
+        ensures { MatchResult result (λ _. cut self.old self.new) (λ _. refused self.old self.new) };
 
     /// Writes bytes, and gives how many.
     fn put(&mut self, bytes: &[u8]) -> io::Result<usize>
         ensures bound { WritesAtMost result bytes.now }
-        ensures told { IfOk result (λ n. wrote self.old (take n bytes.now) self.new) };
+        ensures told { MatchResult result (λ n. wrote self.old (take n bytes.now) self.new)
+            (λ _. refused self.old self.new) };
 
     /// Flushes what was written.
     fn flush_all(&mut self) -> io::Result<()>
-        ensures { OnOk result (flushed self.old self.new) };
+        ensures { MatchResult result (λ _. flushed self.old self.new) (λ _. refused self.old self.new) };
 }
 
 impl WrittenFile for File {
+    ghost use Rattle.sandbox_device.specs.FileEvidence.{WasRefused};
     ghost use Rattle.sandbox_device.specs.Written.{WasCut, WasFlushed, WasLockedToWrite, WasPut};
 
     ghost locked = { WasLockedToWrite };
@@ -57,6 +64,8 @@ impl WrittenFile for File {
     ghost wrote = { WasPut };
 
     ghost flushed = { WasFlushed };
+
+    ghost refused = { WasRefused };
 
     fn take_write_lock(&self) -> io::Result<()> {
         lock_to_write(self)
@@ -81,7 +90,7 @@ impl WrittenFile for File {
 
 /// Cuts a file to nothing. What has no length, as a pipe or a terminal, stays as it is.
 fn cut(file: &File) -> io::Result<()> {
-    if file.metadata()?.is_file() {
+    if is_regular(file)? {
         file.set_len(0)?;
     }
     Ok(())
@@ -89,8 +98,10 @@ fn cut(file: &File) -> io::Result<()> {
 
 /// Locks a file that is to be written. It is refused where another use of it has locked it; a pipe, a terminal or a device has
 /// no lock, and a file system that knows none refuses nothing.
-pub(crate) fn lock_to_write(file: &File) -> io::Result<()> {
-    if !file.metadata()?.is_file() {
+pub(crate) fn lock_to_write(file: &File) -> io::Result<()>
+    ensures { OnErr result (WasRefused file.now file.now) }
+{
+    if !is_regular(file)? {
         return Ok(());
     }
     match file.try_lock() {

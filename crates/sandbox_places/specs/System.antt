@@ -6,9 +6,9 @@ use Rattle.sandbox_device.specs.declared.opening.FileOutput.{FileOutput}
 use Rattle.sandbox_device.specs.declared.ram_device.RamDevice.{RamDevice}
 use Rattle.sandbox_device.specs.declared.replacing.Replacement.{Replacement}
 use Rattle.std.specs.declared.fs.File.{File}
-use Rattle.sandbox_device.specs.FileEvidence.{AreRead, WasLocked, WasRead}
+use Rattle.sandbox_device.specs.FileEvidence.{AreRead, WasLocked, WasRead, WasRefused}
 use Rattle.sandbox_device.specs.Named.{IsForName, IsGiven, WasOpened}
-use Rattle.sandbox_device.specs.Written.{CutsOnce, Puts, WasCut, WasPut}
+use Rattle.sandbox_device.specs.Written.{CutsOnce, Puts, Refuses, WasCut, WasPut}
 use Rattle.sandbox_args.specs.Request.{Text}
 use Rattle.stream_answers.specs.System.{HasRefused, WasGiven as Gave}
 use Rattle.sandbox_places.specs.declared.host_volume.HostVolume.{HostVolume}
@@ -17,6 +17,10 @@ use Rattle.stream_answers.specs.Pieces.{AtLast, Gives, IsWhole}
 -- A file of an output was cut, if it wasn't before, and got bytes at its end.
 abbrev pub FileTook : FileOutput → List ℕ → FileOutput → Type 0
 FileTook before bytes after = Puts WasCut WasPut before.on bytes after.on
+
+-- It refused to be cut, or what was asked of it then.
+abbrev pub FileRefused : FileOutput → FileOutput → Type 0
+FileRefused before after = Refuses WasCut WasRefused before.on after.on
 
 -- It was opened or made under this name, and at the most cut since.
 abbrev pub IsOutput : Text → FileOutput → Type 0

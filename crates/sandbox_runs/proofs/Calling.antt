@@ -119,8 +119,8 @@ pub blamed_so : {V R : Type 0} (fault : Option Fault) (outcome : Outcome) (volum
     → (fault ≡ None → status ≡ before) → (IsSome fault → status ≡ (if failed then 123 else 124)) → failed ≡ is_err volume
     → EndsWith outcome volume flushed before → CallEndsWith fault outcome volume flushed status
 blamed_so None outcome volume failed flushed before status same other is ends = subst (λ (n : ℕ). EndsWith outcome volume flushed n) (sym (same refl)) ends
-blamed_so (Some fault) outcome (Ok v) failed flushed before status same other is ends = other tt ∙ ap (λ (b : Bool). if b then 123 else 124) is
-blamed_so (Some fault) outcome (Err r) failed flushed before status same other is ends = other tt ∙ ap (λ (b : Bool). if b then 123 else 124) is
+blamed_so (Some fault) outcome (Ok v) failed flushed before status same other is ends = other refl ∙ ap (λ (b : Bool). if b then 123 else 124) is
+blamed_so (Some fault) outcome (Err r) failed flushed before status same other is ends = other refl ∙ ap (λ (b : Bool). if b then 123 else 124) is
 
 -- where its fuel went is told, as it is of a command
 pub call_tells : (stacks : Option Stacks) (imported : ℕ) (usage : Option FuelUse) (end : Option Stopped) (stopped : Stopped) → end ≡ Some stopped → stopped.fuel_use ≡ usage
@@ -248,26 +248,32 @@ module _ {D R W1 W2 : Type 0} (Stands : StandsFor) (on : Devices D R W1 W2) wher
 
 -- ---- what is told of its end
 
-module _ {D R W1 W2 : Type 0} (honest : D → Type 0) (disk : D → Disk) (sectors_on failures : D → ℕ) (goes_on : ℕ → D → D → Type 0)
-    (remaining : R → Option (List ℕ)) (outs : W1 → Option (List ℕ)) (errs : W2 → Option (List ℕ)) (ear : Hearing R W1 W2)
-    (value_type : Option ValueType) (called : CalledOnce D (Counted R) (Counted W1) (Counted W2)) (room : List Frame) (outcome : Outcome) (fault : Option Fault) (printed : W1)
-    (left after : Executed D R W1 W2) (failed : Bool) (stopped : Stopped) where
-  -- only the status and the summary change by a fault
-  blamed_left : (why : Option Fault) → BlamesCall why failed left after
+-- only the status and the summary change by a fault
+module _ {D R W1 W2 : Type 0} (failed : Bool) (left after : Executed D R W1 W2) where
+  pub blamed_left : (why : Option Fault) → BlamesCall why failed left after
       → (after.input ≡ left.input) × (after.out ≡ left.out) × (after.err ≡ left.err) × (after.device ≡ left.device) × (after.stopped ≡ left.stopped) × (after.flushed ≡ left.flushed)
   blamed_left None same = (ap (λ (e : Executed D R W1 W2). e.input) same, ap (λ (e : Executed D R W1 W2). e.out) same, ap (λ (e : Executed D R W1 W2). e.err) same, ap (λ (e : Executed D R W1 W2). e.device) same, ap (λ (e : Executed D R W1 W2). e.stopped) same, ap (λ (e : Executed D R W1 W2). e.flushed) same)
   blamed_left (Some why) same = (ap (λ (e : Executed D R W1 W2). e.input) same, ap (λ (e : Executed D R W1 W2). e.out) same, ap (λ (e : Executed D R W1 W2). e.err) same, ap (λ (e : Executed D R W1 W2). e.device) same, ap (λ (e : Executed D R W1 W2). e.stopped) same, ap (λ (e : Executed D R W1 W2). e.flushed) same)
 
+  -- so what was answered stays said
+  pub blamed_answers : (Answers : Bool → W1 → W2 → Type 0) (why : Option Fault) → BlamesCall why failed left after → Answers left.flushed left.out left.err → Answers after.flushed after.out after.err
+  blamed_answers Answers None same said = subst (λ (e : Executed D R W1 W2). Answers e.flushed e.out e.err) (sym same) said
+  blamed_answers Answers (Some why) same said = subst (λ (e : Executed D R W1 W2). Answers e.flushed e.out e.err) (sym same) said
+
+module _ {D R W1 W2 : Type 0} (honest : D → Type 0) (disk : D → Disk) (sectors_on failures : D → ℕ) (goes_on : ℕ → D → D → Type 0)
+    (remaining : R → Option (List ℕ)) (outs : W1 → Option (List ℕ)) (errs : W2 → Option (List ℕ)) (ear : Hearing R W1 W2)
+    (value_type : Option ValueType) (called : CalledOnce D (Counted R) (Counted W1) (Counted W2)) (room : List Frame) (outcome : Outcome) (fault : Option Fault) (printed : W1)
+    (left after : Executed D R W1 W2) (failed : Bool) (stopped : Stopped) where
   blamed_ends : (why : Option Fault) → BlamesCall why failed left after → failed ≡ is_err called.volume → EndsWith outcome called.volume left.flushed left.status
       → CallEndsWith why outcome called.volume after.flushed after.status
   blamed_ends why same is ends =
-      subst (λ (b : Bool). CallEndsWith why outcome called.volume b after.status) (sym (blamed_left why same).5)
+      subst (λ (b : Bool). CallEndsWith why outcome called.volume b after.status) (sym (blamed_left failed left after why same).5)
       (by_fault why same (blamed_so why outcome called.volume failed left.flushed left.status after.status)) where
         by_fault : (why : Option Fault) → BlamesCall why failed left after
             → ((why ≡ None → after.status ≡ left.status) → (IsSome why → after.status ≡ (if failed then 123 else 124)) → failed ≡ is_err called.volume
             → EndsWith outcome called.volume left.flushed left.status → CallEndsWith why outcome called.volume left.flushed after.status)
             → CallEndsWith why outcome called.volume left.flushed after.status
-        by_fault None same so = so (λ none. ap (λ (e : Executed D R W1 W2). e.status) same) (λ never. absurd never) is ends
+        by_fault None same so = so (λ none. ap (λ (e : Executed D R W1 W2). e.status) same) (λ never. cc) is ends
         by_fault (Some f) same so = so (λ never. cc) (λ some. ap (λ (e : Executed D R W1 W2). e.status) same) is ends
 
   pub told_of_call : TellsCall called.end value_type (outs called.out.stream) (outs printed) outcome fault → failed ≡ is_err called.volume
@@ -276,7 +282,7 @@ module _ {D R W1 W2 : Type 0} (honest : D → Type 0) (disk : D → Disk) (secto
       → left.stopped ≡ Some stopped → stopped.depth ≡ called.depth → stopped.innermost.items ≡ take called.depth room → BlamesCall fault failed left after
       → IsToldOfCall honest disk sectors_on failures goes_on remaining outs errs ear value_type called room after
   told_of_call tells is ends device input out err stops depth innermost same =
-      let stays = blamed_left fault same in
+      let stays = blamed_left failed left after fault same in
       record {
         outcome = outcome;
         fault = fault;

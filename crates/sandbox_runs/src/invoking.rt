@@ -259,7 +259,8 @@ fn call_within<D: Device + Drop, R: Inlet + Drop, W1: Outlet + Drop, W2: Outlet 
         × (instance.host.generator ≡ None) × (instance.host.interactive ≡ None) }
     ensures called { CallsInstance D.honest D.disk D.size D.failures D.goes_on R.remaining
         W1.contents W2.contents (hearing R.gave R.refused W1.took W1.refused W2.took W2.refused)
-        run.now name.now arguments.now.numbers.items arguments.now.value_type instance result }
+        run.now name.now arguments.now.numbers.items arguments.now.value_type instance.entry
+        result }
     ensures fuel_use { (s : Stopped) × (result.stopped ≡ Some s) × (s.fuel_use ≡ fuel_use) }
     ensures answered { BothAnswered W1.flushed W1.refuses W2.flushed W2.refuses result.flushed
         result.out result.err }
@@ -340,7 +341,8 @@ fn launch_call<D: Device + Drop, R: Inlet + Drop, W1: Outlet + Drop, W2: Outlet 
     match Plugin::new(alloc, valid, run.limits.pages) {
         Ok(plugin) => {
             let left = launch_instance(alloc, run, name, &plugin, &arguments, parts, stacks);
-            let lines = lines_of(alloc, run, bytes, plugin.module().module(), &left.stopped);
+            let guest = plugin.module();
+            let lines = lines_of(alloc, run, bytes, guest.module(), &left.stopped);
             (left, lines)
         }
         Err(refused) => {

@@ -9,7 +9,7 @@ use Rattle.sandbox_command.specs.Around.{calling, flushing}
 use Rattle.sandbox_command.specs.Files.{IsAnswered}
 use Rattle.stream_answers.specs.System.{HasRefused, WasGiven}
 use Rattle.sandbox_runs.specs.Flushing.{FileFlushed}
-use Rattle.sandbox_places.specs.System.{FileTook}
+use Rattle.sandbox_places.specs.System.{FileRefused, FileTook}
 use Rattle.sandbox_command.proofs.files.exit_code.Goals as goal
 
 -- what is noted of terminals is no part of what is asked for
@@ -21,13 +21,13 @@ asked_still None i j still asks = absurd asks
 -- the words can't be read
 pub returns-in-Err-clause-tells : goal.returns-in-Err-clause-tells
 returns-in-Err-clause-tells g c =
-    subst (λ (status : ℕ). IsAnswered g.R.Read g.W1.Write g.W2.Write (flushing FileFlushed HasRefused g.W1.Outlet.flushed g.W1.Outlet.refuses g.W2.Outlet.flushed g.W2.Outlet.refuses) (calling WasGiven HasRefused FileTook HasRefused g.R.Inlet.gave g.R.Inlet.refused g.W1.Outlet.took g.W1.Outlet.refused g.W2.Outlet.took g.W2.Outlet.refused) (record { input = c.args.input; out = c.args.out; err = c.args.err }) status) (sym c.from.ensures)
+    subst (λ (status : ℕ). IsAnswered g.R.Read g.W1.Write g.W2.Write (flushing FileFlushed FileRefused g.W1.Outlet.flushed g.W1.Outlet.refuses g.W2.Outlet.flushed g.W2.Outlet.refuses) (calling WasGiven HasRefused FileTook FileRefused g.R.Inlet.gave g.R.Inlet.refused g.W1.Outlet.took g.W1.Outlet.refused g.W2.Outlet.took g.W2.Outlet.refused) (record { input = c.args.input; out = c.args.out; err = c.args.err }) status) (sym c.from.ensures)
     (inl (error_kind c.in-Err.error, c.refuse_words.ensures))
 
 -- what the words ask for was performed
 pub returns-in-Ok-invocation-clause-tells : goal.returns-in-Ok-invocation-clause-tells
 returns-in-Ok-invocation-clause-tells g c =
-    subst (λ (status : ℕ). IsAnswered g.R.Read g.W1.Write g.W2.Write (flushing FileFlushed HasRefused g.W1.Outlet.flushed g.W1.Outlet.refuses g.W2.Outlet.flushed g.W2.Outlet.refuses) (calling WasGiven HasRefused FileTook HasRefused g.R.Inlet.gave g.R.Inlet.refused g.W1.Outlet.took g.W1.Outlet.refused g.W2.Outlet.took g.W2.Outlet.refused) (record { input = c.args.input; out = c.args.out; err = c.args.err }) status) (sym c.from-in-Ok-invocation.ensures)
+    subst (λ (status : ℕ). IsAnswered g.R.Read g.W1.Write g.W2.Write (flushing FileFlushed FileRefused g.W1.Outlet.flushed g.W1.Outlet.refuses g.W2.Outlet.flushed g.W2.Outlet.refuses) (calling WasGiven HasRefused FileTook FileRefused g.R.Inlet.gave g.R.Inlet.refused g.W1.Outlet.took g.W1.Outlet.refused g.W2.Outlet.took g.W2.Outlet.refused) (record { input = c.args.input; out = c.args.out; err = c.args.err }) status) (sym c.from-in-Ok-invocation.ensures)
     (inr (inr (
       map (string_bytes {Z = Global}) c.as_slice.result.now,
       c.note_terminals.new.self,
@@ -38,5 +38,5 @@ returns-in-Ok-invocation-clause-tells g c =
 -- the command line is refused
 pub returns-in-Err-invocation-clause-tells : goal.returns-in-Err-invocation-clause-tells
 returns-in-Err-invocation-clause-tells g c =
-    subst (λ (status : ℕ). IsAnswered g.R.Read g.W1.Write g.W2.Write (flushing FileFlushed HasRefused g.W1.Outlet.flushed g.W1.Outlet.refuses g.W2.Outlet.flushed g.W2.Outlet.refuses) (calling WasGiven HasRefused FileTook HasRefused g.R.Inlet.gave g.R.Inlet.refused g.W1.Outlet.took g.W1.Outlet.refused g.W2.Outlet.took g.W2.Outlet.refused) (record { input = c.args.input; out = c.args.out; err = c.args.err }) status) (sym c.from-in-Err-invocation.ensures)
+    subst (λ (status : ℕ). IsAnswered g.R.Read g.W1.Write g.W2.Write (flushing FileFlushed FileRefused g.W1.Outlet.flushed g.W1.Outlet.refuses g.W2.Outlet.flushed g.W2.Outlet.refuses) (calling WasGiven HasRefused FileTook FileRefused g.R.Inlet.gave g.R.Inlet.refused g.W1.Outlet.took g.W1.Outlet.refused g.W2.Outlet.took g.W2.Outlet.refused) (record { input = c.args.input; out = c.args.out; err = c.args.err }) status) (sym c.from-in-Err-invocation.ensures)
     (inr (inl (kind_of c.in-Err-invocation.refused, c.refuse_command_line.ensures)))

@@ -1,6 +1,6 @@
-use Rattle.sandbox_device.specs.Named.{was_opened}
-use Rattle.sandbox_device.proofs.Told.{if_ok}
+use Rattle.sandbox_device.specs.Named.{was_not_opened, was_opened}
+use Rattle.sandbox_device.proofs.Told.{told_of}
 use Rattle.sandbox_device.proofs.opening.renumbered.Goals as goal
 
 pub returns : goal.returns
-returns c = if_ok c.try_clone.result (λ file. was_opened _ _)
+returns c = told_of c.try_clone.result (λ file. was_opened _ _) (λ e. was_not_opened _)

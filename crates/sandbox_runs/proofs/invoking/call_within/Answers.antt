@@ -35,7 +35,7 @@ returns-clause-called g c =
       room = called.new.room;
       calls = subst (λ s. CallsOnceAndEnds on s c.args.name.now c.args.arguments.now.numbers.items c.args.run.now.limits.fuel called.new.room called.result)
           (c.interact.ensures ∙ ap (λ s. with_terminals (terminals_of c.args.run.now) s) (c.seed.ensures ∙ ap (λ s. with_seed c.args.run.now.seed s) c.limit_values.ensures))
-          (subst (λ numbers. CallsOnceAndEnds on c.interact.new.instance c.args.name.now numbers c.args.run.now.limits.fuel called.new.room called.result) c.as_slice-numbers.ensures called.ensures);
+          (subst (λ numbers. CallsOnceAndEnds on c.interact.new.instance c.args.name.now numbers c.args.run.now.limits.fuel called.new.room called.result) c.as_slice-numbers.ensures.value called.ensures);
       told = subst (λ (room : List Frame). IsToldOfCall g.D.Device.honest g.D.Device.disk g.D.Device.size g.D.Device.failures g.D.Device.goes_on g.R.Read.remaining g.W1.Write.contents g.W2.Write.contents ear c.args.arguments.now.value_type called.result room c.ended_call.result)
           (room_left c.room_for-room.result.len called.new.room _ (called.auto.room ∙ c.as_mut_slice.ensures.len)) c.ended_call.ensures.told;
     }

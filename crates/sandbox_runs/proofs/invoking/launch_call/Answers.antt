@@ -1,4 +1,4 @@
-use Rattle.std.proofs.Common.{subst, sym, inl}
+use Rattle.std.proofs.Common.{subst, sym, inl, ◌∙◌}
 use Rattle.wasm_syntax.specs.declared.module.Module.{Module}
 use Rattle.wasi_bodies.specs.host.Worlds.{hearing}
 use Rattle.sandbox_args.specs.Request.{texts}
@@ -36,7 +36,11 @@ returns-in-Err-new-clause-launches g c = λ its same.
     c.no_session-in-Err-new.result ended.ends ended.flushed ended.summary ended.device ended.input ended.out ended.err
 
 -- it has one
-pub returns-in-Ok-clause-launches : goal.returns-in-Ok-clause-launches
-returns-in-Ok-clause-launches g c = λ its same.
+pub returns-in-Ok-new-clause-launches : goal.returns-in-Ok-new-clause-launches
+returns-in-Ok-new-clause-launches g c = λ its same.
     subst (λ (m : Module). LaunchesCall g.D.Device.honest g.D.Device.disk g.D.Device.size g.D.Device.failures g.D.Device.goes_on g.R.Read.remaining g.W1.Write.contents g.W2.Write.contents (hearing g.R.Inlet.gave g.R.Inlet.refused g.W1.Outlet.took g.W1.Outlet.refused g.W2.Outlet.took g.W2.Outlet.refused) c.args.name.now m c.args.run.now its c.launch_instance-left.result) c.in-Ok-new.ensures.module.0
     (c.launch_instance-left.ensures.launches its same)
+
+pub returns-in-Ok-new-clause-lines : goal.returns-in-Ok-new-clause-lines
+returns-in-Ok-new-clause-lines g c = subst (λ (m : Module). AreLinesBy c.args.bytes.now m c.args.run.now.frames c.launch_instance-left.result.stopped c.lines_of-lines.result.items)
+    (c.module-in-Ok-new.ensures.value ∙ (c.module-guest.ensures ∙ c.in-Ok-new.ensures.module.0)) c.lines_of-lines.ensures

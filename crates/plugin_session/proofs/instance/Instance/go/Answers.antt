@@ -1,5 +1,5 @@
 use Rattle.sandbox_core.specs.Devices.{devices, Calls}
-use Rattle.plugin_session.proofs.Doing.{may_go_on, rises, went}
+use Rattle.plugin_session.proofs.Doing.{may_go_on, progresses, rises, went}
 use Rattle.plugin_session.proofs.instance.Instance.go.Goals as goal
 
 pub returns-clause-went : goal.returns-clause-went
@@ -13,4 +13,5 @@ returns-clause-went g c =
         stage = c.after_event-self-inside.ensures c.go-event.new.self c.result.ensures;
       };
       within = rises _ calls _ _ _ _ c.args.units c.go-event.result did.returned did.asked did.paused;
+      progress = progresses _ calls _ _ _ _ c.args.units c.go-event.result did.paused;
     }

@@ -1,6 +1,6 @@
-use Rattle.sandbox_device.specs.Beside.{was_renamed}
-use Rattle.sandbox_device.proofs.Told.{on_ok}
+use Rattle.sandbox_device.specs.Beside.{was_renamed, was_hindered}
+use Rattle.sandbox_device.proofs.Told.{told_of}
 use Rattle.sandbox_device.proofs.replacing.SuccessorBeside.rename.Goals as goal
 
 pub returns : goal.returns
-returns g c = on_ok c.rename.result (was_renamed _ _)
+returns g c = told_of c.rename.result (λ x. was_renamed _ _) (λ e. was_hindered _ _)

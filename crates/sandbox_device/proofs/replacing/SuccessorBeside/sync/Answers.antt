@@ -1,6 +1,6 @@
-use Rattle.sandbox_device.specs.Beside.{was_made_lasting}
-use Rattle.sandbox_device.proofs.Told.{on_ok}
+use Rattle.sandbox_device.specs.Beside.{was_made_lasting, was_hindered}
+use Rattle.sandbox_device.proofs.Told.{told_of}
 use Rattle.sandbox_device.proofs.replacing.SuccessorBeside.sync.Goals as goal
 
 pub returns : goal.returns
-returns g c = on_ok c.sync_all.result (was_made_lasting _ _)
+returns g c = told_of c.sync_all.result (λ x. was_made_lasting _ _) (λ e. was_hindered _ _)
