@@ -4,3 +4,4 @@ pub mod Refusing
 pub mod Limiting
 pub mod Finding
 pub mod Counting
+pub mod Granting

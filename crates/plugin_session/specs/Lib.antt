@@ -3,3 +3,4 @@ pub mod States
 pub mod Instance
 pub mod Refusals
 pub mod Headline
+pub mod Deferring

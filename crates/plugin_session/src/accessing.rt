@@ -12,6 +12,7 @@ use stream_answers::{Inlet, Outlet};
 use vol_sector::Device;
 use wasi_calls::Terminals;
 use wasm_interp::{AskedCall, Frame};
+use wasm_store::Memory;
 use wasm_valid::Valid;
 
 impl<'a, 's, 't, D, R, W1, W2> Instance<'a, 's, 't, D, R, W1, W2>
@@ -48,11 +49,11 @@ where
         self.machine.asked()
     }
 
-    /// All bytes of memory.
-    pub fn memory(&self) -> &[u8]
+    /// Memory, to be read.
+    pub fn memory(&self) -> &Memory
         ensures { result.now ≡ self.now.machine.memory }
     {
-        self.machine.memory()
+        self.machine.guest_memory()
     }
 
     /// How many pages of 65,536 bytes the guest's memory has.

@@ -53,7 +53,7 @@ fn may_invoke(stage: Stage) -> Result<(), Misuse>
 }
 
 /// Whether the machine may go on at this stage, or why not.
-fn may_go(stage: Stage) -> Result<(), Misuse>
+pub(crate) fn may_go(stage: Stage) -> Result<(), Misuse>
     ensures may { MatchResult result (λ _. acts.Goes stage) (λ _. acts.Goes stage → ⊥) }
     ensures told { MatchResult result (λ _. not_gone_on_at stage ≡ None)
         (λ e. not_gone_on_at stage ≡ Some e) }

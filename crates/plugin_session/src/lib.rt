@@ -2,6 +2,7 @@
 #![tactic(auto)]
 
 mod accessing;
+mod deferring;
 mod handling;
 mod instance;
 mod laws;

@@ -6,7 +6,6 @@ mod archive;
 mod closing;
 mod files;
 mod inspecting;
-mod invoking;
 pub mod laws;
 mod list_of_tests;
 mod opening;

@@ -15,6 +15,7 @@ use crate::instance::HostInstance;
 use crate::numbers::{MISUSE, OK, misuse_number};
 use plugin_session::Misuse;
 use std::alloc::Global;
+use wasm_store::Memory;
 
 /// How many bytes an instance's memory has.
 pub fn memory_size(alloc: Global, instance: &mut Handle) -> usize
@@ -33,16 +34,14 @@ pub fn memory_size(alloc: Global, instance: &mut Handle) -> usize
 }
 
 /// Copies the bytes from an address on, as many as there is room for, or none where they would pass the end.
-fn read(memory: &[u8], address: u32, room: &mut [u8]) -> u32
+fn read(memory: &Memory, address: u32, room: &mut [u8]) -> u32
     ensures { IsRead memory.now address room.old room.new result }
 {
-    let start = address as usize;
-    let length = memory.len();
-    if length < room.len() || length - room.len() < start {
-        return misuse_number(Misuse::PastEnd);
+    if memory.read(address as usize, room) {
+        OK
+    } else {
+        misuse_number(Misuse::PastEnd)
     }
-    room.copy_from_slice(&memory[start..start + room.len()]);
-    OK
 }
 
 /// Reads bytes of memory, at any time.

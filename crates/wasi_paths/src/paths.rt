@@ -24,16 +24,18 @@ ghost use Rattle.wasi_bodies.specs.host.Worlds.{VolumeStep};
 ghost use Rattle.wasi_bodies.specs.internal.Entries.{with_volume, KnowsEntries, errno_of};
 ghost use Rattle.wasi_bodies.specs.internal.Asking.{Passes, Stops};
 ghost use Rattle.wasi_bodies.specs.internal.paths.Walks.{StillWorks, ReachesFrom, Places, FindsBytes, starting_directory, reached_from};
+ghost use Rattle.wasi_bodies.specs.Checks.{range as range_row};
+ghost use Rattle.wasi_paths.specs.internal.paths.Showing.{CanLend};
 ghost use Rattle.wasi_bodies.specs.paths.Rows.{path_filestat_get as stat_row, path_create_directory as create_row};
 
 use path_walk::{Path, Reached, walk};
 use vol_sector::Device;
 use vol_tree::{Serial, Volume};
-use wasi_bodies::checks::{DescriptorKinds, check_range, entry_at, write_bytes};
+use wasi_bodies::checks::{DescriptorKinds, entry_at, write_bytes};
 use wasi_bodies::descriptors::stat::stat_entry;
 use wasi_bodies::errno::{EXIST, NOENT, refused};
 use wasi_fd::{Descriptors, Fd, Opened, Rights};
-use wasm_store::{Errno, Memory};
+use wasm_store::{Errno, Memory, Shown};
 
 /// What a path of the guest reaches from a directory.
 pub fn reach<'p, D: Device>(
@@ -60,21 +62,36 @@ pub fn reach<'p, D: Device>(
     }
 }
 
+/// Whether the range lies in memory, also one of no bytes.
+#[tactic(auto, using(wasi_bodies::proofs::checks::Chains::guard_passes, wasi_bodies::proofs::checks::Chains::guard_fails))]
+pub fn check_range(memory: &Shown<'_>, pointer: u32, len: u32) -> Result<(), Errno>
+    ensures range { MatchResult result (λ u. range_row memory.now.bytes pointer len ≡ Ok u)
+        (λ e. range_row memory.now.bytes pointer len ≡ Err e.0) }
+    ensures inside { OnOk result (pointer + len ≤ length memory.now.bytes) }
+{
+    if pointer as usize + len as usize <= memory.len() {
+        Ok(())
+    } else {
+        Err(Errno::FAULT)
+    }
+}
+
 /// The checks of a call on a path before it is walked: an open directory whose descriptor has the
 /// rights, and a path that lies in memory.
 #[tactic(auto, using(wasi_bodies::proofs::checks::Chains::goes_on, wasi_bodies::proofs::checks::Chains::stops))]
 pub fn enter<'t, 'm>(
     descriptors: &Descriptors<'t>,
-    memory: &'m Memory,
+    memory: &Shown<'m>,
     fd: Fd,
     path: u32,
     len: u32,
     rights: Rights,
 ) -> Result<(Opened<'t>, &'m [u8]), Errno>
+    requires lent { CanLend memory.now path len }
     ensures row { (w : World) → w.table ≡ table_of descriptors.now → MatchResult result
-        (λ p. starting_directory w memory.now fd (bits_of rights) path len ≡ Ok p.0)
-        (λ e. starting_directory w memory.now fd (bits_of rights) path len ≡ Err e.0) }
-    ensures text { IfOk result (λ p. p.1.now ≡ bytes_at memory.now path len) }
+        (λ p. starting_directory w memory.now.bytes fd (bits_of rights) path len ≡ Ok p.0)
+        (λ e. starting_directory w memory.now.bytes fd (bits_of rights) path len ≡ Err e.0) }
+    ensures text { IfOk result (λ p. p.1.now ≡ bytes_at memory.now.bytes path len) }
 {
     let opened = entry_at(descriptors, fd, DescriptorKinds::Directories, rights)?;
     check_range(memory, path, len)?;
@@ -88,13 +105,14 @@ pub fn enter<'t, 'm>(
 pub fn reach_from<'m, D: Device>(
     volume: &mut Volume<D>,
     descriptors: &Descriptors<'_>,
-    memory: &'m Memory,
+    memory: &Shown<'m>,
     fd: Fd,
     path: u32,
     len: u32,
     rights: Rights,
 ) -> Result<Reached<'m>, Errno>
-    requires { KnowsEntries D.honest volume.old (table_of descriptors.now) }
+    requires known { KnowsEntries D.honest volume.old (table_of descriptors.now) }
+    requires lent { CanLend memory.now path len }
     ensures step { VolumeStep D.honest D.disk D.size D.failures D.goes_on volume.old volume.new }
     ensures io { errno_of result ≡ 29 → volume.new.failed ≡ true }
     ensures works { IfOk result (λ r. StillWorks D.honest D.disk D.size D.failures D.goes_on
@@ -103,8 +121,8 @@ pub fn reach_from<'m, D: Device>(
     ensures place { D.honest volume.old.device → IfOk result (λ r. Places volume.old.tree (Ok r)) }
     ensures asks { D.honest volume.old.device → (w : World) → w.table ≡ table_of descriptors.now
         → w ≡ with_volume volume.old w → MatchResult result
-        (λ r. Passes (λ v. reached_from v memory.now fd (bits_of rights) path len) w volume.new
-        (reached_as r)) (λ e. Stops (λ v. reached_from v memory.now fd (bits_of rights) path len) w
+        (λ r. Passes (λ v. reached_from v memory.now.bytes fd (bits_of rights) path len) w volume.new
+        (reached_as r)) (λ e. Stops (λ v. reached_from v memory.now.bytes fd (bits_of rights) path len) w
         volume.new e.0) }
 {
     let (directory, text) = match enter(descriptors, memory, fd, path, len, rights) {
@@ -121,19 +139,20 @@ pub fn reach_from<'m, D: Device>(
 fn stat_path<D: Device>(
     volume: &mut Volume<D>,
     descriptors: &Descriptors<'_>,
-    memory: &Memory,
+    memory: &Shown<'_>,
     fd: Fd,
     path: u32,
     len: u32,
     result_at: u32,
 ) -> Result<[u8; 64], Errno>
-    requires { KnowsEntries D.honest volume.old (table_of descriptors.now) }
+    requires known { KnowsEntries D.honest volume.old (table_of descriptors.now) }
+    requires lent { CanLend memory.now path len }
     ensures step { VolumeStep D.honest D.disk D.size D.failures D.goes_on volume.old volume.new }
     ensures io { errno_of result ≡ 29 → volume.new.failed ≡ true }
-    ensures inside { OnOk result (result_at + 64 ≤ length memory.now) }
+    ensures inside { OnOk result (result_at + 64 ≤ length memory.now.bytes) }
     ensures finds { D.honest volume.old.device → (w : World) → w.table ≡ table_of descriptors.now
         → w ≡ with_volume volume.old w → FindsBytes
-        (λ v. stat_row v memory.now fd path len result_at) w memory.now volume.new result_at
+        (λ v. stat_row v memory.now.bytes fd path len result_at) w memory.now.bytes volume.new result_at
         result }
 {
     let (directory, text) = match enter(
@@ -177,7 +196,9 @@ pub fn path_filestat_get<D: Device>(
         → w ≡ with_volume volume.old w → Answered (λ v. stat_row v memory.old fd path len result_at)
         w memory.old (with_volume volume.new w) memory.new (errno_of result) }
 {
-    match stat_path(volume, descriptors, memory, fd, path, len, result_at) {
+    let size = memory.len();
+    let shown = Shown::new(memory.first_part(path as usize + len as usize), size);
+    match stat_path(volume, descriptors, &shown, fd, path, len, result_at) {
         Ok(bytes) => {
             write_bytes(memory, result_at, &bytes);
             Ok(())
@@ -186,21 +207,22 @@ pub fn path_filestat_get<D: Device>(
     }
 }
 
-/// `path_create_directory(fd, path, length)`.
-pub fn path_create_directory<D: Device>(
+/// `path_create_directory(fd, path, length)` over memory as it stands.
+fn create_directory<D: Device>(
     volume: &mut Volume<D>,
     descriptors: &Descriptors<'_>,
-    memory: &Memory,
+    memory: &Shown<'_>,
     fd: Fd,
     path: u32,
     len: u32,
 ) -> Result<(), Errno>
-    requires { KnowsEntries D.honest volume.old (table_of descriptors.now) }
+    requires known { KnowsEntries D.honest volume.old (table_of descriptors.now) }
+    requires lent { CanLend memory.now path len }
     ensures step { VolumeStep D.honest D.disk D.size D.failures D.goes_on volume.old volume.new }
     ensures io { errno_of result ≡ 29 → volume.new.failed ≡ true }
     ensures answered { D.honest volume.old.device → (w : World) → w.table ≡ table_of descriptors.now
-        → w ≡ with_volume volume.old w → Answered (λ v. create_row v memory.now fd path len) w
-        memory.now (with_volume volume.new w) memory.now (errno_of result) }
+        → w ≡ with_volume volume.old w → Answered (λ v. create_row v memory.now.bytes fd path len) w
+        memory.now.bytes (with_volume volume.new w) memory.now.bytes (errno_of result) }
 {
     let right = Rights::PATH_CREATE_DIRECTORY;
     match reach_from(volume, descriptors, memory, fd, path, len, right) {
@@ -214,4 +236,25 @@ pub fn path_create_directory<D: Device>(
         Ok(Reached::Found(_)) => Err(EXIST),
         Err(errno) => Err(errno),
     }
+}
+
+/// `path_create_directory(fd, path, length)`.
+pub fn path_create_directory<D: Device>(
+    volume: &mut Volume<D>,
+    descriptors: &Descriptors<'_>,
+    memory: &mut Memory,
+    fd: Fd,
+    path: u32,
+    len: u32,
+) -> Result<(), Errno>
+    requires { KnowsEntries D.honest volume.old (table_of descriptors.now) }
+    ensures step { VolumeStep D.honest D.disk D.size D.failures D.goes_on volume.old volume.new }
+    ensures io { errno_of result ≡ 29 → volume.new.failed ≡ true }
+    ensures answered { D.honest volume.old.device → (w : World) → w.table ≡ table_of descriptors.now
+        → w ≡ with_volume volume.old w → Answered (λ v. create_row v memory.old fd path len) w
+        memory.old (with_volume volume.new w) memory.new (errno_of result) }
+{
+    let size = memory.len();
+    let shown = Shown::new(memory.first_part(path as usize + len as usize), size);
+    create_directory(volume, descriptors, &shown, fd, path, len)
 }

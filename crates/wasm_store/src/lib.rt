@@ -8,6 +8,7 @@ mod host;
 mod instantiation;
 mod linked;
 mod memory;
+mod shown;
 mod table;
 
 pub use call::{Answer, Errno, HostCall};
@@ -17,4 +18,5 @@ pub use host::Host;
 pub use instantiation::{Allocated, Instantiated, MOST_PARAMETERS, allocate, instantiate};
 pub use linked::Linked;
 pub use memory::{Memory, PAGE_SIZE};
+pub use shown::Shown;
 pub use table::Table;

@@ -1,7 +1,8 @@
 //! The memory of a guest.
 
-ghost use Rattle.std.specs.Prelude.{◌≡◌, ◌+◌, ◌≤◌, length, vec_len};
-ghost use Rattle.wasm_store.specs.Bytes.{bytes_at, written};
+ghost use Rattle.std.specs.Prelude.{◌≡◌, ◌+◌, ◌^◌, ◌<◌, ◌≤◌, length, vec_len, vec_capacity, ℕ};
+ghost use Rattle.std.specs.Bool.{OnTrue, OnFalse};
+ghost use Rattle.wasm_store.specs.Bytes.{bytes_at, filled, written};
 
 use byteorder::{ByteOrder, LittleEndian};
 use std::alloc::{AllocError, Global};
@@ -12,20 +13,28 @@ pub const PAGE_SIZE: usize = 65_536;
 
 /// The bytes of a guest's memory (section 4.2.8), which every contract sees as a list.
 ///
+/// Only a first part is kept, up to the highest place that was written; what stands behind it are zeros. There is room
+/// for all of it, so that to write behind the part can't fail.
+///
 /// A load and a store have a base and an offset, whose sum doesn't wrap.
 #[derive(Drop)]
 pub struct Memory {
+    /// The first part.
     bytes: Vec<u8>,
+    /// How many bytes there are in all.
+    size: usize,
 }
 
 impl Model for Memory {
-    ghost use Rattle.std.specs.Prelude.{ℕ, List, ◌/◌, ◌<◌, ◌^◌, vec_len};
+    ghost use Rattle.std.specs.Prelude.{ℕ, List, ◌/◌, ◌<◌, ◌≤◌, ◌^◌, vec_len, vec_capacity};
+    ghost use Rattle.wasm_store.specs.Bytes.{filled};
 
     ghost Value = { List ℕ };
 
-    ghost view = { λ m. m.bytes.items };
+    ghost view = { λ m. filled m.size m.bytes.items };
 
-    ghost invariant = { λ m. vec_len m.bytes / 65536 < 2 ^ 32 };
+    ghost invariant = { λ m. (vec_len m.bytes ≤ m.size) × (m.size ≤ vec_capacity m.bytes)
+        × (m.size / 65536 < 2 ^ 32) };
 }
 
 /// Copies bytes to a place behind all of them.
@@ -56,6 +65,7 @@ fn copy_bytes(bytes: &mut Vec<u8>, source: usize, target: usize, len: usize)
     ensures items { bytes.new.items ≡ written bytes.old.items target
         (bytes_at bytes.old.items source len) }
     ensures len { vec_len bytes.new ≡ vec_len bytes.old }
+    ensures room { vec_capacity bytes.new ≡ vec_capacity bytes.old }
 {
     if source + len <= target {
         copy_up(bytes.as_mut_slice(), source, target, len);
@@ -66,57 +76,132 @@ fn copy_bytes(bytes: &mut Vec<u8>, source: usize, target: usize, len: usize)
     }
 }
 
+/// Writes bytes from a place on, or nothing where they would pass the end.
+#[inline]
+fn put_within(place: &mut [u8], start: usize, bytes: &[u8]) -> bool
+    requires { start + length bytes.now < 2 ^ 64 }
+    ensures inside { OnTrue result ((start + length bytes.now ≤ length place.old)
+        × (place.new ≡ written place.old start bytes.now)) }
+    ensures outside { OnFalse result (place.new ≡ place.old) }
+{
+    let count = bytes.len();
+    if place.len() < start + count {
+        return false;
+    }
+    place[start..start + count].copy_from_slice(bytes);
+    true
+}
+
+/// Copies the bytes from a place on, those of the first part and then zeros.
+fn read_part(bytes: &[u8], start: usize, room: &mut [u8])
+    ensures { (size : ℕ) → start + length room.old ≤ size → length bytes.now ≤ size
+        → room.new ≡ bytes_at (filled size bytes.now) start (length room.old) }
+{
+    let part = &bytes[start.min(bytes.len())..];
+    let len = part.len().min(room.len());
+    let (front, back) = room.split_at_mut(len);
+    front.copy_from_slice(&part[..len]);
+    back.fill(0);
+}
+
+/// Writes zeros behind the first part, so that it reaches at least this end, and a page more where there is one: to write
+/// upwards byte by byte touches once a page.
+#[inline(never)]
+fn touch(bytes: &mut Vec<u8>, size: usize, end: usize)
+    requires inside { end ≤ size }
+    requires part { vec_len bytes.old ≤ size }
+    requires room { size ≤ vec_capacity bytes.old }
+    ensures same { filled size bytes.new.items ≡ filled size bytes.old.items }
+    ensures touched { end ≤ vec_len bytes.new }
+    ensures part { vec_len bytes.new ≤ size }
+    ensures room { size ≤ vec_capacity bytes.new }
+{
+    if end <= bytes.len() {
+        return;
+    }
+    let step = PAGE_SIZE.min(size - end);
+    if bytes.resize(end + step, 0).is_err() {
+        unreachable!()
+    }
+}
+
 impl Memory {
-    ghost use Rattle.std.specs.Prelude.{◌≡◌, ℕ, ◌+◌, ◌*◌, ◌/◌, ◌^◌, ◌<◌, ◌≤◌, ◌⊎◌, ◌++◌, length, replicate, IfOk, IsSome, IfSome, IfNone, IsTrue, ◌↔◌};
+    ghost use Rattle.std.specs.Prelude.{◌≡◌, ℕ, ◌+◌, ◌*◌, ◌/◌, ◌^◌, ◌<◌, ◌≤◌, ◌⊎◌, ◌++◌, length, replicate, min, IfOk, IsSome, IfSome, IfNone, IsTrue, ◌↔◌};
     ghost use Rattle.std.specs.Bool.{OnTrue, OnFalse};
     ghost use Rattle.std.specs.Borrow.{sem};
-    ghost use Rattle.wasm_store.specs.Bytes.{from_bytes, to_bytes, bytes_at, written};
-    ghost use Rattle.wasm_store.specs.Lending.{LendsPart, LendsPartIf};
+    ghost use Rattle.wasm_store.specs.Bytes.{from_bytes, to_bytes, bytes_at, filled, written};
+    ghost use Rattle.wasm_store.specs.Lending.{IsPart, LendsPart, LendsPartIf, Stays};
 
     /// Memory of this many pages of 65,536 bytes, all zeros.
     pub fn new(alloc: Global, pages: u32) -> Result<Memory, AllocError>
         ensures { IfOk result (λ m. m ≡ replicate (pages * 65536) 0) }
     {
-        Ok(Memory {
-            bytes: vec![in alloc; 0; pages as usize * PAGE_SIZE]?,
-        })
+        let size = pages as usize * PAGE_SIZE;
+        let bytes = Vec::with_capacity(alloc, size)?;
+        Ok(Memory { bytes, size })
     }
 
     /// How many bytes there are.
     pub fn len(&self) -> usize
         ensures { result ≡ length self.now }
     {
-        self.bytes.as_slice().len()
+        self.size
     }
 
     /// How many pages there are.
     pub fn pages(&self) -> u32
         ensures { result ≡ length self.now / 65536 }
     {
-        (self.bytes.len() / PAGE_SIZE) as u32
+        (self.size / PAGE_SIZE) as u32
     }
 
-    /// All bytes.
-    pub fn as_slice(&self) -> &[u8]
-        ensures { result.now ≡ self.now }
+    /// Copies the bytes from a place on, as many as there is room for, or none where they would pass the end.
+    #[inline(never)]
+    pub fn read(&self, start: usize, room: &mut [u8]) -> bool
+        ensures inside { OnTrue result ((start + length room.old ≤ length self.now)
+            × (room.new ≡ bytes_at self.now start (length room.old))) }
+        ensures outside { OnFalse result ((length self.now < start + length room.old)
+            × (room.new ≡ room.old)) }
     {
+        if self.size < room.len() || self.size - room.len() < start {
+            return false;
+        }
+        read_part(self.bytes.as_slice(), start, room);
+        true
+    }
+
+    /// This many bytes from an address, where they are in memory. They are touched, which memory doesn't show.
+    pub fn slice(&mut self, address: u32, len: u32) -> Option<&[u8]>
+        ensures* same { sem 𝓛 (Stays self.entry) }
+        ensures inside { IfSome result (λ s. (address + len ≤ length self.old)
+            × (s.now ≡ bytes_at self.old address len)) }
+        ensures outside { IfNone result (length self.old < address + len) }
+    {
+        if self.size < address as usize + len as usize {
+            return None;
+        }
+        let (start, end) = (address as usize, address as usize + len as usize);
+        touch(&mut self.bytes, self.size, end);
+        self.bytes.get(start..end)
+    }
+
+    /// The first part of memory, which reaches to this end or to memory's. It is touched, which memory doesn't show. What
+    /// stands behind the part are zeros.
+    pub fn first_part(&mut self, end: usize) -> &[u8]
+        ensures* same { sem 𝓛 (Stays self.entry) }
+        ensures within { length result.now ≤ length self.old }
+        ensures long { min end (length self.old) ≤ length result.now }
+        ensures value { filled (length self.old) result.now ≡ self.old }
+    {
+        touch(&mut self.bytes, self.size, end.min(self.size));
         self.bytes.as_slice()
     }
 
-    /// This many bytes from an address, where they are in memory.
-    pub fn slice(&self, address: u32, len: u32) -> Option<&[u8]>
-        ensures inside { IfSome result (λ s. (address + len ≤ length self.now)
-            × (s.now ≡ bytes_at self.now address len)) }
-        ensures outside { IfNone result (length self.now < address + len) }
-    {
-        self.access(address, 0, len)
-    }
-
-    /// This many bytes from an address, to be written, where they are in memory.
+    /// The bytes from an address on, at least this many, to be written, where so many are in memory.
     pub fn slice_mut(&mut self, address: u32, len: u32) -> Option<&mut [u8]>
         ensures* writes_back { sem 𝓛 (LendsPartIf self.entry address result) }
         ensures inside { IfSome result (λ s. (address + len ≤ length self.old)
-            × (s.now ≡ bytes_at self.old address len)) }
+            × (IsPart self.old address len s.now)) }
         ensures outside { IfNone result (length self.old < address + len) }
     {
         if self.has_range(address, len) {
@@ -130,25 +215,26 @@ impl Memory {
     fn has_range(&self, address: u32, len: u32) -> bool
         ensures { IsTrue result ↔ (address + len ≤ length self.now) }
     {
-        address as usize + len as usize <= self.bytes.len()
+        address as usize + len as usize <= self.size
     }
 
-    /// This many bytes from an address, to be written.
+    /// The bytes from an address on, at least this many, to be written.
     fn range_mut(&mut self, address: u32, len: u32) -> &mut [u8]
         requires { address + len ≤ length self.old }
         ensures* writes_back { sem 𝓛 (LendsPart self.entry address result) }
-        ensures value { result.now ≡ bytes_at self.old address len }
+        ensures value { IsPart self.old address len result.now }
     {
         self.part_mut(address as usize, len as usize)
     }
 
-    /// This many bytes from a place on, to be written. They have to be in memory.
+    /// The bytes from a place on, at least this many, to be written. So many have to be in memory.
     pub fn part_mut(&mut self, start: usize, len: usize) -> &mut [u8]
         requires { start + len ≤ length self.old }
         ensures* writes_back { sem 𝓛 (LendsPart self.entry start result) }
-        ensures value { result.now ≡ bytes_at self.old start len }
+        ensures value { IsPart self.old start len result.now }
     {
-        self.bytes.slice_mut(start..start + len)
+        touch(&mut self.bytes, self.size, start + len);
+        self.bytes.slice_mut(start..)
     }
 
     /// Writes these bytes from an address on, or nothing where they would pass the end.
@@ -162,6 +248,7 @@ impl Memory {
     }
 
     /// Writes these bytes from a place on, or nothing where they would pass the end.
+    #[inline(never)]
     pub(crate) fn put(&mut self, start: usize, bytes: &[u8]) -> bool
         ensures inside { OnTrue result ((start + length bytes.now ≤ length self.old)
             × (self.new ≡ written self.old start bytes.now)) }
@@ -169,15 +256,16 @@ impl Memory {
             × (self.new ≡ self.old)) }
     {
         let len = bytes.len();
-        if self.bytes.len() < len || self.bytes.len() - len < start {
+        if self.size < len || self.size - len < start {
             return false;
         }
+        touch(&mut self.bytes, self.size, start + len);
         self.bytes.as_mut_slice()[start..start + len].copy_from_slice(bytes);
         true
     }
 
-    /// Writes these bytes from a place on, or nothing where they would pass the end. It compares once, as a load does, since the end
-    /// is a number; `put` compares twice.
+    /// Writes these bytes from a place on, or nothing where they would pass the end. Within the first part it compares once, as
+    /// a load does, since the end is a number.
     fn put_before(&mut self, start: usize, bytes: &[u8]) -> bool
         requires { start + length bytes.now < 2 ^ 64 }
         ensures inside { OnTrue result ((start + length bytes.now ≤ length self.old)
@@ -185,22 +273,79 @@ impl Memory {
         ensures outside { OnFalse result ((length self.old < start + length bytes.now)
             × (self.new ≡ self.old)) }
     {
-        let count = bytes.len();
-        if self.bytes.len() < start + count {
-            return false;
+        if put_within(self.bytes.as_mut_slice(), start, bytes) {
+            return true;
         }
-        self.bytes.as_mut_slice()[start..start + count].copy_from_slice(bytes);
-        true
+        self.put(start, bytes)
     }
 
-    /// This many bytes from a base and an offset.
+    /// This many bytes from a base and an offset, where they are in the first part.
     fn access(&self, base: u32, offset: u32, len: u32) -> Option<&[u8]>
-        ensures inside { IfSome result (λ s. (base + offset + len ≤ length self.now)
+        ensures { IfSome result (λ s. (base + offset + len ≤ length self.now)
             × (s.now ≡ bytes_at self.now (base + offset) len)) }
-        ensures outside { IfNone result (length self.now < base + offset + len) }
     {
         let start = base as usize + offset as usize;
         self.bytes.get(start..start + len as usize)
+    }
+
+    /// The byte from a place on, also behind the first part, where it is in memory.
+    #[inline(never)]
+    fn load_u8_behind(&self, start: usize) -> Option<u8>
+        ensures inside { IfSome result (λ x. (start + 1 ≤ length self.now)
+            × (x ≡ from_bytes (bytes_at self.now start 1))) }
+        ensures outside { IfNone result (length self.now < start + 1) }
+    {
+        let mut bytes = [0; 1];
+        if self.read(start, &mut bytes) {
+            Some(u8::from_le_bytes(bytes))
+        } else {
+            None
+        }
+    }
+
+    /// The number of 2 bytes from a place on, also behind the first part, where they are in memory.
+    #[inline(never)]
+    fn load_u16_behind(&self, start: usize) -> Option<u16>
+        ensures inside { IfSome result (λ x. (start + 2 ≤ length self.now)
+            × (x ≡ from_bytes (bytes_at self.now start 2))) }
+        ensures outside { IfNone result (length self.now < start + 2) }
+    {
+        let mut bytes = [0; 2];
+        if self.read(start, &mut bytes) {
+            Some(u16::from_le_bytes(bytes))
+        } else {
+            None
+        }
+    }
+
+    /// The number of 4 bytes from a place on, also behind the first part, where they are in memory.
+    #[inline(never)]
+    fn load_u32_behind(&self, start: usize) -> Option<u32>
+        ensures inside { IfSome result (λ x. (start + 4 ≤ length self.now)
+            × (x ≡ from_bytes (bytes_at self.now start 4))) }
+        ensures outside { IfNone result (length self.now < start + 4) }
+    {
+        let mut bytes = [0; 4];
+        if self.read(start, &mut bytes) {
+            Some(u32::from_le_bytes(bytes))
+        } else {
+            None
+        }
+    }
+
+    /// The number of 8 bytes from a place on, also behind the first part, where they are in memory.
+    #[inline(never)]
+    fn load_u64_behind(&self, start: usize) -> Option<u64>
+        ensures inside { IfSome result (λ x. (start + 8 ≤ length self.now)
+            × (x ≡ from_bytes (bytes_at self.now start 8))) }
+        ensures outside { IfNone result (length self.now < start + 8) }
+    {
+        let mut bytes = [0; 8];
+        if self.read(start, &mut bytes) {
+            Some(u64::from_le_bytes(bytes))
+        } else {
+            None
+        }
     }
 
     /// The byte at a base and an offset (section 4.4.4), where it is in memory.
@@ -209,8 +354,10 @@ impl Memory {
             × (x ≡ from_bytes (bytes_at self.now (base + offset) 1))) }
         ensures outside { IfNone result (length self.now < base + offset + 1) }
     {
-        let bytes = self.access(base, offset, 1)?;
-        Some(bytes[0])
+        match self.access(base, offset, 1) {
+            Some(bytes) => Some(bytes[0]),
+            None => self.load_u8_behind(base as usize + offset as usize),
+        }
     }
 
     /// The number of 2 bytes from a base and an offset (section 4.4.4), where they are in memory.
@@ -219,8 +366,10 @@ impl Memory {
             × (x ≡ from_bytes (bytes_at self.now (base + offset) 2))) }
         ensures outside { IfNone result (length self.now < base + offset + 2) }
     {
-        let bytes = self.access(base, offset, 2)?;
-        Some(LittleEndian::read_u16(bytes))
+        match self.access(base, offset, 2) {
+            Some(bytes) => Some(LittleEndian::read_u16(bytes)),
+            None => self.load_u16_behind(base as usize + offset as usize),
+        }
     }
 
     /// The number of 4 bytes from a base and an offset (section 4.4.4), where they are in memory.
@@ -229,8 +378,10 @@ impl Memory {
             × (x ≡ from_bytes (bytes_at self.now (base + offset) 4))) }
         ensures outside { IfNone result (length self.now < base + offset + 4) }
     {
-        let bytes = self.access(base, offset, 4)?;
-        Some(LittleEndian::read_u32(bytes))
+        match self.access(base, offset, 4) {
+            Some(bytes) => Some(LittleEndian::read_u32(bytes)),
+            None => self.load_u32_behind(base as usize + offset as usize),
+        }
     }
 
     /// The number of 8 bytes from a base and an offset (section 4.4.4), where they are in memory.
@@ -239,8 +390,10 @@ impl Memory {
             × (x ≡ from_bytes (bytes_at self.now (base + offset) 8))) }
         ensures outside { IfNone result (length self.now < base + offset + 8) }
     {
-        let bytes = self.access(base, offset, 8)?;
-        Some(LittleEndian::read_u64(bytes))
+        match self.access(base, offset, 8) {
+            Some(bytes) => Some(LittleEndian::read_u64(bytes)),
+            None => self.load_u64_behind(base as usize + offset as usize),
+        }
     }
 
     /// Stores a byte at a base and an offset (section 4.4.4), or nothing where it would pass the end.
@@ -293,15 +446,15 @@ impl Memory {
         // To grow by nothing takes no memory.
         ensures nothing { pages ≡ 0 → length self.old / 65536 ≤ limit → IsSome result }
     {
-        let before = self.bytes.len() / PAGE_SIZE;
+        let before = self.size / PAGE_SIZE;
         let added = pages as usize;
         let limit = limit as usize;
         if limit < added || limit - added < before {
             return None;
         }
-        let more = added * PAGE_SIZE;
-        self.bytes.reserve_exact(more).ok()?;
-        self.bytes.resize(self.bytes.len() + more, 0).ok()?;
+        let size = self.size + added * PAGE_SIZE;
+        self.bytes.reserve_exact(size - self.bytes.len()).ok()?;
+        self.size = size;
         Some(before as u32)
     }
 
@@ -315,9 +468,10 @@ impl Memory {
             ⊎ (length self.old < target + len)) × (self.new ≡ self.old)) }
     {
         let (target, source, len) = (target as usize, source as usize, len as usize);
-        if self.bytes.len() < source + len || self.bytes.len() < target + len {
+        if self.size < source + len || self.size < target + len {
             return false;
         }
+        touch(&mut self.bytes, self.size, source.max(target) + len);
         copy_bytes(&mut self.bytes, source, target, len);
         true
     }
@@ -330,9 +484,10 @@ impl Memory {
             × (self.new ≡ self.old)) }
     {
         let (start, len) = (target as usize, len as usize);
-        if self.bytes.len() < start + len {
+        if self.size < start + len {
             return false;
         }
+        touch(&mut self.bytes, self.size, start + len);
         self.bytes.as_mut_slice()[start..start + len].fill(value);
         true
     }

@@ -181,5 +181,5 @@ fn answers_call_after_call(rt: HostRuntime) {
     let mut instance = opened(rt.alloc()).expect(&rt, "an instance");
     assert_none(&rt, wrong_call(&mut instance, &ROWS));
     assert!(rt; instance.stage() == Stage::Ready);
-    assert!(rt; instance.memory().get(8).copied() == Some(7));
+    assert!(rt; instance.memory().load_u8(8, 0) == Some(7));
 }

@@ -1,20 +1,21 @@
 -- Buffers that a call reads.
-use Rattle.std.proofs.Common.{◌≡◌, ℕ, suc, ◌+◌, ◌-◌, ◌*◌, ◌<◌, ◌≤◌, List, [], ◌∷◌, ◌++◌, length, take, drop, min, get_or, Bool, true, false, refl, sym, ap, ◌∙◌, append_assoc, add-zero, add-one, append-nil, ◌⊎◌, inl, inr, nat_le, Ok, arith}
-use Rattle.std.proofs.lemmas.Bool.{leb-true, false≢true, and_parts}
+use Rattle.std.proofs.Common.{◌≡◌, ℕ, suc, ◌+◌, ◌-◌, ◌*◌, ◌<◌, ◌≤◌, List, [], ◌∷◌, ◌++◌, length, take, drop, min, get_or, Bool, true, false, ◌&&◌, replicate, refl, sym, ap, ◌∙◌, append_assoc, add-zero, add-one, append-nil, ◌⊎◌, inl, inr, nat_le, Ok, arith}
+use Rattle.std.proofs.lemmas.Bool.{leb-true, le-leb, false≢true, and_parts}
 use Rattle.std.proofs.Math.Seq.{take-suc, drop-cons}
 use Rattle.std.proofs.lemmas.List.Folds.{list_all_at, list_all-map}
 use Rattle.wasi_bodies.specs.internal.checks.Buffers.{fit, usable}
 use Rattle.wasi_bodies.proofs.checks.Chains.{goes_on}
-use Rattle.std.proofs.lemmas.List.{drop-drop, map-append, length-append, length-take, length-drop, take_min}
+use Rattle.std.proofs.lemmas.List.{drop-drop, drop-take, drop-append-le, take-append-le, map-append, length-append, length-take, length-drop, take_min}
 use Rattle.std.proofs.lemmas.List.Sums.{sum_by-cons, sum_by-append}
 use Rattle.std.specs.List.{list_all}
 use Rattle.byteorder.specs.Endian.{little_number}
-use Rattle.wasm_store.specs.Bytes.{bytes_at}
+use Rattle.byteorder.specs.Numbers.{little_from-take}
+use Rattle.wasm_store.specs.Bytes.{bytes_at, filled}
 use Rattle.vol_body.specs.Source as source
 use Rattle.vol_body.specs.declared.source.MemorySpan.{MemorySpan}
 use Rattle.vol_body.specs.declared.writing.TheConstants.{PIECE}
 use Rattle.wasi_bodies.specs.Checks.{Checked, Buffer, buffers, and_then, guard, range, buffers_in, total, is_inside, gathered}
-use Rattle.wasi_bodies.specs.internal.checks.Buffers.{pair_of, list_of}
+use Rattle.wasi_bodies.specs.internal.checks.Buffers.{pair_of, list_of, EndWithin}
 use Rattle.wasi_bodies.specs.declared.checks.buffers.TheConstants.{MOST_BUFFERS}
 
 abbrev pub buffer_at : List ℕ → Buffer
@@ -123,3 +124,52 @@ source_taken memory bs len inside is =
       (λ i. take (least i) (source_bytes memory bs i)) ∙ take_min PIECE all,
       least ∙ sym (length-take PIECE all),
     )
+
+-- ---- an array that is read an entry at a time
+
+entry_taken : (n : ℕ) (xs : List ℕ) → 8 ≤ n → buffer_at (take n xs) ≡ buffer_at xs
+entry_taken n xs h =
+    let whole : n ≡ 4 + (n - 4) = omega arith in
+    let pointer : little_number 4 (take n xs) ≡ little_number 4 xs = little_from-take 0 4 n xs (omega arith) in
+    let len : little_number 4 (drop 4 (take n xs)) ≡ little_number 4 (drop 4 xs) = ap (λ (k : ℕ). little_number 4 (drop 4 (take k xs))) whole
+    ∙ ap (little_number 4) (drop-take 4 (n - 4) xs) ∙ little_from-take 0 4 (n - 4) (drop 4 xs) (omega arith) in
+    λ i. (pointer i, len i)
+
+pub entry_read : (m : List ℕ) (iovs count i : ℕ) → i < count → buffer_at (bytes_at m (iovs + 8 * i) 8) ≡ buffer_at (drop (8 * i) (bytes_at m iovs (8 * count)))
+entry_read m iovs count i below =
+    let left : ℕ = 8 * count - 8 * i in
+    let whole : 8 * count ≡ 8 * i + left = omega arith in
+    entry_taken 8 (drop (iovs + 8 * i) m) (omega arith) ∙ sym (ap (λ (k : ℕ). buffer_at (drop (8 * i) (take k (drop iovs m)))) whole
+    ∙ ap buffer_at (drop-take (8 * i) left (drop iovs m)) ∙ entry_taken left (drop (8 * i) (drop iovs m)) (omega arith)
+    ∙ ap buffer_at (drop-drop (8 * i) iovs m))
+
+-- ---- the first part of memory, which has all of the buffers
+
+both_so : (a b : Bool) → a ≡ true → b ≡ true → a && b ≡ true
+both_so true b h k = k
+both_so false b h k = absurd (false≢true h)
+
+pub first_inside : (m first : List ℕ) (end : ℕ) (bs : List MemorySpan) → EndWithin end bs → min end (length m) ≤ length first
+    → list_all (is_inside m) (list_of bs) ≡ true → list_all (is_inside first) (list_of bs) ≡ true
+first_inside m first end [] within long h = refl
+first_inside m first end (b ∷ bs) within long h =
+    let both = and_parts (is_inside m (pair_of b)) (list_all (is_inside m) (list_of bs)) h in
+    let inside = leb-true (b.pointer + b.len) (length m) both.0 in
+    let before = within 0 (omega arith) in
+    both_so (is_inside first (pair_of b)) (list_all (is_inside first) (list_of bs)) (le-leb (b.pointer + b.len) (length first) (omega (arith, inside, before, long)))
+    (first_inside m first end bs (λ i lt. within (suc i) (omega (arith, lt))) long both.1)
+
+first_bytes : (size a n : ℕ) (first : List ℕ) → a + n ≤ length first → bytes_at (filled size first) a n ≡ bytes_at first a n
+first_bytes size a n first h =
+    let zeros : List ℕ = replicate (size - length first) 0 in
+    let left = length-drop a first in
+    ap (take n) (drop-append-le a first zeros (omega arith)) ∙ take-append-le n (drop a first) zeros (omega (arith, left))
+
+pub first_gathered : (size : ℕ) (m first : List ℕ) (bs : List MemorySpan) → filled size first ≡ m → list_all (is_inside first) (list_of bs) ≡ true
+    → gathered first (list_of bs) ≡ gathered m (list_of bs)
+first_gathered size m first [] is h = refl
+first_gathered size m first (b ∷ bs) is h =
+    let both = and_parts (is_inside first (pair_of b)) (list_all (is_inside first) (list_of bs)) h in
+    let inside = leb-true (b.pointer + b.len) (length first) both.0 in
+    ap (λ (l : List ℕ). l ++ gathered first (list_of bs)) (sym (first_bytes size b.pointer b.len first inside) ∙ ap (λ (l : List ℕ). bytes_at l b.pointer b.len) is)
+    ∙ ap (λ (l : List ℕ). bytes_at m b.pointer b.len ++ l) (first_gathered size m first bs is both.1)

@@ -156,14 +156,13 @@ module _ (T : Tree) (directory cookie : ℕ) (before : List ℕ) where
 
 -- bytes put over the first of those of a part
 pub part_written : (m xs before after : List ℕ) (p len n : ℕ) → p + len ≤ length m → before ≡ take len (drop p m) → n ≡ length xs → n ≤ len → after ≡ xs ++ drop n before
-    → refill (length m) m (written m p after) ≡ written m p xs
+    → written m p after ≡ written m p xs
 part_written m xs before after p len n inside is count few stands =
     let over : after ≡ xs ++ drop (length xs) (take len (drop p m)) = stands ∙ λ i. xs ++ drop (count i) (is i) in
-    let same : written m p after ≡ written m p xs = ap (written m p) over ∙ written_over m xs p len inside (omega arith) in
-    ap (refill (length m) m) same ∙ refilled (length m) (written m p xs) _ (length_written m xs p (omega arith))
+    ap (written m p) over ∙ written_over m xs p len inside (omega arith)
 
 pub part_listed : (m all before after : List ℕ) (p len n : ℕ) → p + len ≤ length m → before ≡ take len (drop p m) → n ≡ length (take (length before) all) → after ≡ take (length before) all ++ drop n before
-    → refill (length m) m (written m p after) ≡ written m p (take len all)
+    → written m p after ≡ written m p (take len all)
 part_listed m all before after p len n inside is count stands =
     let long = part_long m before p len is inside in
     let most = length-take (length before) all in
@@ -171,7 +170,7 @@ part_listed m all before after p len n inside is count stands =
     ∙ ap (λ (k : ℕ). written m p (take k all)) long
 
 pub part_begun : (m all before after : List ℕ) (p len n : ℕ) → p + len ≤ length m → before ≡ take len (drop p m) → n ≤ length (take (length before) all) → after ≡ take n (take (length before) all) ++ drop n before
-    → IsBegun m p (take len all) (refill (length m) m (written m p after))
+    → IsBegun m p (take len all) (written m p after)
 part_begun m all before after p len n inside is few stands =
     let long = part_long m before p len is inside in
     let most = length-take (length before) all in

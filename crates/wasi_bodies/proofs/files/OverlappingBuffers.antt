@@ -1,17 +1,17 @@
 -- Buffers that are filled, which may overlap.
 use Rattle.std.proofs.Common.{◌≡◌, ◌⊎◌, ℕ, zero, suc, ◌+◌, ◌-◌, ◌<◌, ◌≤◌, Bool, true, false, ◌&&◌, ◌||◌, nat_le, nat_lt, List, [], ◌∷◌, ◌++◌, length, take, drop, get_or, set, min, add-one, append_assoc, inl, inr, refl, sym, ap, ◌∙◌, arith}
 use Rattle.std.proofs.lemmas.Bool.{cond-true, cond-false, leb-true, le-leb, lt-ltb, and_parts, or_parts, cases_lt, false≢true}
-use Rattle.std.proofs.lemmas.List.{ext_get_or, take_more_set, map-append, take_all, drop_all, length-append, length-take, length-drop, take-append-drop, drop-append-le, drop-drop, get_or_append_left, get_or-append_right, get_or-drop}
+use Rattle.std.proofs.lemmas.List.{ext_get_or, take_more_set, map-append, take_all, take-take, drop_all, length-append, length-take, length-drop, take-append-drop, drop-append-le, drop-drop, get_or_append_left, get_or-append_right, get_or-drop}
 use Rattle.std.proofs.lemmas.List.Sums.{sum_by-cons}
 use Rattle.std.specs.List.{list_all, refill}
 use Rattle.wasi_bodies.specs.Checks.{Buffer, put, total, is_inside, scattered}
 use Rattle.wasi_bodies.specs.internal.files.Reading.{limited_buffers, covered, HalfFilled}
 use Rattle.wasi_bodies.specs.Calls.{IsMixed}
-use Rattle.std.proofs.Math.Seq.{drop-cons, take-append_seam}
+use Rattle.std.proofs.Math.Seq.{drop-cons, take-append_seam, drop-append_seam}
 use Rattle.vol_body.specs.declared.source.MemorySpan.{MemorySpan}
 use Rattle.wasi_bodies.specs.internal.checks.Buffers.{pair_of, list_of}
 use Rattle.wasm_store.specs.Bytes.{written}
-use Rattle.wasm_store.specs.Lending.{rewritten}
+use Rattle.wasm_store.specs.Lending.{IsPart, rewritten}
 
 both_so : (a b : Bool) → a ≡ true → b ≡ true → a && b ≡ true
 both_so true b h k = k
@@ -63,10 +63,6 @@ length_written m xs p h =
     let four = length-drop (p + length xs) m in
     omega (arith, one, two, three, four)
 
--- memory of which a part was lent to be written is as long, and has in its place what the part ended as
-length_refill : (xs ws : List ℕ) → length (refill (length xs) xs ws) ≡ length xs
-length_refill xs ws = simp (length-take, length-append, length-drop) (omega arith)
-
 pub part_long : (m part : List ℕ) (p len : ℕ) → part ≡ take len (drop p m) → p + len ≤ length m → length part ≡ len
 part_long m part p len is inside =
     let same = ap length is in
@@ -74,13 +70,23 @@ part_long m part p len is inside =
     let left = length-drop p m in
     omega (arith, same, least, left, inside)
 
-pub length_rewritten : (m xs : List ℕ) (p : ℕ) → length (rewritten m p xs) ≡ length m
-length_rewritten m xs p = length_refill m (written m p xs)
+-- the front of a part that was lent
+pub part_front : (m part front : List ℕ) (p len : ℕ) → IsPart m p len part → front ≡ take len part → front ≡ take len (drop p m)
+part_front m part front p len is cut = cut ∙ ap (take len) is.1.1 ∙ take-take len (length part) (drop p m) is.0
 
-pub rewritten_is : (m xs : List ℕ) (p : ℕ) → p + length xs ≤ length m → rewritten m p xs ≡ written m p xs
-rewritten_is m xs p h =
-    let ws : List ℕ = written m p xs in
-    ap (λ (n : ℕ). take n (ws ++ drop (length ws) m)) (sym (length_written m xs p h)) ∙ take-append_seam ws (drop (length ws) m)
+-- what memory ends as, where the front of a part that was lent is written
+pub part_split : (m part front back ws : List ℕ) (p len : ℕ) → IsPart m p len part → part ≡ front ++ back → length front ≡ len → length ws ≡ len
+    → rewritten m p part (ws ++ back) ≡ written m p ws
+part_split m part front back ws p len is split first long =
+    let k = length part in
+    let whole : length (ws ++ back) ≡ k = length-append ws back ∙ omega (arith, long, first, length-append front back) ∙ sym (ap length split) in
+    let kept : refill k part (ws ++ back) ≡ ws ++ back = ap (λ (n : ℕ). take n ((ws ++ back) ++ drop (length (ws ++ back)) part)) (sym whole)
+    ∙ take-append_seam (ws ++ back) (drop (length (ws ++ back)) part) in
+    let behind : drop (p + length ws) m ≡ back ++ drop (p + k) m = ap (λ (n : ℕ). drop (p + n) m) (long ∙ sym first) ∙ sym (drop-drop (length front) p m)
+    ∙ ap (drop (length front)) (sym (take-append-drop k (drop p m)) ∙ ap (λ (l : List ℕ). l ++ drop k (drop p m)) (sym is.1.1 ∙ split) ∙ append_assoc front back (drop k (drop p m)))
+    ∙ drop-append_seam front (back ++ drop k (drop p m)) ∙ ap (λ (l : List ℕ). back ++ l) (drop-drop k p m) in
+    ap (written m p) kept ∙ ap (λ (n : ℕ). take p m ++ ((ws ++ back) ++ drop (p + n) m)) whole
+    ∙ ap (λ (l : List ℕ). take p m ++ l) (append_assoc ws back (drop (p + k) m) ∙ ap (λ (l : List ℕ). ws ++ l) (sym behind))
 
 pub written_before : (m xs : List ℕ) (p at : ℕ) → p ≤ length m → at < p → get_or (written m p xs) at 0 ≡ get_or m at 0
 written_before m xs p at inside h =

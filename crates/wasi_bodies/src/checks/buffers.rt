@@ -3,9 +3,11 @@
 ghost use Rattle.std.specs.Prelude.{◌≡◌, ◌<◌, ◌≤◌, ◌+◌, ◌-◌, ◌*◌, ◌^◌, nat_le, length, take, drop, true, Ok, Err, OnOk, MatchResult, vec_len, vec_capacity};
 ghost use Rattle.std.specs.List.{list_all};
 ghost use Rattle.byteorder.specs.Endian.{little_number};
+ghost use Rattle.std.specs.Borrow.{sem};
 ghost use Rattle.wasm_store.specs.Bytes.{bytes_at};
-ghost use Rattle.wasi_bodies.specs.Checks.{buffers_in, total, is_inside};
-ghost use Rattle.wasi_bodies.specs.internal.checks.Buffers.{pair_of, list_of, fit};
+ghost use Rattle.wasm_store.specs.Lending.{Stays};
+ghost use Rattle.wasi_bodies.specs.Checks.{buffers_in, total, is_inside, gathered};
+ghost use Rattle.wasi_bodies.specs.internal.checks.Buffers.{pair_of, list_of, fit, EndWithin};
 
 use crate::arguments::{descriptor, word};
 use crate::checks::{check_range, check_that};
@@ -28,20 +30,6 @@ fn buffer_in(array: &[u8]) -> MemorySpan
     MemorySpan {
         pointer: LittleEndian::read_u32(array),
         len: LittleEndian::read_u32(&array[4..]),
-    }
-}
-
-/// Reads this many buffers of an array into the room, which has the place.
-fn read_buffers(room: &mut Vec<MemorySpan>, array: &[u8], count: usize)
-    requires place { count ≤ vec_capacity room.old }
-    requires whole { length array.now ≡ 8 * count }
-    ensures read { list_of room.new.items ≡ buffers_in count array.now }
-    ensures len { vec_len room.new ≡ count }
-    ensures place { vec_capacity room.new ≡ vec_capacity room.old }
-{
-    room.clear();
-    for index in 0..count {
-        room.push_reserved(buffer_in(&array[ENTRY_BYTES as usize * index..]));
     }
 }
 
@@ -71,7 +59,7 @@ fn are_inside(buffers: &[MemorySpan], memory: &Memory) -> bool
     end_within(buffers, memory.len())
 }
 
-/// Reads an array of buffers of this length and at this address.
+/// Reads an array of buffers of this length and at this address into the room, which has the place.
 fn read_array(room: &mut Vec<MemorySpan>, memory: &Memory, iovs: u32, count: u32)
     requires place { MOST_BUFFERS ≤ vec_capacity room.old }
     requires few { count ≤ MOST_BUFFERS }
@@ -81,10 +69,36 @@ fn read_array(room: &mut Vec<MemorySpan>, memory: &Memory, iovs: u32, count: u32
     ensures len { vec_len room.new ≡ count }
     ensures place { vec_capacity room.new ≡ vec_capacity room.old }
 {
-    let Some(array) = memory.slice(iovs, ENTRY_BYTES * count) else {
-        unreachable!()
-    };
-    read_buffers(room, array, count as usize);
+    room.clear();
+    for index in 0..count as usize {
+        let mut entry = [0; ENTRY_BYTES as usize];
+        if !memory.read(iovs as usize + ENTRY_BYTES as usize * index, &mut entry) {
+            unreachable!()
+        }
+        room.push_reserved(buffer_in(&entry));
+    }
+}
+
+/// The highest end that one of the buffers has, or 0 where there is none.
+fn highest_end(buffers: &[MemorySpan]) -> usize
+    ensures { EndWithin result buffers.now }
+{
+    let mut highest = 0;
+    for buffer in buffers {
+        highest = highest.max(buffer.pointer as usize + buffer.len as usize);
+    }
+    highest
+}
+
+/// The first part of memory, which has all of the buffers, to be read.
+pub fn lend_buffers<'m>(memory: &'m mut Memory, buffers: &[MemorySpan]) -> &'m [u8]
+    requires { list_all (is_inside memory.old) (list_of buffers.now) ≡ true }
+    ensures* same { sem 𝓛 (Stays memory.entry) }
+    ensures inside { list_all (is_inside result.now) (list_of buffers.now) ≡ true }
+    ensures bytes { gathered result.now (list_of buffers.now)
+        ≡ gathered memory.old (list_of buffers.now) }
+{
+    memory.first_part(highest_end(buffers))
 }
 
 /// Whether the buffers have few enough bytes and lie in memory.

@@ -188,7 +188,8 @@ fn list_part<D: Device>(
         (λ e. (e ≡ vol_errno.Io) × IsBegun memory.old start
         (take len (dirents volume.old.tree directory cookie)) memory.new) }
 {
-    match list(volume, directory, cookie, memory.part_mut(start, len)) {
+    let (part, _) = memory.part_mut(start, len).split_at_mut(len);
+    match list(volume, directory, cookie, part) {
         Ok(count) => Ok(count),
         Err(errno) => Err(errno),
     }

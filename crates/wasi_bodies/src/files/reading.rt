@@ -90,7 +90,8 @@ fn read_part<D: Device>(
     ensures asked { Asked D.honest D.disk D.size D.failures D.goes_on volume.old volume.new
         (is_io result) }
 {
-    match volume.read(serial, at, memory.part_mut(start, len)) {
+    let (part, _) = memory.part_mut(start, len).split_at_mut(len);
+    match volume.read(serial, at, part) {
         Ok(_) => Ok(()),
         Err(errno) => Err(errno),
     }

@@ -18,7 +18,7 @@ ghost use Rattle.wasi_bodies.specs.internal.files.Writing.{written_at_offset, wr
 ghost use Rattle.wasi_bodies.specs.internal.descriptors.Positions.{IsOpenAs};
 ghost use Rattle.wasi_bodies.specs.declared.checks.buffers.TheConstants.{MOST_BUFFERS};
 
-use crate::checks::buffers::{Request, total_len};
+use crate::checks::buffers::{Request, lend_buffers, total_len};
 use crate::checks::{DescriptorKinds, entry_at, write_bytes};
 use crate::descriptors::positions::{move_to, size_of};
 use crate::errno::refused;
@@ -35,7 +35,7 @@ fn put_bytes<D: Device>(
     volume: &mut Volume<D>,
     serial: Serial,
     at: u64,
-    memory: &Memory,
+    memory: &[u8],
     buffers: &[MemorySpan],
 ) -> Result<u32, vol_tree::Errno>
     requires file { IsFileOf D.honest volume.old serial }
@@ -56,7 +56,7 @@ fn put_bytes<D: Device>(
     ensures goes_on { GoesOn D.goes_on volume.old volume.new }
 {
     let len = total_len(buffers).min(PIECE as u64) as u32;
-    let bytes = Source::gather(memory.as_slice(), buffers, len as usize);
+    let bytes = Source::gather(memory, buffers, len as usize);
     match volume.write_from(serial, at, &bytes) {
         Ok(()) => Ok(len),
         Err(errno) => Err(errno),
@@ -92,7 +92,8 @@ pub fn write_at<D: Device>(
         (gathered memory.old (list_of buffers.now)) result_at) w memory.old
         (with_volume volume.new w) memory.new (errno_of result) }
 {
-    match put_bytes(volume, Serial::new(opened.serial), at, memory, buffers) {
+    let bytes = lend_buffers(memory, buffers);
+    match put_bytes(volume, Serial::new(opened.serial), at, bytes, buffers) {
         Ok(len) => {
             write_bytes(memory, result_at, &le32(len));
             Ok(())
@@ -158,7 +159,8 @@ fn write_on<'t, D: Device>(
         (with_volume volume.new w)) memory.new (errno_of result) }
 {
     let serial = Serial::new(opened.serial);
-    match put_bytes(volume, serial, opened.position, memory, buffers) {
+    let bytes = lend_buffers(memory, buffers);
+    match put_bytes(volume, serial, opened.position, bytes, buffers) {
         Ok(len) => {
             if len > 0 {
                 let past = opened.position.saturating_add(u64::from(len));

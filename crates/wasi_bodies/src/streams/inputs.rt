@@ -66,7 +66,9 @@ fn put_at(memory: &mut Memory, place: usize, bytes: &[u8])
     ensures bytes { memory.new ≡ written memory.old place bytes.now }
     ensures length { length memory.new ≡ length memory.old }
 {
-    let part = memory.part_mut(place, bytes.len());
+    let (part, _) = memory
+        .part_mut(place, bytes.len())
+        .split_at_mut(bytes.len());
     part.copy_from_slice(bytes);
 }
 

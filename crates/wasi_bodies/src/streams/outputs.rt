@@ -11,7 +11,7 @@ ghost use Rattle.wasi_bodies.specs.internal.streams.Outputs.{AppendsSome};
 ghost use Rattle.wasi_bodies.specs.declared.checks.buffers.TheConstants.{MOST_BUFFERS};
 ghost use Rattle.stream_answers.specs.Hearing.{Hears, Moves, Refuses};
 
-use crate::checks::buffers::total_len;
+use crate::checks::buffers::{lend_buffers, total_len};
 use crate::checks::write_bytes;
 use crate::numbers::le32;
 use crate::streams::Output;
@@ -47,7 +47,7 @@ fn hand<W: Outlet>(writer: &mut W, bytes: &[u8]) -> Result<(), WriterFailed>
 /// Hands what stands in the buffers to a writer, one after the other.
 fn hand_buffers<W: Outlet>(
     writer: &mut W,
-    memory: &Memory,
+    memory: &[u8],
     buffers: &[MemorySpan],
 ) -> Result<(), WriterFailed>
     requires { list_all (is_inside memory.now) (list_of buffers.now) ≡ true }
@@ -59,9 +59,8 @@ fn hand_buffers<W: Outlet>(
         writer.new }
 {
     for buffer in buffers {
-        let Some(bytes) = memory.slice(buffer.pointer, buffer.len) else {
-            unreachable!()
-        };
+        let start = buffer.pointer as usize;
+        let bytes = &memory[start..start + buffer.len as usize];
         if let Err(failed) = hand(writer, bytes) {
             return Err(failed);
         }
@@ -95,7 +94,8 @@ pub fn write_stream<W: Outlet>(
         return Err(Errno::IO);
     }
     let len = total_len(buffers) as u32;
-    match hand_buffers(&mut output.writer, memory, buffers) {
+    let bytes = lend_buffers(memory, buffers);
+    match hand_buffers(&mut output.writer, bytes, buffers) {
         Ok(()) => {
             write_bytes(memory, result_at, &le32(len));
             Ok(())

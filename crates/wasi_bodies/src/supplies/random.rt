@@ -55,7 +55,8 @@ fn write_random(
     ensures moves_on { supply generator.new left.new.now
         ≡ after_next len (supply generator.old left.old.now) }
 {
-    let part = memory.part_mut(buffer as usize, len as usize);
+    let len = len as usize;
+    let (part, _) = memory.part_mut(buffer as usize, len).split_at_mut(len);
     fill_random(generator, left, part);
 }
 

@@ -94,7 +94,8 @@ fn write_pointers(memory: &mut Memory, at: u32, texts: &[&[u8]], first: u32)
     ensures bytes { memory.new ≡ written memory.old at (pointers first (texts_of texts.now)) }
     ensures length { length memory.new ≡ length memory.old }
 {
-    let part = memory.part_mut(at as usize, pointers_len(texts) as usize);
+    let len = pointers_len(texts) as usize;
+    let (part, _) = memory.part_mut(at as usize, len).split_at_mut(len);
     fill_pointers(part, texts, u64::from(first));
 }
 
@@ -104,7 +105,8 @@ fn write_texts(memory: &mut Memory, at: u32, texts: &[&[u8]])
     requires inside { at + all_bytes (texts_of texts.now) ≤ length memory.old }
     ensures bytes { memory.new ≡ written memory.old at (ended (texts_of texts.now)) }
 {
-    let part = memory.part_mut(at as usize, texts_len(texts) as usize);
+    let len = texts_len(texts) as usize;
+    let (part, _) = memory.part_mut(at as usize, len).split_at_mut(len);
     fill_texts(part, texts);
 }
 

@@ -21,12 +21,16 @@ impl<'s, 't, D: Device, R: Inlet, W1: Outlet, W2: Outlet> Inner<'s, 't, D, R, W1
     ghost use Rattle.wasi_calls.specs.internal.Bodies.{IsSetUp, Serves};
 
     /// `path_create_directory(fd, path, length)`.
-    pub fn path_create_directory(&mut self, memory: &Memory, arguments: &[u64]) -> Result<(), Errno>
+    pub fn path_create_directory(
+        &mut self,
+        memory: &mut Memory,
+        arguments: &[u64],
+    ) -> Result<(), Errno>
         requires set_up { IsSetUp R.remaining self.old }
         requires known { KnowsEntries D.honest self.old.volume (table_of self.old.descriptors) }
         ensures { (used : _) → Serves D.honest D.disk D.size D.failures D.goes_on R.remaining
             W1.contents W2.contents (hearing R.gave R.refused W1.took W1.refused W2.took W2.refused)
-            call.PathCreateDirectory used arguments.now self.old memory.now self.new memory.now
+            call.PathCreateDirectory used arguments.now self.old memory.old self.new memory.new
             (errno_of result) }
     {
         let fd = descriptor(arguments, 0);
@@ -63,12 +67,16 @@ impl<'s, 't, D: Device, R: Inlet, W1: Outlet, W2: Outlet> Inner<'s, 't, D, R, W1
     }
 
     /// `path_remove_directory(fd, path, length)`.
-    pub fn path_remove_directory(&mut self, memory: &Memory, arguments: &[u64]) -> Result<(), Errno>
+    pub fn path_remove_directory(
+        &mut self,
+        memory: &mut Memory,
+        arguments: &[u64],
+    ) -> Result<(), Errno>
         requires set_up { IsSetUp R.remaining self.old }
         requires known { KnowsEntries D.honest self.old.volume (table_of self.old.descriptors) }
         ensures { (used : _) → Serves D.honest D.disk D.size D.failures D.goes_on R.remaining
             W1.contents W2.contents (hearing R.gave R.refused W1.took W1.refused W2.took W2.refused)
-            call.PathRemoveDirectory used arguments.now self.old memory.now self.new memory.now
+            call.PathRemoveDirectory used arguments.now self.old memory.old self.new memory.new
             (errno_of result) }
     {
         let fd = descriptor(arguments, 0);
@@ -79,12 +87,12 @@ impl<'s, 't, D: Device, R: Inlet, W1: Outlet, W2: Outlet> Inner<'s, 't, D, R, W1
     }
 
     /// `path_rename(fd, path, length, fd, path, length)`.
-    pub fn path_rename(&mut self, memory: &Memory, arguments: &[u64]) -> Result<(), Errno>
+    pub fn path_rename(&mut self, memory: &mut Memory, arguments: &[u64]) -> Result<(), Errno>
         requires set_up { IsSetUp R.remaining self.old }
         requires known { KnowsEntries D.honest self.old.volume (table_of self.old.descriptors) }
         ensures { (used : _) → Serves D.honest D.disk D.size D.failures D.goes_on R.remaining
             W1.contents W2.contents (hearing R.gave R.refused W1.took W1.refused W2.took W2.refused)
-            call.PathRename used arguments.now self.old memory.now self.new memory.now
+            call.PathRename used arguments.now self.old memory.old self.new memory.new
             (errno_of result) }
     {
         let asked = RenameCall::read(arguments);
@@ -92,12 +100,12 @@ impl<'s, 't, D: Device, R: Inlet, W1: Outlet, W2: Outlet> Inner<'s, 't, D, R, W1
     }
 
     /// `path_unlink_file(fd, path, length)`.
-    pub fn path_unlink_file(&mut self, memory: &Memory, arguments: &[u64]) -> Result<(), Errno>
+    pub fn path_unlink_file(&mut self, memory: &mut Memory, arguments: &[u64]) -> Result<(), Errno>
         requires set_up { IsSetUp R.remaining self.old }
         requires known { KnowsEntries D.honest self.old.volume (table_of self.old.descriptors) }
         ensures { (used : _) → Serves D.honest D.disk D.size D.failures D.goes_on R.remaining
             W1.contents W2.contents (hearing R.gave R.refused W1.took W1.refused W2.took W2.refused)
-            call.PathUnlinkFile used arguments.now self.old memory.now self.new memory.now
+            call.PathUnlinkFile used arguments.now self.old memory.old self.new memory.new
             (errno_of result) }
     {
         let fd = descriptor(arguments, 0);

@@ -169,8 +169,12 @@ impl<'s, 't, D: Device, R: Inlet + Drop, W1: Outlet + Drop, W2: Outlet + Drop> W
     /// has bytes left that it tells.
     pub fn replace_input(&mut self, reader: R) -> R
         requires { self.old.input.ended ≡ true → IsAtEnd (R.remaining reader) }
-        ensures replaced { self.new ≡ record self.old { input = record self.old.input { reader =
-            reader } } }
+        ensures replaced { self.new ≡ record self.old {
+          input = record self.old.input {
+            reader =
+                reader;
+          };
+        } }
         ensures before { result ≡ self.old.input.reader }
         ensures end { self.old.input.ended ≡ true → IsAtEnd (R.remaining result) }
     {

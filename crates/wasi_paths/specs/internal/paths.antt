@@ -4,3 +4,4 @@ pub mod Climbing
 pub mod Opening
 pub mod Removing
 pub mod Renaming
+pub mod Showing

@@ -18,19 +18,20 @@ ghost use Rattle.wasi_bodies.specs.host.Worlds.{VolumeStep};
 ghost use Rattle.wasi_bodies.specs.internal.Entries.{KnowsEntries, errno_of, with_volume};
 ghost use Rattle.wasi_bodies.specs.internal.paths.Walks.{StillWorks, Places};
 ghost use Rattle.path_walk.specs.Walk.{Asked};
+ghost use Rattle.wasi_paths.specs.internal.paths.Showing.{CanLend};
 ghost use Rattle.wasi_paths.specs.internal.paths.Opening.{flags_checked, found_checked, missing_checked, open_entered, IsTarget, LeadsToSerial, CanOpen, made, ChecksAs, Targets, AreSerials, with_both};
 
-use crate::paths::reach;
+use crate::paths::{check_range, reach};
 use bitflags::Flags;
 use path_walk::{Reached, is_directory, wants_a_directory};
 use vol_sector::Device;
 use vol_tree::{Serial, Volume};
 use wasi_bodies::arguments::{descriptor, long, word};
-use wasi_bodies::checks::{DescriptorKinds, check_range, check_that, entry_at, write_bytes};
+use wasi_bodies::checks::{DescriptorKinds, check_that, entry_at, write_bytes};
 use wasi_bodies::errno::{EXIST, ISDIR, MFILE, NOENT, NOTDIR, NOTSUP, refused};
 use wasi_bodies::numbers::le32;
 use wasi_fd::{Descriptor, Descriptors, EntryKind, Fd, Opened, Rights};
-use wasm_store::{Errno, Memory};
+use wasm_store::{Errno, Memory, Shown};
 
 const CREAT: u32 = 1;
 
@@ -127,14 +128,15 @@ fn check_flags(oflags: u32, fdflags: u32) -> Result<(), Errno>
 #[tactic(auto, using(wasi_bodies::proofs::checks::Chains::goes_on, wasi_bodies::proofs::checks::Chains::stops))]
 fn enter_open<'t, 'm>(
     descriptors: &Descriptors<'t>,
-    memory: &'m Memory,
+    memory: &Shown<'m>,
     asked: &OpenCall,
 ) -> Result<(Opened<'t>, &'m [u8]), Errno>
+    requires lent { CanLend memory.now asked.now.path asked.now.len }
     ensures row { (w : World) → w.table ≡ table_of descriptors.now → MatchResult result
-        (λ p. open_entered w memory.now asked.now ≡ Ok p.0)
-        (λ e. open_entered w memory.now asked.now ≡ Err e.0) }
-    ensures text { IfOk result (λ p. p.1.now ≡ bytes_at memory.now asked.now.path asked.now.len) }
-    ensures inside { OnOk result (asked.now.result_at + 4 ≤ length memory.now) }
+        (λ p. open_entered w memory.now.bytes asked.now ≡ Ok p.0)
+        (λ e. open_entered w memory.now.bytes asked.now ≡ Err e.0) }
+    ensures text { IfOk result (λ p. p.1.now ≡ bytes_at memory.now.bytes asked.now.path asked.now.len) }
+    ensures inside { OnOk result (asked.now.result_at + 4 ≤ length memory.now.bytes) }
 {
     let rights = open_rights(asked.oflags);
     let opened = entry_at(descriptors, asked.fd, DescriptorKinds::Directories, rights)?;
@@ -307,18 +309,19 @@ fn reached_target<'p, D: Device>(
 fn find_target<'t, 'm, D: Device>(
     volume: &mut Volume<D>,
     descriptors: &Descriptors<'t>,
-    memory: &'m Memory,
+    memory: &Shown<'m>,
     asked: &OpenCall,
 ) -> Result<(Opened<'t>, PathTarget<'m>), Errno>
-    requires { KnowsEntries D.honest volume.old (table_of descriptors.now) }
+    requires known { KnowsEntries D.honest volume.old (table_of descriptors.now) }
+    requires lent { CanLend memory.now asked.now.path asked.now.len }
     ensures step { VolumeStep D.honest D.disk D.size D.failures D.goes_on volume.old volume.new }
     ensures io { errno_of result ≡ 29 → volume.new.failed ≡ true }
     ensures works { IfOk result (λ p. StillWorks D.honest D.disk D.size D.failures D.goes_on
         volume.old volume.new) }
-    ensures inside { OnOk result (asked.now.result_at + 4 ≤ length memory.now) }
+    ensures inside { OnOk result (asked.now.result_at + 4 ≤ length memory.now.bytes) }
     ensures can { IfOk result (λ p. CanOpen D.honest volume.new p.1) }
     ensures targets { D.honest volume.old.device → (w : World) → w.table ≡ table_of descriptors.now
-        → w ≡ with_volume volume.old w → Targets memory.now asked.now w volume.new result }
+        → w ≡ with_volume volume.old w → Targets memory.now.bytes asked.now w volume.new result }
 {
     let (directory, text) = match enter_open(descriptors, memory, asked) {
         Ok(entered) => entered,
@@ -383,7 +386,12 @@ pub fn path_open<D: Device>(
         asked.now.base asked.now.inheriting asked.now.fdflags asked.now.result_at) w memory.old
         (with_both volume.new (table_of descriptors.new) w) memory.new (errno_of result) }
 {
-    let (directory, target) = match find_target(volume, descriptors, memory, asked) {
+    let size = memory.len();
+    let shown = Shown::new(
+        memory.first_part(asked.path as usize + asked.len as usize),
+        size,
+    );
+    let (directory, target) = match find_target(volume, descriptors, &shown, asked) {
         Ok(target) => target,
         Err(errno) => return Err(errno),
     };

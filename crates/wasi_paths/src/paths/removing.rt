@@ -15,6 +15,7 @@ ghost use Rattle.wasi_bodies.specs.internal.Entries.{KnowsEntries, errno_of, wit
 ghost use Rattle.wasi_bodies.specs.internal.paths.Walks.{StillWorks};
 ghost use Rattle.wasi_bodies.specs.internal.Asking.{Asks};
 ghost use Rattle.wasi_paths.specs.internal.paths.Removing.{found_at, removable as removable_row, removal_checked, is_kind, taken_out, remove as remove_row};
+ghost use Rattle.wasi_paths.specs.internal.paths.Showing.{CanLend};
 
 use crate::paths::reach_from;
 use path_walk::{Reached, is_directory};
@@ -23,19 +24,20 @@ use vol_sector::Device;
 use vol_tree::{Serial, Volume};
 use wasi_bodies::errno::{BUSY, ISDIR, NOENT, NOTDIR, refused};
 use wasi_fd::{Descriptors, Fd, Rights};
-use wasm_store::{Errno, Memory};
+use wasm_store::{Errno, Memory, Shown};
 
 /// What a path finds.
 pub fn find<D: Device>(
     volume: &mut Volume<D>,
     descriptors: &Descriptors<'_>,
-    memory: &Memory,
+    memory: &Shown<'_>,
     fd: Fd,
     path: u32,
     len: u32,
     rights: Rights,
 ) -> Result<Serial, Errno>
-    requires { KnowsEntries D.honest volume.old (table_of descriptors.now) }
+    requires known { KnowsEntries D.honest volume.old (table_of descriptors.now) }
+    requires lent { CanLend memory.now path len }
     ensures step { VolumeStep D.honest D.disk D.size D.failures D.goes_on volume.old volume.new }
     ensures io { errno_of result ≡ 29 → volume.new.failed ≡ true }
     ensures works { IfOk result (λ s. StillWorks D.honest D.disk D.size D.failures D.goes_on
@@ -43,7 +45,7 @@ pub fn find<D: Device>(
     ensures entry { IfOk result (IsEntryOf D.honest volume.new) }
     ensures asks { D.honest volume.old.device → (w : World) → w.table ≡ table_of descriptors.now
         → w ≡ with_volume volume.old w → Asks
-        (λ v. found_at v memory.now fd (bits_of rights) path len) w volume.new result }
+        (λ v. found_at v memory.now.bytes fd (bits_of rights) path len) w volume.new result }
 {
     match reach_from(volume, descriptors, memory, fd, path, len, rights) {
         Ok(Reached::Found(serial)) => Ok(Serial::new(serial)),
@@ -78,14 +80,15 @@ fn check_removal(kind: Kind, is_directory: bool, held: bool) -> Result<(), Errno
 fn removable<D: Device>(
     volume: &mut Volume<D>,
     descriptors: &Descriptors<'_>,
-    memory: &Memory,
+    memory: &Shown<'_>,
     fd: Fd,
     path: u32,
     len: u32,
     rights: Rights,
     kind: Kind,
 ) -> Result<Serial, Errno>
-    requires { KnowsEntries D.honest volume.old (table_of descriptors.now) }
+    requires known { KnowsEntries D.honest volume.old (table_of descriptors.now) }
+    requires lent { CanLend memory.now path len }
     ensures step { VolumeStep D.honest D.disk D.size D.failures D.goes_on volume.old volume.new }
     ensures io { errno_of result ≡ 29 → volume.new.failed ≡ true }
     ensures works { IfOk result (λ s. StillWorks D.honest D.disk D.size D.failures D.goes_on
@@ -95,7 +98,7 @@ fn removable<D: Device>(
         (λ s. is_kind kind (directory_at volume.old.tree s) ≡ true) }
     ensures asks { D.honest volume.old.device → (w : World) → w.table ≡ table_of descriptors.now
         → w ≡ with_volume volume.old w → Asks
-        (λ v. removable_row kind v memory.now fd (bits_of rights) path len) w volume.new result }
+        (λ v. removable_row kind v memory.now.bytes fd (bits_of rights) path len) w volume.new result }
 {
     let serial = match find(volume, descriptors, memory, fd, path, len, rights) {
         Ok(serial) => serial,
@@ -135,12 +138,41 @@ fn take_out<D: Device>(
     }
 }
 
+/// Takes out an entry of this kind that a path finds, over memory as it stands.
+fn remove_entry<D: Device>(
+    volume: &mut Volume<D>,
+    descriptors: &Descriptors<'_>,
+    memory: &Shown<'_>,
+    fd: Fd,
+    path: u32,
+    len: u32,
+    rights: Rights,
+    kind: Kind,
+) -> Result<(), Errno>
+    requires known { KnowsEntries D.honest volume.old (table_of descriptors.now) }
+    requires lent { CanLend memory.now path len }
+    ensures step { VolumeStep D.honest D.disk D.size D.failures D.goes_on volume.old volume.new }
+    ensures io { errno_of result ≡ 29 → volume.new.failed ≡ true }
+    ensures answered { D.honest volume.old.device → (w : World) → w.table ≡ table_of descriptors.now
+        → w ≡ with_volume volume.old w → Answered
+        (λ v. remove_row kind v memory.now.bytes fd (bits_of rights) path len) w memory.now.bytes
+        (with_volume volume.new w) memory.now.bytes (errno_of result) }
+{
+    match removable(volume, descriptors, memory, fd, path, len, rights, kind) {
+        Ok(serial) => match take_out(volume, kind, serial) {
+            Ok(()) => Ok(()),
+            Err(errno) => Err(refused(errno)),
+        },
+        Err(errno) => Err(errno),
+    }
+}
+
 /// `path_remove_directory(fd, path, length)` and `path_unlink_file(fd, path, length)`, by the kind of
 /// the entries that they remove.
 pub fn remove<D: Device>(
     volume: &mut Volume<D>,
     descriptors: &Descriptors<'_>,
-    memory: &Memory,
+    memory: &mut Memory,
     fd: Fd,
     path: u32,
     len: u32,
@@ -152,14 +184,10 @@ pub fn remove<D: Device>(
     ensures io { errno_of result ≡ 29 → volume.new.failed ≡ true }
     ensures answered { D.honest volume.old.device → (w : World) → w.table ≡ table_of descriptors.now
         → w ≡ with_volume volume.old w → Answered
-        (λ v. remove_row kind v memory.now fd (bits_of rights) path len) w memory.now
-        (with_volume volume.new w) memory.now (errno_of result) }
+        (λ v. remove_row kind v memory.old fd (bits_of rights) path len) w memory.old
+        (with_volume volume.new w) memory.new (errno_of result) }
 {
-    match removable(volume, descriptors, memory, fd, path, len, rights, kind) {
-        Ok(serial) => match take_out(volume, kind, serial) {
-            Ok(()) => Ok(()),
-            Err(errno) => Err(refused(errno)),
-        },
-        Err(errno) => Err(errno),
-    }
+    let size = memory.len();
+    let shown = Shown::new(memory.first_part(path as usize + len as usize), size);
+    remove_entry(volume, descriptors, &shown, fd, path, len, rights, kind)
 }

@@ -20,21 +20,20 @@ ghost use Rattle.path_walk.specs.Walk.{IsEntryOf, IsReached, reached_as};
 ghost use Rattle.wasm_store.specs.Bytes.{bytes_at};
 ghost use Rattle.path_walk.specs.Walk.{Asked};
 ghost use Rattle.wasi_paths.specs.internal.paths.Renaming.{AreFacts, replace_checked, ReplacesAs, RenamesTo, rename_allowed, rename_entered, source_checked, WalksBoth};
+ghost use Rattle.wasi_paths.specs.internal.paths.Showing.{CanLend};
 ghost use Rattle.wasi_paths.specs.internal.paths.Climbing.{IsAbove};
 
-use crate::paths::reach;
 use crate::paths::removing::is_held;
+use crate::paths::{check_range, reach};
 use path_walk::{Reached, is_directory, wants_a_directory};
 use vol_inode::is_name;
 use vol_sector::Device;
 use vol_tree::{Serial, Volume};
 use wasi_bodies::arguments::{descriptor, word};
-use wasi_bodies::checks::{
-    DescriptorKinds, check_range, check_rights, check_that, described, opened_of,
-};
+use wasi_bodies::checks::{DescriptorKinds, check_rights, check_that, described, opened_of};
 use wasi_bodies::errno::{BUSY, ISDIR, NOENT, NOTDIR, NOTEMPTY, refused};
 use wasi_fd::{Descriptor, Descriptors, Fd, Opened, Rights};
-use wasm_store::{Errno, Memory};
+use wasm_store::{Errno, Memory, Shown};
 
 /// What a `path_rename` asks for.
 #[derive(Clone, Copy)]
@@ -371,15 +370,17 @@ fn both_allowed<'t>(
 #[tactic(auto, using(wasi_bodies::proofs::checks::Chains::goes_on, wasi_bodies::proofs::checks::Chains::stops))]
 fn enter_both<'t, 'm>(
     descriptors: &Descriptors<'t>,
-    memory: &'m Memory,
+    memory: &Shown<'m>,
     asked: &RenameCall,
 ) -> Result<Ends<'t, 'm>, Errno>
+    requires from_lent { CanLend memory.now asked.now.from_path asked.now.from_len }
+    requires to_lent { CanLend memory.now asked.now.to_path asked.now.to_len }
     ensures row { (w : World) → w.table ≡ table_of descriptors.now → MatchResult result
-        (λ e. rename_entered w memory.now asked.now ≡ Ok (e.from, e.to))
-        (λ e. rename_entered w memory.now asked.now ≡ Err e.0) }
-    ensures from { IfOk result (λ e. e.from_text.now ≡ bytes_at memory.now asked.now.from_path
+        (λ e. rename_entered w memory.now.bytes asked.now ≡ Ok (e.from, e.to))
+        (λ e. rename_entered w memory.now.bytes asked.now ≡ Err e.0) }
+    ensures from { IfOk result (λ e. e.from_text.now ≡ bytes_at memory.now.bytes asked.now.from_path
         asked.now.from_len) }
-    ensures to { IfOk result (λ e. e.to_text.now ≡ bytes_at memory.now asked.now.to_path
+    ensures to { IfOk result (λ e. e.to_text.now ≡ bytes_at memory.now.bytes asked.now.to_path
         asked.now.to_len) }
 {
     let (source, target) = both_allowed(descriptors, asked)?;
@@ -427,10 +428,12 @@ fn source_of(moved: Reached<'_>, directory: Serial) -> Result<Serial, Errno>
 fn walk_both<'m, D: Device>(
     volume: &mut Volume<D>,
     descriptors: &Descriptors<'_>,
-    memory: &'m Memory,
+    memory: &Shown<'m>,
     asked: &RenameCall,
 ) -> Result<Walked<'m>, Errno>
-    requires { KnowsEntries D.honest volume.old (table_of descriptors.now) }
+    requires known { KnowsEntries D.honest volume.old (table_of descriptors.now) }
+    requires from_lent { CanLend memory.now asked.now.from_path asked.now.from_len }
+    requires to_lent { CanLend memory.now asked.now.to_path asked.now.to_len }
     ensures step { VolumeStep D.honest D.disk D.size D.failures D.goes_on volume.old volume.new }
     ensures io { errno_of result ≡ 29 → volume.new.failed ≡ true }
     ensures works { IfOk result (λ r. StillWorks D.honest D.disk D.size D.failures D.goes_on
@@ -440,7 +443,7 @@ fn walk_both<'m, D: Device>(
     ensures place { IfOk result (λ r. D.honest volume.new.device
         → Places volume.new.tree (Ok r.target)) }
     ensures walks { D.honest volume.old.device → (w : World) → w.table ≡ table_of descriptors.now
-        → w ≡ with_volume volume.old w → WalksBoth memory.now asked.now w volume.new result }
+        → w ≡ with_volume volume.old w → WalksBoth memory.now.bytes asked.now w volume.new result }
 {
     let ends = match enter_both(descriptors, memory, asked) {
         Ok(ends) => ends,
@@ -468,11 +471,35 @@ fn walk_both<'m, D: Device>(
     })
 }
 
+/// `path_rename(fd, path, length, fd, path, length)` over memory as it stands.
+fn rename_entry<D: Device>(
+    volume: &mut Volume<D>,
+    descriptors: &Descriptors<'_>,
+    memory: &Shown<'_>,
+    asked: &RenameCall,
+) -> Result<(), Errno>
+    requires known { KnowsEntries D.honest volume.old (table_of descriptors.now) }
+    requires from_lent { CanLend memory.now asked.now.from_path asked.now.from_len }
+    requires to_lent { CanLend memory.now asked.now.to_path asked.now.to_len }
+    ensures step { VolumeStep D.honest D.disk D.size D.failures D.goes_on volume.old volume.new }
+    ensures io { errno_of result ≡ 29 → volume.new.failed ≡ true }
+    ensures answered { D.honest volume.old.device → (w : World) → w.table ≡ table_of descriptors.now
+        → w ≡ with_volume volume.old w → Answered
+        (λ v. rename_row v memory.now.bytes asked.now.from_fd asked.now.from_path asked.now.from_len
+        asked.now.to_fd asked.now.to_path asked.now.to_len) w memory.now.bytes (with_volume volume.new w)
+        memory.now.bytes (errno_of result) }
+{
+    match walk_both(volume, descriptors, memory, asked) {
+        Ok(walked) => rename_reached(volume, descriptors, &walked),
+        Err(errno) => Err(errno),
+    }
+}
+
 /// `path_rename(fd, path, length, fd, path, length)`.
 pub fn path_rename<D: Device>(
     volume: &mut Volume<D>,
     descriptors: &Descriptors<'_>,
-    memory: &Memory,
+    memory: &mut Memory,
     asked: &RenameCall,
 ) -> Result<(), Errno>
     requires { KnowsEntries D.honest volume.old (table_of descriptors.now) }
@@ -480,12 +507,13 @@ pub fn path_rename<D: Device>(
     ensures io { errno_of result ≡ 29 → volume.new.failed ≡ true }
     ensures answered { D.honest volume.old.device → (w : World) → w.table ≡ table_of descriptors.now
         → w ≡ with_volume volume.old w → Answered
-        (λ v. rename_row v memory.now asked.now.from_fd asked.now.from_path asked.now.from_len
-        asked.now.to_fd asked.now.to_path asked.now.to_len) w memory.now (with_volume volume.new w)
-        memory.now (errno_of result) }
+        (λ v. rename_row v memory.old asked.now.from_fd asked.now.from_path asked.now.from_len
+        asked.now.to_fd asked.now.to_path asked.now.to_len) w memory.old (with_volume volume.new w)
+        memory.new (errno_of result) }
 {
-    match walk_both(volume, descriptors, memory, asked) {
-        Ok(walked) => rename_reached(volume, descriptors, &walked),
-        Err(errno) => Err(errno),
-    }
+    let from_end = asked.from_path as usize + asked.from_len as usize;
+    let to_end = asked.to_path as usize + asked.to_len as usize;
+    let size = memory.len();
+    let shown = Shown::new(memory.first_part(from_end.max(to_end)), size);
+    rename_entry(volume, descriptors, &shown, asked)
 }

@@ -1,6 +1,6 @@
 -- Buffers of a call, as the code has them: spans (`list_of`) for the pairs of the rows. `usable` is what `find_buffers`
 -- checks, and `AreUsable` is what the bodies after it may rely on.
-use Rattle.std.specs.Prelude.{◌≡◌, ℕ, ◌+◌, ◌^◌, ◌<◌, ◌≤◌, nat_lt, true, List, length, map, Ok}
+use Rattle.std.specs.Prelude.{◌≡◌, ℕ, ◌+◌, ◌^◌, ◌<◌, ◌≤◌, nat_lt, true, List, length, get_or, map, Ok}
 use Rattle.std.specs.List.{list_all}
 use Rattle.vol_body.specs.declared.source.MemorySpan.{MemorySpan}
 use Rattle.wasi_bodies.specs.Checks.{Checked, Buffer, ◌>>=◌, ◌>>◌, guard, buffers, range, total, is_inside}
@@ -31,3 +31,7 @@ usable memory iovs count result = do
   bs ← buffers memory iovs count
   range memory result 4
   Ok bs
+
+-- all of them end in this many bytes
+abbrev pub EndWithin : ℕ → List MemorySpan → Type 0
+EndWithin n bs = (i : ℕ) → i < length bs → (get_or bs i (record { pointer = 0; len = 0 })).pointer + (get_or bs i (record { pointer = 0; len = 0 })).len ≤ n

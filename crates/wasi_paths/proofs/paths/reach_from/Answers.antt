@@ -20,7 +20,7 @@ to_walk w m fd rights path len o invokes = paired _ _ _ ∙ goes_on _ _ o invoke
 
 pub reach-requires : goal.reach-requires
 reach-requires g c =
-    rw c.new.ensures (entry_of g.D.Device.honest c.args.volume.now (table_of c.args.descriptors.now) c.requires c.args.memory.now c.args.fd (bits_of c.args.rights) c.args.path c.args.len c.in-Ok.entered.0 c.in-Ok.ensures.row)
+    rw c.new.ensures (entry_of g.D.Device.honest c.args.volume.now (table_of c.args.descriptors.now) c.requires.known c.args.memory.now.bytes c.args.fd (bits_of c.args.rights) c.args.path c.args.len c.in-Ok.entered.0 c.in-Ok.ensures.row)
 
 pub returns-in-Err : goal.returns-in-Err
 returns-in-Err g c = record {
@@ -29,12 +29,12 @@ returns-in-Err g c = record {
   reached = tt;
   place = λ h. tt;
   asks = λ h w table shown. inl (record { is = paired _ _ _ ∙ stops _ _ _ (c.in-Err.ensures.row w table); same = sym shown });
-  io = check_not_29 (table_of c.args.descriptors.now) (λ w. starting_directory w c.args.memory.now c.args.fd (bits_of c.args.rights) c.args.path c.args.len) _ (entered_never c.args.memory.now c.args.fd (bits_of c.args.rights) c.args.path c.args.len) c.in-Err.ensures.row;
+  io = check_not_29 (table_of c.args.descriptors.now) (λ w. starting_directory w c.args.memory.now.bytes c.args.fd (bits_of c.args.rights) c.args.path c.args.len) _ (entered_never c.args.memory.now.bytes c.args.fd (bits_of c.args.rights) c.args.path c.args.len) c.in-Err.ensures.row;
 }
 
 pub returns-in-Ok-reach-clause-asks : goal.returns-in-Ok-reach-clause-asks
 returns-in-Ok-reach-clause-asks g c = λ h w table shown.
-    let m = c.args.memory.now in
+    let m = c.args.memory.now.bytes in
     let o = c.in-Ok.entered.0 in
     let goes = λ (v : World) (same : v.table ≡ table_of c.args.descriptors.now). to_walk v m c.args.fd (bits_of c.args.rights) c.args.path c.args.len o (c.in-Ok.ensures.row v same) in
     passes_as w (λ v. reached_from v m c.args.fd (bits_of c.args.rights) c.args.path c.args.len) (λ v. path_at v m o c.args.path c.args.len) c.reach.new.volume _ (goes w table) (goes (with_volume_failed w) table)
@@ -47,7 +47,7 @@ returns-in-Err-reach g c = record {
   reached = tt;
   place = λ h. tt;
   asks = λ h w table shown.
-      let m = c.args.memory.now in
+      let m = c.args.memory.now.bytes in
       let o = c.in-Ok.entered.0 in
       let part = λ (v : World). reached_from v m c.args.fd (bits_of c.args.rights) c.args.path c.args.len in
       let goes = λ (v : World) (same : v.table ≡ table_of c.args.descriptors.now). to_walk v m c.args.fd (bits_of c.args.rights) c.args.path c.args.len o (c.in-Ok.ensures.row v same) in

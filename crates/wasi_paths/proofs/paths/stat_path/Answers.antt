@@ -46,10 +46,10 @@ returns-in-Err g c = record {
   step = volume_rests g.D.Device.honest g.D.Device.disk g.D.Device.size g.D.Device.failures g.D.Device.goes_on c.args.volume.now;
   inside = tt;
   finds = λ h w table shown.
-      let m = c.args.memory.now in
+      let m = c.args.memory.now.bytes in
       refused_first w m (λ v. path_filestat_get v m c.args.fd c.args.path c.args.len c.args.result_at) c.args.volume.now _ shown
       (paired _ _ _ ∙ stops _ _ _ (c.in-Err.ensures.row w table));
-  io = check_not_29 (table_of c.args.descriptors.now) (λ w. starting_directory w c.args.memory.now c.args.fd (2 ^ 18) c.args.path c.args.len) _ (entered_never c.args.memory.now c.args.fd (2 ^ 18) c.args.path c.args.len) c.in-Err.ensures.row;
+  io = check_not_29 (table_of c.args.descriptors.now) (λ w. starting_directory w c.args.memory.now.bytes c.args.fd (2 ^ 18) c.args.path c.args.len) _ (entered_never c.args.memory.now.bytes c.args.fd (2 ^ 18) c.args.path c.args.len) c.in-Err.ensures.row;
 }
 
 pub returns-in-Err-check_range : goal.returns-in-Err-check_range
@@ -57,15 +57,15 @@ returns-in-Err-check_range g c = record {
   step = volume_rests g.D.Device.honest g.D.Device.disk g.D.Device.size g.D.Device.failures g.D.Device.goes_on c.args.volume.now;
   inside = tt;
   finds = λ h w table shown.
-      let m = c.args.memory.now in
+      let m = c.args.memory.now.bytes in
       refused_first w m (λ v. path_filestat_get v m c.args.fd c.args.path c.args.len c.args.result_at) c.args.volume.now _ shown
       (paired _ _ _ ∙ (goes_on _ _ c.in-Ok.entered.0 (c.in-Ok.ensures.row w table) ∙ stops _ _ _ c.in-Err-check_range.ensures.range));
-  io = not_29 (range c.args.memory.now c.args.result_at 64) _ (range_never c.args.memory.now c.args.result_at 64) c.in-Err-check_range.ensures.range;
+  io = not_29 (range c.args.memory.now.bytes c.args.result_at 64) _ (range_never c.args.memory.now.bytes c.args.result_at 64) c.in-Err-check_range.ensures.range;
 }
 
 pub reach-requires : goal.reach-requires
 reach-requires g c =
-    rw c.new.ensures (entry_of g.D.Device.honest c.args.volume.now (table_of c.args.descriptors.now) c.requires c.args.memory.now c.args.fd (2 ^ 18) c.args.path c.args.len c.in-Ok.entered.0 c.in-Ok.ensures.row)
+    rw c.new.ensures (entry_of g.D.Device.honest c.args.volume.now (table_of c.args.descriptors.now) c.requires.known c.args.memory.now.bytes c.args.fd (2 ^ 18) c.args.path c.args.len c.in-Ok.entered.0 c.in-Ok.ensures.row)
 
 pub returns-in-Ok-stat_entry : goal.returns-in-Ok-stat_entry
 returns-in-Ok-stat_entry g c =
@@ -76,7 +76,7 @@ returns-in-Ok-stat_entry g c =
       step = asked_after g.D.Device.honest g.D.Device.disk g.D.Device.size g.D.Device.failures g.D.Device.goes_on c.args.volume.now c.reach.new.volume c.stat_entry.new.volume _ walked.works asked;
       inside = c.in_default.ensures.inside;
       finds = λ h w table shown.
-          let m = c.args.memory.now in
+          let m = c.args.memory.now.bytes in
           let o = c.in-Ok.entered.0 in
           let at = c.args.result_at in
           let s = c.in-Ok-Found.serial in
@@ -101,7 +101,7 @@ returns-in-Err-stat_entry g c =
       step = asked_after g.D.Device.honest g.D.Device.disk g.D.Device.size g.D.Device.failures g.D.Device.goes_on c.args.volume.now c.reach.new.volume c.stat_entry.new.volume _ walked.works (record { tree = λ h. (answer.answer h).1; crash = answer.crash; kept = answer.kept; goes = answer.goes_on });
       inside = tt;
       finds = λ h w table shown.
-          let m = c.args.memory.now in
+          let m = c.args.memory.now.bytes in
           let o = c.in-Ok.entered.0 in
           let at = c.args.result_at in
           let new = c.stat_entry.new.volume in
@@ -121,7 +121,7 @@ returns-in-Ok-Missing g c = record {
   step = c.in-Ok-Missing.ensures.step;
   inside = tt;
   finds = λ h w table shown.
-      let m = c.args.memory.now in
+      let m = c.args.memory.now.bytes in
       let o = c.in-Ok.entered.0 in
       let passes = c.in-Ok-Missing.ensures.reaches h w o _ (sym c.new.ensures) c.in-Ok.ensures.text shown in
       let is : found (reached_as c.in-Ok-Missing.field-0) ≡ Err 44 = ap (λ (r : ReachedValue). found (reached_as r)) c.in-Ok-Missing.field-0-is in
@@ -136,7 +136,7 @@ returns-in-Err-reach g c = record {
   step = c.in-Err-reach.ensures.step;
   inside = tt;
   finds = λ h w table shown.
-      let m = c.args.memory.now in
+      let m = c.args.memory.now.bytes in
       let o = c.in-Ok.entered.0 in
       let at = c.args.result_at in
       let new = c.reach.new.volume in

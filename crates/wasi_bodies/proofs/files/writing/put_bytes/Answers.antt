@@ -8,19 +8,19 @@ use Rattle.wasi_bodies.proofs.files.WriteCalls.{unit_gives, unit_refuses}
 use Rattle.wasi_bodies.proofs.files.writing.put_bytes.Goals as goal
 
 pub gather-bytes-requires-clause-inside : goal.gather-bytes-requires-clause-inside
-gather-bytes-requires-clause-inside g c = subst (λ (m : List ℕ). source.AreInside m c.args.buffers.now) (sym c.as_slice.ensures) (source_inside c.args.memory.now c.args.buffers.now c.requires.inside)
+gather-bytes-requires-clause-inside g c = source_inside c.args.memory.now c.args.buffers.now c.requires.inside
 
 pub gather-bytes-requires-clause-enough : goal.gather-bytes-requires-clause-enough
 gather-bytes-requires-clause-enough g c =
     let taken = source_taken c.args.memory.now c.args.buffers.now c.min-len.result c.requires.inside (omega (arith, c.min-len.ensures, c.total_len.ensures)) in
-    subst (λ (m : List ℕ). c.min-len.result ≤ length (source.gathered m c.args.buffers.now)) (sym c.as_slice.ensures) taken.0
+    taken.0
 
 pub returns-in-Ok : goal.returns-in-Ok
 returns-in-Ok g c = record {
   written = λ h.
       let old = c.args.volume.now in
       let taken = source_taken c.args.memory.now c.args.buffers.now c.min-len.result c.requires.inside (omega (arith, c.min-len.ensures, c.total_len.ensures)) in
-      let same = c.gather-bytes.ensures ∙ (ap (λ (m : List ℕ). take c.min-len.result (source.gathered m c.args.buffers.now)) c.as_slice.ensures ∙ taken.1) in (
+      let same = c.gather-bytes.ensures ∙ taken.1 in (
         taken.2,
         ap (written (geometry old.numbers) old.tree c.args.serial c.args.at) (sym same) ∙ unit_gives _ _ (c.in-Ok.ensures.answer h),
       );
@@ -36,7 +36,7 @@ returns-in-Err g c = record {
   refused = λ h.
       let old = c.args.volume.now in
       let taken = source_taken c.args.memory.now c.args.buffers.now c.min-len.result c.requires.inside (omega (arith, c.min-len.ensures, c.total_len.ensures)) in
-      let same = c.gather-bytes.ensures ∙ (ap (λ (m : List ℕ). take c.min-len.result (source.gathered m c.args.buffers.now)) c.as_slice.ensures ∙ taken.1) in
+      let same = c.gather-bytes.ensures ∙ taken.1 in
       let (tree, meant) = c.in-Err.ensures.answer h in (
         tree,
         elim meant [

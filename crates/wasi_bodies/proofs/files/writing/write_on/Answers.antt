@@ -1,4 +1,4 @@
-use Rattle.std.proofs.Common.{◌≡◌, ◌+◌, ◌==◌, ◌<◌, ℕ, false, cond, length, refl, sym, ap, ◌∙◌, subst, arith}
+use Rattle.std.proofs.Common.{◌≡◌, ◌+◌, ◌==◌, ◌<◌, ℕ, false, cond, List, length, refl, sym, ap, ◌∙◌, subst, arith}
 use Rattle.std.proofs.lemmas.Bool.{cond-true, cond-false, eq-eqb, ne_eqb}
 use Rattle.byteorder.specs.Endian.{little_bytes}
 use Rattle.wasm_store.specs.Bytes.{written}
@@ -33,7 +33,7 @@ returns-after-len-gt0 g c = record {
       let o = c.args.opened.now in
       let fd = c.args.request.now.fd in
       let result = c.args.request.now.result_at in
-      let all = gathered m (list_of c.args.buffers.now) in
+      let all = gathered c.lend_buffers-bytes.result.now (list_of c.args.buffers.now) in
       let kept = c.in-Ok.ensures.kept in
       let (count, gives) = rw c.new-serial.ensures at c.in-Ok.ensures.written h in
       let working : old.failed ≡ false = was_working g.D.Device.honest g.D.Device.size g.D.Device.failures old new false kept refl in
@@ -57,9 +57,9 @@ returns-after-len-gt0 g c = record {
             let tables : table_of c.if-len-gt0.descriptors ≡ w.table = ap (λ (d : Descriptors). table_of d) b.descriptors-is ∙ sym table in
             (λ i. with_table (tables i) (same i)) ∙ sym (cond-true (length (part_of all) == 0) (record w { tree = new.tree }) moved (eq-eqb _ 0 none))
       ] in
-      left_ok g.D.Device.honest g.D.Device.size g.D.Device.failures w m (λ v. written_on v fd o all result) (tree_on o all) (done_on fd o all result) old new shown
+      rw (← c.lend_buffers-bytes.ensures.bytes) (left_ok g.D.Device.honest g.D.Device.size g.D.Device.failures w m (λ v. written_on v fd o all result) (tree_on o all) (done_on fd o all result) old new shown
       (row_on fd o all result) kept gives (with_table (table_of c.if-len-gt0.descriptors) (with_volume new w)) c.write_bytes.new.memory
-      stands (c.write_bytes.ensures.bytes ∙ ap (written m result) (c.le32.ensures ∙ ap (little_bytes 4) count));
+      stands (c.write_bytes.ensures.bytes ∙ ap (λ (l : List ℕ). written l result c.le32.result) c.lend_buffers-bytes.follows.holds-at-none ∙ ap (written m result) (c.le32.ensures ∙ ap (little_bytes 4) count)));
   io = no_29_at_0;
 }
 
@@ -75,10 +75,10 @@ returns-in-Err g c = record {
       let fd = c.args.request.now.fd in
       let result = c.args.request.now.result_at in
       let all = gathered m (list_of c.args.buffers.now) in
-      let (tree, meant) = rw c.new-serial.ensures at c.in-Err.ensures.refused h in
-      subst (λ (n : ℕ). Answered (λ v. written_on v fd o all result) w m (with_table (table_of c.args.descriptors.now) (with_volume new w)) m n) (sym c.refused.ensures)
+      let (tree, meant) = rw (c.new-serial.ensures, c.lend_buffers-bytes.ensures.bytes) at c.in-Err.ensures.refused h in
+      rw c.lend_buffers-bytes.follows.holds-at-none (subst (λ (n : ℕ). Answered (λ v. written_on v fd o all result) w m (with_table (table_of c.args.descriptors.now) (with_volume new w)) m n) (sym c.refused.ensures)
       (in_table (λ v. written_on v fd o all result) w m (with_volume new w) m _ _ table
       (left_err g.D.Device.honest g.D.Device.size g.D.Device.failures w m (λ v. written_on v fd o all result) (tree_on o all) (done_on fd o all result) old new shown
-      (row_on fd o all result) (written_never w.volume w.tree o.serial o.position (part_of all)) c.in-Err.errno c.in-Err.ensures.kept tree meant));
+      (row_on fd o all result) (written_never w.volume w.tree o.serial o.position (part_of all)) c.in-Err.errno c.in-Err.ensures.kept tree meant)));
   io = asked_29 ℕ c.in-Err.errno _ (λ fails. c.in-Err.ensures.kept.failed ∙ fails) c.refused.ensures;
 }

@@ -1,4 +1,4 @@
-use Rattle.std.proofs.Common.{Bool, sym, ap, ◌∙◌, refl, subst}
+use Rattle.std.proofs.Common.{ℕ, List, Bool, sym, ap, ◌∙◌, refl, subst}
 use Rattle.std.proofs.lemmas.Bool.{false≢true}
 use Rattle.byteorder.specs.Endian.{little_bytes}
 use Rattle.wasm_store.specs.Bytes.{written}
@@ -13,8 +13,8 @@ returns-in-Ok g c = record {
   took = let m = c.args.memory.now in (
     c.if-output.false,
     c.if-output.false,
-    c.in-Ok.ensures.all,
-    c.write_bytes.ensures.bytes ∙ ap (written m c.args.result_at) (c.le32.ensures ∙ ap (little_bytes 4) (c.total_len-len.ensures ∙ sym (gathered_length m (list_of c.args.buffers.now) c.requires.usable.inside))),
+    rw c.lend_buffers-bytes.ensures.bytes at c.in-Ok.ensures.all,
+    c.write_bytes.ensures.bytes ∙ ap (λ (l : List ℕ). written l c.args.result_at c.le32.result) c.lend_buffers-bytes.follows.holds-at-none ∙ ap (written m c.args.result_at) (c.le32.ensures ∙ ap (little_bytes 4) (c.total_len-len.ensures ∙ sym (gathered_length m (list_of c.args.buffers.now) c.requires.usable.inside))),
   );
   broke = tt;
   answer = tt;
@@ -34,7 +34,7 @@ pub returns-in-Err : goal.returns-in-Err
 returns-in-Err g c = record {
   idle = λ failed. absurd (false≢true (sym c.if-output.false ∙ failed));
   took = tt;
-  broke = λ worked. (refl, c.in-Err.ensures.some);
-  answer = (refl, refl);
+  broke = λ worked. (refl, rw c.lend_buffers-bytes.ensures.bytes at c.in-Err.ensures.some);
+  answer = (refl, c.lend_buffers-bytes.follows.holds-at-none);
   heard = λ worked. c.in-Err.ensures.heard;
 }

@@ -25,12 +25,12 @@ returns-in-Err g c = record {
   inside = tt;
   can = tt;
   targets = λ h w table shown. inl (record { is = stops _ _ _ (c.in-Err.ensures.row w table); same = sym shown });
-  io = check_not_29 (table_of c.args.descriptors.now) (λ w. open_entered w c.args.memory.now c.args.asked.now) _ (open_entered_never c.args.memory.now c.args.asked.now) c.in-Err.ensures.row;
+  io = check_not_29 (table_of c.args.descriptors.now) (λ w. open_entered w c.args.memory.now.bytes c.args.asked.now) _ (open_entered_never c.args.memory.now.bytes c.args.asked.now) c.in-Err.ensures.row;
 }
 
 pub reach-requires : goal.reach-requires
 reach-requires g c =
-    rw c.new.ensures (opened_at g.D.Device.honest c.args.volume.now (table_of c.args.descriptors.now) c.requires c.args.memory.now c.args.asked.now c.in-Ok.entered.0 c.in-Ok.ensures.row)
+    rw c.new.ensures (opened_at g.D.Device.honest c.args.volume.now (table_of c.args.descriptors.now) c.requires.known c.args.memory.now.bytes c.args.asked.now c.in-Ok.entered.0 c.in-Ok.ensures.row)
 
 pub returns-in-Err-reach : goal.returns-in-Err-reach
 returns-in-Err-reach g c = record {
@@ -39,7 +39,7 @@ returns-in-Err-reach g c = record {
   inside = tt;
   can = tt;
   targets = λ h w table shown.
-      let m = c.args.memory.now in
+      let m = c.args.memory.now.bytes in
       let a = c.args.asked.now in
       let o = c.in-Ok.entered.0 in
       let new = c.reach.new.volume in
@@ -59,7 +59,7 @@ returns-in-Err-reached_target g c = record {
   inside = tt;
   can = tt;
   targets = λ h w table shown.
-      checks_refuse c.reach.new.volume c.reached_target.new.volume w c.args.memory.now c.args.asked.now c.in-Ok.entered.0 c.in-Ok.entered.1.now c.in-Ok.ensures.text (λ v same. c.in-Ok.ensures.row v (same ∙ table))
+      checks_refuse c.reach.new.volume c.reached_target.new.volume w c.args.memory.now.bytes c.args.asked.now c.in-Ok.entered.0 c.in-Ok.entered.1.now c.in-Ok.ensures.text (λ v same. c.in-Ok.ensures.row v (same ∙ table))
       (reached_as c.in-Ok-reach.reached) (c.in-Ok-reach.ensures.reaches h w c.in-Ok.entered.0 _ (sym c.new.ensures) c.in-Ok.ensures.text shown)
       c.in-Err-reached_target.errno (c.in-Err-reached_target.ensures.checks (c.in-Ok-reach.ensures.works.kept.honest.0 h));
   io = c.in-Err-reached_target.ensures.io;
@@ -73,7 +73,7 @@ returns-then-is_full g c = record {
   inside = tt;
   can = tt;
   targets = λ h w table shown.
-      no_place c.reach.new.volume c.reached_target.new.volume w c.args.memory.now c.args.asked.now c.in-Ok.entered.0 c.in-Ok.entered.1.now c.in-Ok.ensures.text (λ v same. c.in-Ok.ensures.row v (same ∙ table))
+      no_place c.reach.new.volume c.reached_target.new.volume w c.args.memory.now.bytes c.args.asked.now c.in-Ok.entered.0 c.in-Ok.entered.1.now c.in-Ok.ensures.text (λ v same. c.in-Ok.ensures.row v (same ∙ table))
       (reached_as c.in-Ok-reach.reached) (c.in-Ok-reach.ensures.reaches h w c.in-Ok.entered.0 _ (sym c.new.ensures) c.in-Ok.ensures.text shown)
       c.in-Ok-reached_target.target (c.in-Ok-reached_target.ensures.checks (c.in-Ok-reach.ensures.works.kept.honest.0 h)) (no_number w (table_of c.args.descriptors.now) table (c.is_full.ensures.0 c.if-is_full.true));
   io = λ is. absurd (omega (arith, is));
@@ -87,7 +87,7 @@ returns g c = record {
   inside = c.in-Ok.ensures.inside;
   can = c.in-Ok-reached_target.ensures.can;
   targets = λ h w table shown.
-      finds_target c.reach.new.volume c.reached_target.new.volume w c.args.memory.now c.args.asked.now c.in-Ok.entered.0 c.in-Ok.entered.1.now c.in-Ok.ensures.text (λ v same. c.in-Ok.ensures.row v (same ∙ table))
+      finds_target c.reach.new.volume c.reached_target.new.volume w c.args.memory.now.bytes c.args.asked.now c.in-Ok.entered.0 c.in-Ok.entered.1.now c.in-Ok.ensures.text (λ v same. c.in-Ok.ensures.row v (same ∙ table))
       (reached_as c.in-Ok-reach.reached) (c.in-Ok-reach.ensures.reaches h w c.in-Ok.entered.0 _ (sym c.new.ensures) c.in-Ok.ensures.text shown)
       c.in-Ok-reached_target.target (c.in-Ok-reached_target.ensures.checks (c.in-Ok-reach.ensures.works.kept.honest.0 h)) (some_number w (table_of c.args.descriptors.now) table (λ full. false≢true (sym c.if-is_full.false ∙ c.is_full.ensures.1 full)));
   io = no_29_at_0;

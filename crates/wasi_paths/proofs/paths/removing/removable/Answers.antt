@@ -38,7 +38,7 @@ returns-in-Err g c = record {
   entry = tt;
   kind = λ h. tt;
   asks = λ h w table shown.
-      ends_part w (λ v. found_at v c.args.memory.now c.args.fd (bits_of c.args.rights) c.args.path c.args.len) (checked c.args.kind) c.find.new.volume _
+      ends_part w (λ v. found_at v c.args.memory.now.bytes c.args.fd (bits_of c.args.rights) c.args.path c.args.len) (checked c.args.kind) c.find.new.volume _
       (λ alive s. checked_never c.args.kind w s) (c.in-Err.ensures.asks h w table shown);
   io = c.in-Err.ensures.io;
 }
@@ -50,7 +50,7 @@ returns-in-Err-is_directory g c = record {
   entry = tt;
   kind = λ h. tt;
   asks = λ h w table shown.
-      let part = λ (v : World). found_at v c.args.memory.now c.args.fd (bits_of c.args.rights) c.args.path c.args.len in
+      let part = λ (v : World). found_at v c.args.memory.now.bytes c.args.fd (bits_of c.args.rights) c.args.path c.args.len in
       let passes = c.in-Ok.ensures.asks h w table shown in
       let between = c.find.new.volume in
       let new = c.is_directory.new.volume in
@@ -58,7 +58,7 @@ returns-in-Err-is_directory g c = record {
       let io = c.in-Err-is_directory.ensures.answer now in
       let asked : Asked g.D.Device.honest g.D.Device.disk g.D.Device.size g.D.Device.failures g.D.Device.goes_on between new true =
       subst (Asked g.D.Device.honest g.D.Device.disk g.D.Device.size g.D.Device.failures g.D.Device.goes_on between new) (ap (λ (e : _). is_io {X = Bool} (Err e)) io) c.in-Err-is_directory.ensures.asked in
-      subst (λ (n : ℕ). Stops (λ v. removable c.args.kind v c.args.memory.now c.args.fd (bits_of c.args.rights) c.args.path c.args.len) w new n)
+      subst (λ (n : ℕ). Stops (λ v. removable c.args.kind v c.args.memory.now.bytes c.args.fd (bits_of c.args.rights) c.args.path c.args.len) w new n)
       (sym (c.refused.ensures ∙ ap number_of io))
       (fails_on w part (checked c.args.kind) between c.in-Ok.serial passes new
       (asked_gone g.D.Device.honest g.D.Device.disk g.D.Device.size g.D.Device.failures g.D.Device.goes_on w between new (sym passes.same) now asked)
@@ -77,7 +77,7 @@ returns-in-Err-check_removal g c = record {
       let s = c.in-Ok.serial in
       let now = c.in-Ok.ensures.works.kept.honest.0 h in
       let told : directory_at w.tree s ≡ c.in-Ok-is_directory.is_directory = ap (λ (v : World). directory_at v.tree s) (sym passes.same) ∙ sym (c.in-Ok-is_directory.ensures.answer now) in
-      refuses_on w (λ v. found_at v c.args.memory.now c.args.fd (bits_of c.args.rights) c.args.path c.args.len) (checked c.args.kind) c.find.new.volume s passes c.is_directory.new.volume _
+      refuses_on w (λ v. found_at v c.args.memory.now.bytes c.args.fd (bits_of c.args.rights) c.args.path c.args.len) (checked c.args.kind) c.find.new.volume s passes c.is_directory.new.volume _
       (asked_same g.D.Device.honest g.D.Device.disk g.D.Device.size g.D.Device.failures g.D.Device.goes_on w c.find.new.volume c.is_directory.new.volume (sym passes.same) passes.working now c.in-Ok-is_directory.ensures.asked)
       (stops _ _ _ ((λ i. removal_checked c.args.kind (told i) (sym (c.is_held.ensures w table) i)) ∙ c.in-Err-check_removal.ensures.checked));
   io = not_29 _ _ (removal_never c.args.kind _ _) c.in-Err-check_removal.ensures.checked;
@@ -89,7 +89,7 @@ returns-in-Ok-check_removal-clause-asks g c = λ h w table shown.
     let s = c.in-Ok.serial in
     let now = c.in-Ok.ensures.works.kept.honest.0 h in
     let told : directory_at w.tree s ≡ c.in-Ok-is_directory.is_directory = ap (λ (v : World). directory_at v.tree s) (sym passes.same) ∙ sym (c.in-Ok-is_directory.ensures.answer now) in
-    passes_on w (λ v. found_at v c.args.memory.now c.args.fd (bits_of c.args.rights) c.args.path c.args.len) (checked c.args.kind) c.find.new.volume s passes c.is_directory.new.volume s
+    passes_on w (λ v. found_at v c.args.memory.now.bytes c.args.fd (bits_of c.args.rights) c.args.path c.args.len) (checked c.args.kind) c.find.new.volume s passes c.is_directory.new.volume s
     (asked_same g.D.Device.honest g.D.Device.disk g.D.Device.size g.D.Device.failures g.D.Device.goes_on w c.find.new.volume c.is_directory.new.volume (sym passes.same) passes.working now c.in-Ok-is_directory.ensures.asked)
     (goes_on _ _ tt ((λ i. removal_checked c.args.kind (told i) (sym (c.is_held.ensures w table) i)) ∙ c.in-Ok-check_removal.ensures.checked))
 

@@ -1,28 +1,21 @@
-use Rattle.std.proofs.Common.{sym}
-use Rattle.path_walk.specs.Walk.{reached_as}
-use Rattle.wasi_bodies.proofs.bodies.VolumeCalls.{steps_after}
-use Rattle.wasi_bodies.proofs.bodies.AskingCalls.{ends_call}
-use Rattle.wasi_paths.proofs.paths.RenameWalks.{rename_by, to_renaming, after_walks, after_walks_never, renames_answered}
-use Rattle.wasi_paths.specs.internal.paths.Renaming.{rename_part}
+use Rattle.std.proofs.Common.{◌≡◌, ◌+◌, ◌≤◌, ℕ, List, arith}
+use Rattle.wasi_paths.proofs.paths.Showing.{shown_is, can_lend}
 use Rattle.wasi_paths.proofs.paths.renaming.path_rename.Goals as goal
 
-pub returns-in-Err-clause-answered : goal.returns-in-Err-clause-answered
-returns-in-Err-clause-answered g c = λ h w table shown.
-    let m = c.args.memory.now in
-    let a = c.args.asked.now in
-    ends_call w m (λ v. rename_by v m a) (λ v. rename_part v m a) (λ v. after_walks v m a) c.walk_both.new.volume _ (λ v. to_renaming v m a)
-    (λ alive p. after_walks_never w m a p alive) (c.in-Err.ensures.walks h w table shown)
+pub rename_entry-requires-clause-from_lent : goal.rename_entry-requires-clause-from_lent
+rename_entry-requires-clause-from_lent g c =
+    let is : c.new-shown.result.bytes ≡ c.args.memory.now =
+    shown_is c.args.memory.now c.first_part.result.now c.new-shown.result.bytes c.len-size.result c.new-shown.ensures.bytes c.len-size.ensures c.first_part.ensures.value in
+    can_lend c.args.memory.now c.first_part.result.now c.new-shown.result _ c.args.asked.now.from_path c.args.asked.now.from_len is c.new-shown.ensures.lent c.first_part.ensures.long (omega arith)
 
-pub returns-in-Ok-clause-step : goal.returns-in-Ok-clause-step
-returns-in-Ok-clause-step g c =
-    steps_after g.D.Device.honest g.D.Device.disk g.D.Device.size g.D.Device.failures g.D.Device.goes_on c.args.volume.now c.walk_both.new.volume c.rename_reached.new.volume c.in-Ok.ensures.works
-    c.rename_reached.ensures.step
+pub rename_entry-requires-clause-to_lent : goal.rename_entry-requires-clause-to_lent
+rename_entry-requires-clause-to_lent g c =
+    let is : c.new-shown.result.bytes ≡ c.args.memory.now =
+    shown_is c.args.memory.now c.first_part.result.now c.new-shown.result.bytes c.len-size.result c.new-shown.ensures.bytes c.len-size.ensures c.first_part.ensures.value in
+    can_lend c.args.memory.now c.first_part.result.now c.new-shown.result _ c.args.asked.now.to_path c.args.asked.now.to_len is c.new-shown.ensures.lent c.first_part.ensures.long (omega arith)
 
-pub returns-in-Ok-clause-answered : goal.returns-in-Ok-clause-answered
-returns-in-Ok-clause-answered g c = λ h w table shown.
-    let m = c.args.memory.now in
-    let a = c.args.asked.now in
-    let r = c.in-Ok.walked in
-    let walks = c.in-Ok.ensures.walks h w table shown in
-    renames_answered w m a c.walk_both.new.volume c.rename_reached.new.volume r.source (reached_as r.target) r.slash c.rename_reached.result walks.0 walks.1
-    (c.rename_reached.ensures.renames (c.in-Ok.ensures.works.kept.honest.0 h) w table walks.0.working (sym walks.0.same))
+pub returns-clause-answered : goal.returns-clause-answered
+returns-clause-answered g c = λ h w table shown.
+    let is : c.new-shown.result.bytes ≡ c.args.memory.now =
+    shown_is c.args.memory.now c.first_part.result.now c.new-shown.result.bytes c.len-size.result c.new-shown.ensures.bytes c.len-size.ensures c.first_part.ensures.value in
+    rw c.first_part.follows.holds-at-none (rw is at c.rename_entry.ensures.answered h w table shown)

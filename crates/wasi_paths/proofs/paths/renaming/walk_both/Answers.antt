@@ -30,17 +30,17 @@ returns-in-Err g c = record {
   reached = tt;
   place = tt;
   walks = λ h w table shown. inl (record { is = stops _ _ _ (c.in-Err.ensures.row w table); same = sym shown });
-  io = check_not_29 (table_of c.args.descriptors.now) (λ w. rename_entered w c.args.memory.now c.args.asked.now) _ (rename_entered_never c.args.memory.now c.args.asked.now) c.in-Err.ensures.row;
+  io = check_not_29 (table_of c.args.descriptors.now) (λ w. rename_entered w c.args.memory.now.bytes c.args.asked.now) _ (rename_entered_never c.args.memory.now.bytes c.args.asked.now) c.in-Err.ensures.row;
 }
 
 pub reach-requires : goal.reach-requires
 reach-requires g c =
-    rw c.new-from.ensures (renames_at g.D.Device.honest c.args.volume.now (table_of c.args.descriptors.now) c.requires c.args.memory.now c.args.asked.now c.in-Ok.ends.from c.in-Ok.ends.to c.in-Ok.ensures.row).0
+    rw c.new-from.ensures (renames_at g.D.Device.honest c.args.volume.now (table_of c.args.descriptors.now) c.requires.known c.args.memory.now.bytes c.args.asked.now c.in-Ok.ends.from c.in-Ok.ends.to c.in-Ok.ensures.row).0
 
 pub reach-requires-2 : goal.reach-requires-2
 reach-requires-2 g c =
     rw c.new-to.ensures (entry_still g.D.Device.honest g.D.Device.disk g.D.Device.size g.D.Device.failures g.D.Device.goes_on c.args.volume.now c.reach.new.volume c.in-Ok.ends.to.serial c.in-Ok-reach.ensures.works
-    (renames_at g.D.Device.honest c.args.volume.now (table_of c.args.descriptors.now) c.requires c.args.memory.now c.args.asked.now c.in-Ok.ends.from c.in-Ok.ends.to c.in-Ok.ensures.row).1)
+    (renames_at g.D.Device.honest c.args.volume.now (table_of c.args.descriptors.now) c.requires.known c.args.memory.now.bytes c.args.asked.now c.in-Ok.ends.from c.in-Ok.ends.to c.in-Ok.ensures.row).1)
 
 pub returns-in-Err-reach : goal.returns-in-Err-reach
 returns-in-Err-reach g c = record {
@@ -50,7 +50,7 @@ returns-in-Err-reach g c = record {
   reached = tt;
   place = tt;
   walks = λ h w table shown.
-      let m = c.args.memory.now in
+      let m = c.args.memory.now.bytes in
       let a = c.args.asked.now in
       let from : Opened = c.in-Ok.ends.from in
       let to : Opened = c.in-Ok.ends.to in
@@ -75,8 +75,8 @@ returns-in-Err-reach-2 g c = record {
   walks = λ h w table shown.
       let one = c.in-Ok-reach.ensures.reaches h w c.in-Ok.ends.from _ (sym c.new-from.ensures) c.in-Ok.ensures.from shown in
       let now = c.in-Ok-reach.ensures.works.kept.honest.0 h in
-      subst (λ (n : ℕ). Stops (λ v. rename_part v c.args.memory.now c.args.asked.now) w c.reach-2.new.volume n) (sym c.refused-in-Err-reach-2.ensures)
-      (second_stops c.reach.new.volume c.reach-2.new.volume w c.args.memory.now c.args.asked.now (c.in-Ok.ends.from, c.in-Ok.ends.to) (λ v same. c.in-Ok.ensures.row v (same ∙ table)) (reached_as c.in-Ok-reach.moved) one
+      subst (λ (n : ℕ). Stops (λ v. rename_part v c.args.memory.now.bytes c.args.asked.now) w c.reach-2.new.volume n) (sym c.refused-in-Err-reach-2.ensures)
+      (second_stops c.reach.new.volume c.reach-2.new.volume w c.args.memory.now.bytes c.args.asked.now (c.in-Ok.ends.from, c.in-Ok.ends.to) (λ v same. c.in-Ok.ensures.row v (same ∙ table)) (reached_as c.in-Ok-reach.moved) one
       _ (c.in-Err-reach-2.ensures.reaches now w c.in-Ok.ends.to _ (sym c.new-to.ensures) c.in-Ok.ensures.to (sym one.same)));
   io = asked_29 ReachedValue c.in-Err-reach-2.errno _ c.in-Err-reach-2.ensures.io c.refused-in-Err-reach-2.ensures;
 }
@@ -93,7 +93,7 @@ returns-in-Err-source_of g c = record {
       let one = c.in-Ok-reach.ensures.reaches h w c.in-Ok.ends.from _ (sym c.new-from.ensures) c.in-Ok.ensures.from shown in
       let now = c.in-Ok-reach.ensures.works.kept.honest.0 h in
       let two = c.in-Ok-reach-2.ensures.reaches now w c.in-Ok.ends.to _ (sym c.new-to.ensures) c.in-Ok.ensures.to (sym one.same) in
-      source_stops c.reach.new.volume c.reach-2.new.volume w c.args.memory.now c.args.asked.now (c.in-Ok.ends.from, c.in-Ok.ends.to) (λ v same. c.in-Ok.ensures.row v (same ∙ table)) (reached_as c.in-Ok-reach.moved) one
+      source_stops c.reach.new.volume c.reach-2.new.volume w c.args.memory.now.bytes c.args.asked.now (c.in-Ok.ends.from, c.in-Ok.ends.to) (λ v same. c.in-Ok.ensures.row v (same ∙ table)) (reached_as c.in-Ok-reach.moved) one
       (reached_as c.in-Ok-reach-2.target) two _ (rw c.new-from.ensures at c.in-Err-source_of.ensures.row);
   io = not_29 _ _ (source_never _ _) c.in-Err-source_of.ensures.row;
 }
@@ -114,7 +114,7 @@ returns g c = record {
       let one = c.in-Ok-reach.ensures.reaches h w c.in-Ok.ends.from _ (sym c.new-from.ensures) c.in-Ok.ensures.from shown in
       let now = c.in-Ok-reach.ensures.works.kept.honest.0 h in
       let two = c.in-Ok-reach-2.ensures.reaches now w c.in-Ok.ends.to _ (sym c.new-to.ensures) c.in-Ok.ensures.to (sym one.same) in (
-        both_walked c.reach.new.volume c.reach-2.new.volume w c.args.memory.now c.args.asked.now (c.in-Ok.ends.from, c.in-Ok.ends.to) (λ v same. c.in-Ok.ensures.row v (same ∙ table)) (reached_as c.in-Ok-reach.moved) one
+        both_walked c.reach.new.volume c.reach-2.new.volume w c.args.memory.now.bytes c.args.asked.now (c.in-Ok.ends.from, c.in-Ok.ends.to) (λ v same. c.in-Ok.ensures.row v (same ∙ table)) (reached_as c.in-Ok-reach.moved) one
             (reached_as c.in-Ok-reach-2.target) two c.in-Ok-source_of.source (rw c.new-from.ensures at c.in-Ok-source_of.ensures.row),
         c.wants_a_directory-slash.ensures ∙ ap wants_directory c.in-Ok.ensures.to,
       );

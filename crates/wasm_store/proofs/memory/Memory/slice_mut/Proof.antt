@@ -1,5 +1,5 @@
 -- `slice_mut` lends a part of memory, which memory follows, or nothing, where memory stays.
-use Rattle.std.proofs.Common.{◌≡◌, ℕ, ◌+◌, ◌<◌, ◌≤◌, List, [], ◌∷◌, length, Bool, Option, Some, None, IfSome, IfNone, IsTrue, ◌↔◌, refl, sym, ap, ◌∙◌, lit<, lt_of_not-le, true≢false, w32, Bor, MutBor}
+use Rattle.std.proofs.Common.{ℕ, ◌+◌, ◌<◌, ◌≤◌, List, [], ◌∷◌, length, Bool, Option, Some, None, IfSome, IfNone, IsTrue, ◌↔◌, refl, sym, ap, ◌∙◌, lit<, lt_of_not-le, true≢false, w32, Bor, MutBor}
 use Rattle.std.proofs.VecSteps.Element.{Some-of, none_of}
 use Rattle.std.proofs.raw_atomic.Walks.{proved}
 use Rattle.std.specs.contracts.option.Option as Opt
@@ -34,8 +34,7 @@ use types.Mut.{open_ref, close_ref}
 use types.Part.{agg}
 use types.Run.{enter, of_opd, lit, addr, stop, no_more, and_then, first, branches, exec, returns}
 use types.Tokens.{lft_new, lft_end, lent_back}
-use Rattle.wasm_store.specs.Bytes.{bytes_at}
-use Rattle.wasm_store.specs.Lending.{LendsPart, LendsPartIf}
+use Rattle.wasm_store.specs.Lending.{IsPart, LendsPart, LendsPartIf}
 use Rattle.wasm_store.specs.contracts.memory.Memory.{the_row as R}
 use Rattle.wasm_store.specs.contracts.memory.Memory.slice_mut as f
 use Rattle.wasm_store.specs.contracts.memory.Memory.has_range as has
@@ -63,7 +62,7 @@ slice_mut_spec 𝓤 𝓛 𝓜 𝓡 wired =
     let words : List Val × (List Val × Unit {0}) = (vint w32 address ∷ [], (vint w32 len ∷ [], tt)) in
     let y : W.Ghost = ((κs, qs, bounds, a, (mut_vals self, words)), tt) in
     -- [the result; what memory ends as; the token]
-    let out : (v : Val) (r : Option (MutBor (List ℕ))) → IfSome r (λ s. (address + len ≤ length old) × (s.now ≡ bytes_at old address len)) → IfNone r (length old < address + len)
+    let out : (v : Val) (r : Option (MutBor (List ℕ))) → IfSome r (λ s. (address + len ≤ length old) × (IsPart old address len s.now)) → IfNone r (length old < address + len)
     → Sq 𝓛 (‵ ((Opt.the_row Part).own_val r (v ∷ [])) ∷ ‵ (LendsPartIf self address r) ∷ ‵ (flft κ q) ∷ []) (prop (W.post y v)) = λ v r inside outside.
     suffices ! _ (ends_at 𝓛 f.ended stayed c y v r (tt, (tt, (tt, tt))) (tt, (tt, (tt, tt)))) $
     nothing ! $ nothing ! $ join ! $ nothing ! $ join ! $ nothing ! $ join ! $ join ! $
@@ -102,7 +101,7 @@ slice_mut_spec 𝓤 𝓛 𝓜 𝓡 wired =
     calls_at ! (framed 𝓤 𝓛.H 𝓜 𝓣) G (range-met 𝓤 𝓛 𝓜 𝓡 (code.calls-wasm_store::memory::Memory::range_mut 𝓡.env wired)) z
     (and_then ! (get ! refl) (and_then ! (get ! refl) (and_then ! (get ! refl) (no_more !)))) (λ v.
     use1 𝓛 (later (some (λ (s : MutBor (List ℕ)). ((‵ (flft κ q) ⊛ ‵ ftrue) ⊛ ‵ (Part.own_val s (v ∷ []))) ⊛
-    some (λ (ws : Lasts range.ended κs z.0.3). ‵ (lasts range.ended κs z.0.3 ws) ⊛ ‵ (LendsPart self address s) ⊛ raw (fact 𝓤 (s.now ≡ bytes_at old address len)))))) (id⊢ 𝓤 _) $
+    some (λ (ws : Lasts range.ended κs z.0.3). ‵ (lasts range.ended κs z.0.3 ws) ⊛ ‵ (LendsPart self address s) ⊛ raw (fact 𝓤 (IsPart old address len s.now)))))) (id⊢ 𝓤 _) $
     await ! tt $ pick ! (λ s. split ! $ split ! $ split ! $ move ! (3 ∷ []) $ pick ! (λ ws. split ! $ drop ! $ split ! $ move ! (1 ∷ []) $ heard ! _ (λ value.
     -- [what memory ends as; the token; nothing; the part]
     move ! (3 ∷ []) $ peeks ! Part _ (shows 𝓛 Part) s _ (λ is. rewrite ! 0 (λ (us : List Val). ‵ (Part.own_val s us)) is.0.0 refl $

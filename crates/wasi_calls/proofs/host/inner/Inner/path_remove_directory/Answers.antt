@@ -18,6 +18,6 @@ returns g c = λ used.
     let s = c.args.self.now in
     let m = c.args.memory.now in
     serves_volume g.D.Device.honest g.D.Device.disk g.D.Device.size g.D.Device.failures g.D.Device.goes_on g.R.Read.remaining g.W1.Write.contents g.W2.Write.contents (hearing g.R.Inlet.gave g.R.Inlet.refused g.W1.Outlet.took g.W1.Outlet.refused g.W2.Outlet.took g.W2.Outlet.refused)
-    call.PathRemoveDirectory used c.args.arguments.now _ s c.remove.new.volume m m _ refl c.remove.ensures.io c.requires.set_up c.remove.ensures.step
+    call.PathRemoveDirectory used c.args.arguments.now _ s c.remove.new.volume m _ _ refl c.remove.ensures.io c.requires.set_up c.remove.ensures.step
     (λ w. (λ i. path_remove_directory w m (sym c.descriptor-fd.ensures i) (sym c.word-path.ensures i) (sym c.word-len.ensures i)) ∙ removes w m _ _ _)
     (λ h b. c.remove.ensures.answered h (world_of (state_of s) b) refl refl)
