@@ -1,3 +1,2 @@
--- What private contracts and proofs cite; public contracts do without it. The first files are about one run (its words, its
--- seed, its module, its session), then come the tests of a list.
+-- What private contracts and proofs cite on a list of tests; public contracts do without it.
 pub mod Tests

@@ -1,5 +1,4 @@
--- What private contracts and proofs cite; public contracts do without it. The first files are about one run (its words, its
--- seed, its module, its session), then come the tests of a list.
+-- What private contracts and proofs cite; public contracts do without it: the seed of a run, its session, a function that is called.
 pub mod Seeds
 pub mod Sessions
 pub mod Invoking
