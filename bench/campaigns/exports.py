@@ -6,8 +6,7 @@ command does, with the same streams and files. What tells of a command's run alo
 import collections
 import itertools
 
-import guests
-from files import CLASHES, Scene, drawn, wanted
+from files import Scene, drawn, wanted
 
 NAME = b"worker"  # as long as `_start`, so that no length changes
 TOLD_OF_COMMANDS = ["--tests", "--report", "--profile"]
@@ -61,7 +60,7 @@ def called_so(setting, given, function):
         module = it.made("module", "m")
         if function:
             with open(f"{it.folder}/{module}", "wb") as file:
-                file.write(renamed(guests.probe()))
+                file.write(renamed(Scene.templates["module"]))
             words += ["--invoke", NAME.decode()]
         got = it.call(["run", *words, module])
         return got, {name: bytes_ for name, bytes_ in it.files().items() if name != module}
