@@ -6,3 +6,4 @@ pub mod Lines
 pub mod Charging
 pub mod Going
 pub mod Ending
+mod Refused

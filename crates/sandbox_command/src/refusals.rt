@@ -139,7 +139,7 @@ fn tell_of_call<W: Outlet>(err: &mut W, name: &str)
         "--invoke",
         name.as_bytes(),
         SETTING,
-        "it names an exported function, and the words are its numbers: sandbox inspect shows its type",
+        "it names an exported function, and the words are its numbers: sandbox inspect lists the exports",
     );
 }
 

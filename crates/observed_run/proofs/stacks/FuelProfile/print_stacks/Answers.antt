@@ -3,6 +3,7 @@ use Rattle.stream_answers.specs.Printing.{IsPrinted}
 use Rattle.stream_answers.proofs.Pieces.{none_printed, printed_then}
 use Rattle.observed_run.specs.Folded.{line_text}
 use Rattle.observed_run.proofs.Lines.{printed_first, printed_none, printed_some, printed_all}
+use Rattle.observed_run.proofs.Refused.{passed, refused_then}
 use Rattle.observed_run.proofs.stacks.FuelProfile.print_stacks.Goals as goal
 use Rattle.observed_run.proofs.stacks.FuelProfile.print_stacks.Goals.{then-units_at-gt0+in_ok-print_node, else-units_at-gt0}
 
@@ -31,6 +32,16 @@ loop-node-preserved g c =
           let none : slice_index units c.loop-node.node ≡ 0 = omega (arith, w.if-units_at-gt0.false, c.units_at.ensures) in
           (so_far.0, subst (printed so_far.0) (sym w.out-is) so_far.1, printed_none calls name units c.loop-node.node so_far.0 small none so_far.2)
     ]
+
+-- a line that wasn't printed, after those that were
+pub returns-in_err-print_node : goal.returns-in_err-print_node
+returns-in_err-print_node g c =
+    let took = g.W.Outlet.took in
+    let refused = g.W.Outlet.refused in
+    let out = g.W.Write.contents in
+    let so_far = c.loop-node.invariant in
+    passed took refused out _ c.from_residual.result c.in_err-print_node.field-0.0 c.args.out.now c.print_node.new.out c.from_residual.ensures.1
+    (refused_then took refused out c.args.out.now c.loop-node.out c.print_node.new.out so_far.0 c.in_err-print_node.field-0.0 so_far.1 c.in_err-print_node.ensures)
 
 -- all are printed
 pub returns : goal.returns
