@@ -36,6 +36,27 @@ fn tell_of_part<W: Outlet>(err: &mut W, name: &str, part: &[u8], meaning: &str, 
     say_meaning(err, meaning, cure);
 }
 
+/// Prints a word of the command line behind another one, where it has bytes, so that it is a part of one line.
+fn say_word<W: Outlet>(err: &mut W, word: &str)
+    ensures { AppendsSome (W.contents err.old) (W.contents err.new) }
+{
+    if word.is_empty() {
+        return say(err, b"");
+    }
+    say(err, b": ");
+    say_name(err, word.as_bytes());
+}
+
+/// Prints that an option's word is no setting that can be.
+fn tell_of_word<W: Outlet>(err: &mut W, option: &str, word: &str, cure: &str)
+    ensures { AppendsSome (W.contents err.old) (W.contents err.new) }
+{
+    say(err, b"sandbox: ");
+    say_name(err, option.as_bytes());
+    say_word(err, word);
+    say_meaning(err, SETTING, cure);
+}
+
 /// The part of a module that is to blame for a fault, as `inspect` shows names; nothing where it isn't known.
 fn culprit(alloc: Global, bytes: &[u8], profile: Profile, fault: Fault) -> io::Result<Vec<u8>> {
     let mut text = Vec::new(alloc);
@@ -134,11 +155,10 @@ fn has_its_directories(run: &Run<'_>) -> bool {
 fn tell_of_call<W: Outlet>(err: &mut W, name: &str)
     ensures { AppendsSome (W.contents err.old) (W.contents err.new) }
 {
-    tell_of_part(
+    tell_of_word(
         err,
         "--invoke",
-        name.as_bytes(),
-        SETTING,
+        name,
         "it names an exported function, and the words are its numbers: sandbox inspect lists the exports",
     );
 }
@@ -155,13 +175,7 @@ fn tell_of_setting<W: Outlet>(err: &mut W, run: &Run<'_>)
             format_args!("--pages {pages}: {SETTING}: at most 65536"),
         );
     } else if let Some(word) = uncut_directory(run) {
-        tell_of_part(
-            err,
-            "--dir",
-            word.as_bytes(),
-            SETTING,
-            "its form is GUEST=PATH",
-        );
+        tell_of_word(err, "--dir", word, "its form is GUEST=PATH");
     } else if are_too_many(run.words.as_slice(), 1, argument_0.len() + 1) {
         tell_words(
             err,
