@@ -36,13 +36,10 @@ fn tell_of_part<W: Outlet>(err: &mut W, name: &str, part: &[u8], meaning: &str, 
     say_meaning(err, meaning, cure);
 }
 
-/// Prints a word of the command line behind another one, where it has bytes, so that it is a part of one line.
+/// Prints a word of the command line behind another one, as names are printed: it can't begin a line.
 fn say_word<W: Outlet>(err: &mut W, word: &str)
     ensures { AppendsSome (W.contents err.old) (W.contents err.new) }
 {
-    if word.is_empty() {
-        return say(err, b"");
-    }
     say(err, b": ");
     say_name(err, word.as_bytes());
 }
@@ -51,6 +48,9 @@ fn say_word<W: Outlet>(err: &mut W, word: &str)
 fn tell_of_word<W: Outlet>(err: &mut W, option: &str, word: &str, cure: &str)
     ensures { AppendsSome (W.contents err.old) (W.contents err.new) }
 {
+    if word.is_empty() {
+        return tell_of_part(err, option, b"", SETTING, cure);
+    }
     say(err, b"sandbox: ");
     say_name(err, option.as_bytes());
     say_word(err, word);

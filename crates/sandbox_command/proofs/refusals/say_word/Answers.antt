@@ -5,4 +5,4 @@ use Rattle.sandbox_command.proofs.refusals.say_word.Goals as goal
 pub returns : goal.returns
 returns g c =
     let errs = g.W.Write.contents in
-    lines_then (errs c.args.err.now) (errs c.say-2.new.err) (errs c.say_name.new.err) c.say-2.ensures c.say_name.ensures
+    lines_then (errs c.args.err.now) (errs c.say.new.err) (errs c.say_name.new.err) c.say.ensures c.say_name.ensures
