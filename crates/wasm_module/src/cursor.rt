@@ -426,7 +426,8 @@ impl<'a> Cursor<'a> {
         Ok(())
     }
 
-    /// Instructions up to the one that closes the expression (section 5.4.6). Room for so many is asked for at once.
+    /// Instructions up to the one that closes the expression (section 5.4.6). Room for so many is asked for at once, and what of it
+    /// isn't used is given back.
     #[tactic(auto, unfolding(wasm_syntax::specs::internal::CodeReading::code_at))]
     pub fn code(
         &mut self,
@@ -442,6 +443,7 @@ impl<'a> Cursor<'a> {
         for _ in 0..self.len() {
             self.one_more(alloc, profile, &mut code, &mut blocks)?;
             if blocks.is_empty() {
+                code.shrink_to_fit();
                 return Ok(Items::from_vec(code, begin));
             }
         }
