@@ -29,8 +29,9 @@ pub returns-then-is_empty : goal.returns-then-is_empty
 unfolding code_at
 returns-then-is_empty c =
     rw c.from_vec.ensures
+    (rw c.shrink_to_fit.ensures.items
     (code_closes c.args.profile c.loop.code.items c.one_more.new.code.items c.len-end.result c.loop.counter c.loop.blocks c.one_more.new.blocks c.loop.self c.one_more.new.self _ c.loop-test.true
-    c.in_ok-one_more.ensures c.if-is_empty.ensures (rw (← c.len-end.ensures) c.loop.invariant))
+    c.in_ok-one_more.ensures c.if-is_empty.ensures (rw (← c.len-end.ensures) c.loop.invariant)))
 
 pub returns : goal.returns
 unfolding code_at
