@@ -9,9 +9,11 @@ ghost use Rattle.wasm_operands.specs.internal.Plain.Performing.{HasOne, HasThree
 ghost use Rattle.wasm_lowering.specs.Tables.{LoadGives};
 
 use crate::operands::{operand, remove, replace};
+use crate::reads::{
+    read_8, read_8_to_32, read_8_to_64, read_16, read_16_to_32, read_16_to_64, read_32,
+    read_32_to_64,
+};
 use crate::stores::{low_8, low_16, low_32};
-use crate::unary::apply_unary;
-use wasm_lowering::Unary;
 use wasm_module::{LoadOperator, MemArg, StoreOperator};
 use wasm_store::Memory;
 
@@ -21,29 +23,40 @@ fn read(memory: &Memory, operator: LoadOperator, memarg: MemArg, base: u32) -> O
         x) }
     ensures outside { IfNone result (Misses (load_of (Load operator memarg)) memory.now base) }
 {
-    apply_unary(
-        Unary::of_load(operator),
-        u64::from(base),
-        memarg.offset,
-        memory,
-    )
+    let offset = memarg.offset;
+    match operator {
+        LoadOperator::I32Load | LoadOperator::F32Load | LoadOperator::I64Load32U => {
+            read_32(memory, base, offset)
+        }
+        LoadOperator::I64Load | LoadOperator::F64Load => memory.load_u64(base, offset),
+        LoadOperator::I32Load8S => read_8_to_32(memory, base, offset),
+        LoadOperator::I32Load8U | LoadOperator::I64Load8U => read_8(memory, base, offset),
+        LoadOperator::I32Load16S => read_16_to_32(memory, base, offset),
+        LoadOperator::I32Load16U | LoadOperator::I64Load16U => read_16(memory, base, offset),
+        LoadOperator::I64Load8S => read_8_to_64(memory, base, offset),
+        LoadOperator::I64Load16S => read_16_to_64(memory, base, offset),
+        LoadOperator::I64Load32S => read_32_to_64(memory, base, offset),
+    }
 }
 
-/// A load: the number at the address on top, or nothing where it would pass the end.
+/// A load: the number at the address on top, or nothing where it would pass the end. What it reads is in the first part from now on,
+/// so the loop reads it the next time.
 pub fn load_top(
     values: &mut Vec<u64>,
-    memory: &Memory,
+    memory: &mut Memory,
     operator: LoadOperator,
     memarg: MemArg,
 ) -> bool
     requires { HasOne I32 (reverse values.old.items) }
     ensures inside { OnTrue result (Loads (load_of (Load operator memarg))
-        (reverse values.old.items) memory.now (reverse values.new.items)) }
-    ensures outside { OnFalse result (Misses (load_of (Load operator memarg)) memory.now
+        (reverse values.old.items) memory.old (reverse values.new.items)) }
+    ensures outside { OnFalse result (Misses (load_of (Load operator memarg)) memory.old
         (slice_index (reverse values.old.items) 0) × (values.new.items ≡ values.old.items)) }
+    ensures same { memory.new ≡ memory.old }
     ensures room { vec_capacity values.new ≡ vec_capacity values.old }
 {
     let base = operand(values, 0) as u32;
+    memory.reach(base, memarg.offset);
     match read(memory, operator, memarg, base) {
         Some(x) => {
             replace(values, 1, x);

@@ -16,6 +16,7 @@ pub mod operands;
 pub mod operators;
 pub mod pending;
 pub mod phase;
+mod reads;
 pub mod stores;
 pub mod tables;
 pub mod unary;

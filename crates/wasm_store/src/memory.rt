@@ -291,6 +291,54 @@ impl Memory {
         self.bytes.get(start..start + len as usize)
     }
 
+    /// The byte at a base and an offset, where it is in the first part.
+    pub fn first_u8(&self, base: u32, offset: u32) -> Option<u8>
+        ensures { IfSome result (λ x. (base + offset + 1 ≤ length self.now)
+            × (x ≡ from_bytes (bytes_at self.now (base + offset) 1))) }
+    {
+        let bytes = self.access(base, offset, 1)?;
+        Some(bytes[0])
+    }
+
+    /// The number of 2 bytes from a base and an offset, where they are in the first part.
+    pub fn first_u16(&self, base: u32, offset: u32) -> Option<u16>
+        ensures { IfSome result (λ x. (base + offset + 2 ≤ length self.now)
+            × (x ≡ from_bytes (bytes_at self.now (base + offset) 2))) }
+    {
+        let bytes = self.access(base, offset, 2)?;
+        Some(LittleEndian::read_u16(bytes))
+    }
+
+    /// The number of 4 bytes from a base and an offset, where they are in the first part.
+    pub fn first_u32(&self, base: u32, offset: u32) -> Option<u32>
+        ensures { IfSome result (λ x. (base + offset + 4 ≤ length self.now)
+            × (x ≡ from_bytes (bytes_at self.now (base + offset) 4))) }
+    {
+        let bytes = self.access(base, offset, 4)?;
+        Some(LittleEndian::read_u32(bytes))
+    }
+
+    /// The number of 8 bytes from a base and an offset, where they are in the first part.
+    pub fn first_u64(&self, base: u32, offset: u32) -> Option<u64>
+        ensures { IfSome result (λ x. (base + offset + 8 ≤ length self.now)
+            × (x ≡ from_bytes (bytes_at self.now (base + offset) 8))) }
+    {
+        let bytes = self.access(base, offset, 8)?;
+        Some(LittleEndian::read_u64(bytes))
+    }
+
+    /// The first part reaches to 8 bytes from a base and an offset on, or to the end of memory, so that what is read there next is in
+    /// it. Memory doesn't show that.
+    #[inline(never)]
+    pub fn reach(&mut self, base: u32, offset: u32)
+        ensures { self.new ≡ self.old }
+    {
+        let start = base as usize + offset as usize;
+        if start < self.size {
+            touch(&mut self.bytes, self.size, (start + 8).min(self.size));
+        }
+    }
+
     /// The byte from a place on, also behind the first part, where it is in memory.
     #[inline(never)]
     fn load_u8_behind(&self, start: usize) -> Option<u8>
@@ -357,8 +405,8 @@ impl Memory {
             × (x ≡ from_bytes (bytes_at self.now (base + offset) 1))) }
         ensures outside { IfNone result (length self.now < base + offset + 1) }
     {
-        match self.access(base, offset, 1) {
-            Some(bytes) => Some(bytes[0]),
+        match self.first_u8(base, offset) {
+            Some(number) => Some(number),
             None => self.load_u8_behind(base as usize + offset as usize),
         }
     }
@@ -369,8 +417,8 @@ impl Memory {
             × (x ≡ from_bytes (bytes_at self.now (base + offset) 2))) }
         ensures outside { IfNone result (length self.now < base + offset + 2) }
     {
-        match self.access(base, offset, 2) {
-            Some(bytes) => Some(LittleEndian::read_u16(bytes)),
+        match self.first_u16(base, offset) {
+            Some(number) => Some(number),
             None => self.load_u16_behind(base as usize + offset as usize),
         }
     }
@@ -381,8 +429,8 @@ impl Memory {
             × (x ≡ from_bytes (bytes_at self.now (base + offset) 4))) }
         ensures outside { IfNone result (length self.now < base + offset + 4) }
     {
-        match self.access(base, offset, 4) {
-            Some(bytes) => Some(LittleEndian::read_u32(bytes)),
+        match self.first_u32(base, offset) {
+            Some(number) => Some(number),
             None => self.load_u32_behind(base as usize + offset as usize),
         }
     }
@@ -393,8 +441,8 @@ impl Memory {
             × (x ≡ from_bytes (bytes_at self.now (base + offset) 8))) }
         ensures outside { IfNone result (length self.now < base + offset + 8) }
     {
-        match self.access(base, offset, 8) {
-            Some(bytes) => Some(LittleEndian::read_u64(bytes)),
+        match self.first_u64(base, offset) {
+            Some(number) => Some(number),
             None => self.load_u64_behind(base as usize + offset as usize),
         }
     }
