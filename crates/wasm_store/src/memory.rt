@@ -247,7 +247,7 @@ impl Memory {
         ensures outside { OnFalse result ((length self.old < address + length bytes.now)
             × (self.new ≡ self.old)) }
     {
-        self.put(address as usize, bytes)
+        self.put_before(address as usize, bytes)
     }
 
     /// Writes these bytes from a place on, or nothing where they would pass the end.
