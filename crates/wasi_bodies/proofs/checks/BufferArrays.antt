@@ -10,7 +10,7 @@ use Rattle.std.proofs.lemmas.List.Sums.{sum_by-cons, sum_by-append}
 use Rattle.std.specs.List.{list_all}
 use Rattle.byteorder.specs.Endian.{little_number}
 use Rattle.byteorder.specs.Numbers.{little_from-take}
-use Rattle.wasm_store.specs.Bytes.{bytes_at, filled}
+use Rattle.wasm_store.specs.Bytes.{bytes_at, filled, from_bytes}
 use Rattle.vol_body.specs.Source as source
 use Rattle.vol_body.specs.declared.source.MemorySpan.{MemorySpan}
 use Rattle.vol_body.specs.declared.writing.TheConstants.{PIECE}
@@ -125,7 +125,14 @@ source_taken memory bs len inside is =
       least ∙ sym (length-take PIECE all),
     )
 
--- ---- an array that is read an entry at a time
+-- ---- an array that is read a number at a time
+
+number_of_four : (l : List ℕ) → 4 ≤ length l → from_bytes (take 4 l) ≡ little_number 4 l
+number_of_four [] h = absurd (omega arith)
+number_of_four (a ∷ []) h = absurd (omega arith)
+number_of_four (a ∷ b ∷ []) h = absurd (omega arith)
+number_of_four (a ∷ b ∷ c ∷ []) h = absurd (omega arith)
+number_of_four (a ∷ b ∷ c ∷ d ∷ rest) h = refl
 
 entry_taken : (n : ℕ) (xs : List ℕ) → 8 ≤ n → buffer_at (take n xs) ≡ buffer_at xs
 entry_taken n xs h =
@@ -135,11 +142,19 @@ entry_taken n xs h =
     ∙ ap (little_number 4) (drop-take 4 (n - 4) xs) ∙ little_from-take 0 4 (n - 4) (drop 4 xs) (omega arith) in
     λ i. (pointer i, len i)
 
-pub entry_read : (m : List ℕ) (iovs count i : ℕ) → i < count → buffer_at (bytes_at m (iovs + 8 * i) 8) ≡ buffer_at (drop (8 * i) (bytes_at m iovs (8 * count)))
-entry_read m iovs count i below =
+pub entry_read : (m : List ℕ) (iovs count i pointer len : ℕ) → i < count → iovs + 8 * count ≤ length m
+    → pointer ≡ from_bytes (bytes_at m (iovs + 8 * i) 4) → len ≡ from_bytes (bytes_at m (iovs + (8 * i + 4)) 4)
+    → ◌≡◌ {A = Buffer} (pointer, len) (buffer_at (drop (8 * i) (bytes_at m iovs (8 * count))))
+entry_read m iovs count i pointer len below inside first second =
     let left : ℕ = 8 * count - 8 * i in
     let whole : 8 * count ≡ 8 * i + left = omega arith in
-    entry_taken 8 (drop (iovs + 8 * i) m) (omega arith) ∙ sym (ap (λ (k : ℕ). buffer_at (drop (8 * i) (take k (drop iovs m)))) whole
+    let here = length-drop (iovs + 8 * i) m in
+    let there = length-drop (iovs + (8 * i + 4)) m in
+    let four : iovs + 8 * i + 4 ≡ iovs + (8 * i + 4) = omega arith in
+    let one : pointer ≡ little_number 4 (drop (iovs + 8 * i) m) = first ∙ number_of_four (drop (iovs + 8 * i) m) (omega (arith, here)) in
+    let two : len ≡ little_number 4 (drop 4 (drop (iovs + 8 * i) m)) = second ∙ number_of_four (drop (iovs + (8 * i + 4)) m) (omega (arith, there))
+    ∙ sym (ap (little_number 4) (drop-drop 4 (iovs + 8 * i) m ∙ ap (λ (k : ℕ). drop k m) four)) in
+    (λ j. (one j, two j)) ∙ sym (ap (λ (k : ℕ). buffer_at (drop (8 * i) (take k (drop iovs m)))) whole
     ∙ ap buffer_at (drop-take (8 * i) left (drop iovs m)) ∙ entry_taken left (drop (8 * i) (drop iovs m)) (omega arith)
     ∙ ap buffer_at (drop-drop (8 * i) iovs m))
 

@@ -1,8 +1,7 @@
 //! Buffers of the guest, which a call names by an array of them.
 
-ghost use Rattle.std.specs.Prelude.{◌≡◌, ◌<◌, ◌≤◌, ◌+◌, ◌-◌, ◌*◌, ◌^◌, nat_le, length, take, drop, true, Ok, Err, OnOk, MatchResult, vec_len, vec_capacity};
+ghost use Rattle.std.specs.Prelude.{◌≡◌, ◌<◌, ◌≤◌, ◌+◌, ◌-◌, ◌*◌, ◌^◌, nat_le, length, true, Ok, Err, OnOk, MatchResult, vec_len, vec_capacity};
 ghost use Rattle.std.specs.List.{list_all};
-ghost use Rattle.byteorder.specs.Endian.{little_number};
 ghost use Rattle.std.specs.Borrow.{sem};
 ghost use Rattle.wasm_store.specs.Bytes.{bytes_at};
 ghost use Rattle.wasm_store.specs.Lending.{Stays};
@@ -11,7 +10,6 @@ ghost use Rattle.wasi_bodies.specs.internal.checks.Buffers.{pair_of, list_of, fi
 
 use crate::arguments::{descriptor, word};
 use crate::checks::{check_range, check_that};
-use byteorder::{ByteOrder, LittleEndian};
 use vol_tree::MemorySpan;
 use wasi_fd::Fd;
 use wasm_store::{Errno, Memory};
@@ -21,17 +19,6 @@ pub const MOST_BUFFERS: usize = 1_024;
 
 /// How many bytes of an array stand for a buffer.
 const ENTRY_BYTES: u32 = 8;
-
-/// The buffer that an array begins with.
-fn buffer_in(array: &[u8]) -> MemorySpan
-    requires { 8 ≤ length array.now }
-    ensures { pair_of result ≡ (little_number 4 array.now, little_number 4 (drop 4 array.now)) }
-{
-    MemorySpan {
-        pointer: LittleEndian::read_u32(array),
-        len: LittleEndian::read_u32(&array[4..]),
-    }
-}
 
 /// How many bytes all of them have.
 pub fn total_len(buffers: &[MemorySpan]) -> u64
@@ -70,12 +57,15 @@ fn read_array(room: &mut Vec<MemorySpan>, memory: &Memory, iovs: u32, count: u32
     ensures place { vec_capacity room.new ≡ vec_capacity room.old }
 {
     room.clear();
-    for index in 0..count as usize {
-        let mut entry = [0; ENTRY_BYTES as usize];
-        if !memory.read(iovs as usize + ENTRY_BYTES as usize * index, &mut entry) {
+    for index in 0..count {
+        let at = ENTRY_BYTES * index;
+        let Some(pointer) = memory.load_u32(iovs, at) else {
             unreachable!()
-        }
-        room.push_reserved(buffer_in(&entry));
+        };
+        let Some(len) = memory.load_u32(iovs, at + 4) else {
+            unreachable!()
+        };
+        room.push_reserved(MemorySpan { pointer, len });
     }
 }
 
