@@ -297,7 +297,7 @@ fn way_of_locked<R: Files>(
 }
 
 /// What is there under a name, or a file that is made there.
-fn there<R: Files<File = File>>(rt: &R, path: &str, old: Option<File>) -> io::Result<File>
+fn there_or_made<R: Files<File = File>>(rt: &R, path: &str, old: Option<File>) -> io::Result<File>
     ensures { MatchResult result (IsThere path.now old) (λ _. IsNotOpened path.now) }
 {
     match old {
@@ -577,7 +577,7 @@ impl Replacement {
             (bytes_of contents.entry)) }
     {
         let Replacement { path, old, .. } = self;
-        let file = there(rt, path.as_str(), old)?;
+        let file = there_or_made(rt, path.as_str(), old)?;
         overwrite(rt, path.as_str(), &file, contents)
     }
 }

@@ -56,7 +56,7 @@ fn text_of<L: Links>(
 }
 
 /// The same, where any failure is that memory was refused.
-fn text_in_memory<L: Links>(
+fn text_or_no_memory<L: Links>(
     alloc: Global,
     links: &L,
     bytes: &[u8],
@@ -92,7 +92,7 @@ pub fn survey<L: Links, W: Outlet>(
     ensures heard { HearsPrinting error_kind (Moves W.took) (Refuses W.took W.refused) result
         out.old out.new }
 {
-    match text_in_memory(alloc, links, bytes, profile) {
+    match text_or_no_memory(alloc, links, bytes, profile) {
         Ok((text, outcome)) => match print_all(out, text.as_slice()) {
             Ok(()) => Ok(outcome),
             Err(error) => Err(error),

@@ -1,7 +1,8 @@
 //! The volume of a run.
 
 ghost use Rattle.std.specs.Prelude.{IfOk, IfErr};
-ghost use Rattle.vol_commands.specs.Going.{OpensWithin, device_of_opening};
+ghost use Rattle.vol_tree.specs.Handing.{device_opened};
+ghost use Rattle.vol_commands.specs.Going.{OpensWithin};
 ghost use Rattle.vol_commands.specs.Volumes.{IsOpenFor, IsRefusedFor};
 
 use std::alloc::Global;
@@ -20,7 +21,7 @@ pub(crate) fn open_for_run<D: Device>(
     ensures refused { IfErr result (IsRefusedFor D.honest D.disk D.size D.failures file.entry
         device) }
     ensures goes_on { OpensWithin D.honest D.disk D.size D.goes_on FRESH_SECTORS file.entry device
-        (device_of_opening result) }
+        (device_opened result) }
 {
     match file {
         Some(_) => Volume::open(alloc, device),

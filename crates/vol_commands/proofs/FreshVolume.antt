@@ -13,9 +13,9 @@ use Rattle.vol_tree.specs.Tree.{Tree}
 use Rattle.vol_tree.specs.Stands.{StandsAs, empty_tree}
 use Rattle.vol_tree.specs.Fresh.{IsNoneOrEmpty}
 use Rattle.vol_tree.specs.Opened.{Opened}
-use Rattle.vol_tree.specs.Opening.{StandsOn, NoVolumeOn, HasNoVersion, IsDamaged, HoldsOn}
+use Rattle.vol_tree.specs.Opening.{StandsOn, NoVolumeOn, HasNoVersion, IsDamaged}
+use Rattle.vol_tree.specs.Handing.{IsOpened, IsRightly, KeepsDevice, LeavesRefused, device_opened, is_device_refused}
 use Rattle.vol_tree.proofs.OneTree.{one_volume, same_superblock, version_is}
-use Rattle.vol_commands.specs.Doing.{HoldsNothing}
 use Rattle.vol_commands.specs.Volumes.{fresh_numbers, FreshRefusedBy, IsFresh, IsFreshRefused, IsRefused}
 use Rattle.vol_commands.proofs.Opened.{damage_is, refused_by}
 use Rattle.vol_commands.proofs.Refusals.{holds_nothing}
@@ -92,25 +92,21 @@ module _ {D : Type 0} (is_honest : D → Type 0) (disk : D → Disk) (sectors_on
 
   -- what `open` says of a refusal
   pub refused_open : (device : D) (r : Answer)
-      → (is_honest device → IfErr r (λ e. e.fault ≡ fault.NotAVolume → NoVolumeOn (sectors_on device) (disk device).seen))
-      → (is_honest device → IfErr r (λ e. e.fault ≡ fault.Version → HasNoVersion (sectors_on device) (disk device).seen))
-      → (is_honest device → IfErr r (λ e. IsDamage e.fault → IsDamaged (sectors_on device) (disk device).seen))
-      → IfErr r (λ e. Named e.fault)
-      → ((v : Superblock) (T : Tree) → is_honest device → StandsOn (sectors_on device) (disk device).seen v T → IfErr r (λ e. Leaves (disk device) (disk e.device) (λ c. StandsAs c v T)))
-      → (is_honest device → HoldsNothing (sectors_on device) (disk device).seen → IfErr r (λ e. Leaves (disk device) (disk e.device) (λ c. ⊥)))
-      → ((v : Superblock) (m : Image) → is_honest device → HoldsOn (sectors_on device) (disk device).seen v m → IfErr r (λ e. HoldsOn (sectors_on device) (disk e.device).seen v m × Leaves (disk device) (disk e.device) (λ c. HoldsOn (sectors_on device) c v m)))
-      → IfErr r (λ e. (is_honest device ↔ is_honest e.device) × (sectors_on e.device ≡ sectors_on device) × (failures e.device ≡ counted (is_device e.fault) (failures device)))
+      → IfErr r (IsRightly is_honest disk sectors_on device)
+      → ((v : Superblock) (T : Tree) → is_honest device → StandsOn (sectors_on device) (disk device).seen v T → Leaves (disk device) (disk (device_opened r)) (λ c. StandsAs c v T))
+      → IfErr r (LeavesRefused is_honest disk sectors_on device)
+      → KeepsDevice is_honest sectors_on failures device (device_opened r) (is_device_refused r)
       → IfErr r (IsRefused is_honest disk sectors_on failures device)
-  refused_open device (Ok v) none version damaged named crash unwritten installs kept = tt
-  refused_open device (Err e) none version damaged named crash unwritten installs kept = record {
-    why = λ h. refused_by e.fault (sectors_on device) (disk device).seen (none h) (version h) (damaged h) named;
+  refused_open device (Ok v) why crash left kept = tt
+  refused_open device (Err e) why crash left kept = record {
+    why = λ h. refused_by e.fault (sectors_on device) (disk device).seen (why.not_a_volume h) (why.version h) (why.damaged h) why.faults_named;
     crash = crash;
-    unwritten = λ h is. unwritten h (holds_nothing (sectors_on device) (disk device).seen e.fault (none h) (version h) is);
-    untouched = unwritten;
-    installs = λ v m h holds. (installs v m h holds).1;
-    honest = kept.0;
-    size = kept.1;
-    failed = kept.2;
+    unwritten = λ h is. left.unwritten h (holds_nothing (sectors_on device) (disk device).seen e.fault (why.not_a_volume h) (why.version h) is);
+    untouched = left.unwritten;
+    installs = λ v m h holds. (left.installs v m h holds).1;
+    honest = kept.honest;
+    size = kept.size;
+    failed = kept.failures;
   }
 
   module _ (device made : D) (honest : is_honest device ↔ is_honest made) (size : sectors_on made ≡ sectors_on device) (none_failed : failures made ≡ failures device) (room : 202 ≤ sectors_on device)
@@ -123,42 +119,37 @@ module _ {D : Type 0} (is_honest : D → Type 0) (disk : D → Disk) (sectors_on
 
     -- of the opening of a device that was made an empty volume
     pub fresh_refused : (r : Answer)
-        → (is_honest made → IfErr r (λ e. e.fault ≡ fault.NotAVolume → NoVolumeOn (sectors_on made) (disk made).seen))
-        → (is_honest made → IfErr r (λ e. e.fault ≡ fault.Version → HasNoVersion (sectors_on made) (disk made).seen))
-        → (is_honest made → IfErr r (λ e. IsDamage e.fault → IsDamaged (sectors_on made) (disk made).seen))
-        → IfErr r (λ e. Named e.fault)
-        → ((v : Superblock) (T : Tree) → is_honest made → StandsOn (sectors_on made) (disk made).seen v T → IfErr r (λ e. Leaves (disk made) (disk e.device) (λ c. StandsAs c v T)))
-        → IfErr r (λ e. (is_honest made ↔ is_honest e.device) × (sectors_on e.device ≡ sectors_on made) × (failures e.device ≡ counted (is_device e.fault) (failures made)))
+        → IfErr r (IsRightly is_honest disk sectors_on made)
+        → ((v : Superblock) (T : Tree) → is_honest made → StandsOn (sectors_on made) (disk made).seen v T → Leaves (disk made) (disk (device_opened r)) (λ c. StandsAs c v T))
+        → KeepsDevice is_honest sectors_on failures made (device_opened r) (is_device_refused r)
         → IfErr r (IsFreshRefused is_honest disk sectors_on failures device)
-    fresh_refused (Ok v) none version damaged named crash kept = tt
-    fresh_refused (Err e) none version damaged named crash kept = record {
+    fresh_refused (Ok v) why crash kept = tt
+    fresh_refused (Err e) why crash kept = record {
       why = λ h. let now = honest.0 h in
           subst (λ (n : ℕ). FreshRefusedBy e.fault n) size
-          (fresh_refused_by e.fault (sectors_on made) (disk made).seen (empty_tree 16) (omega (arith, size, room)) (empty h) (none now) (version now) (damaged now) named);
+          (fresh_refused_by e.fault (sectors_on made) (disk made).seen (empty_tree 16) (omega (arith, size, room)) (empty h) (why.not_a_volume now) (why.version now) (why.damaged now) why.faults_named);
       crash = λ h. then_crash e.device h (crash fresh_numbers (empty_tree 16) (honest.0 h) (here h));
-      untouched = λ small. absurd (never_small e.fault small named);
-      honest = (λ h. kept.0.0 (honest.0 h), λ h. honest.1 (kept.0.1 h));
-      size = kept.1 ∙ size;
-      failed = kept.2 ∙ ap (counted (is_device e.fault)) none_failed;
+      untouched = λ small. absurd (never_small e.fault small why.faults_named);
+      honest = (λ h. kept.honest.0 (honest.0 h), λ h. honest.1 (kept.honest.1 h));
+      size = kept.size ∙ size;
+      failed = kept.failures ∙ ap (counted (is_device e.fault)) none_failed;
     }
 
     pub fresh_opened : (r : Answer)
-        → (is_honest made → IfOk r (λ v. StandsOn (sectors_on made) (disk made).seen v.numbers v.tree))
-        → IfOk r (λ v. v.failed ≡ false)
-        → (is_honest made → IfOk r (λ v. (c : Image) → (disk v.device).may_leave c → StandsAs c v.numbers v.tree))
-        → ((v : Superblock) (T : Tree) → is_honest made → StandsOn (sectors_on made) (disk made).seen v T → IfOk r (λ o. Leaves (disk made) (disk o.device) (λ c. StandsAs c v T)))
-        → IfOk r (λ v. (is_honest made ↔ is_honest v.device) × (sectors_on v.device ≡ sectors_on made) × (failures v.device ≡ failures made))
+        → IfOk r (IsOpened is_honest disk sectors_on made)
+        → ((v : Superblock) (T : Tree) → is_honest made → StandsOn (sectors_on made) (disk made).seen v T → Leaves (disk made) (disk (device_opened r)) (λ c. StandsAs c v T))
+        → KeepsDevice is_honest sectors_on failures made (device_opened r) (is_device_refused r)
         → IfOk r (IsFresh is_honest disk sectors_on failures device)
-    fresh_opened (Err e) stands works lasts crash kept = tt
-    fresh_opened (Ok v) stands works lasts crash kept = record {
-      numbers = λ h. same_numbers (disk made).seen v.numbers v.tree (empty_tree 16) (stands (honest.0 h)).stands (empty h);
-      empty = λ h. same_empty (disk made).seen v.numbers v.tree (empty_tree 16) (stands (honest.0 h)).stands (empty h);
+    fresh_opened (Err e) opens crash kept = tt
+    fresh_opened (Ok v) opens crash kept = record {
+      numbers = λ h. same_numbers (disk made).seen v.numbers v.tree (empty_tree 16) (opens.stands (honest.0 h)).stands (empty h);
+      empty = λ h. same_empty (disk made).seen v.numbers v.tree (empty_tree 16) (opens.stands (honest.0 h)).stands (empty h);
       working = record {
-        works = works;
-        lasts = λ h. lasts (honest.0 h);
-        honest = (λ h. kept.0.0 (honest.0 h), λ h. honest.1 (kept.0.1 h));
-        size = kept.1 ∙ size;
-        none_failed = kept.2 ∙ none_failed;
+        works = opens.working;
+        lasts = λ h. opens.durable (honest.0 h);
+        honest = (λ h. kept.honest.0 (honest.0 h), λ h. honest.1 (kept.honest.1 h));
+        size = kept.size ∙ size;
+        none_failed = kept.failures ∙ none_failed;
       };
       crash = λ h. then_crash v.device h (crash fresh_numbers (empty_tree 16) (honest.0 h) (here h));
     }

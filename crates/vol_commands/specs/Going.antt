@@ -1,12 +1,10 @@
 -- Which sectors of a device a task doesn't write: those past the volume (`docs/VOLUME.md`, "Sectors"). Each public call
 -- promises that the device goes on from the one that it was given (`goes_on` of the trait `Device`), with a bound that is
 -- not below the end of the volume: `KeepsWithin` of the volume that stands there, `FormatsWithin` of the one that is made.
-use Rattle.std.specs.Prelude.{◌⊎◌, ◌≤◌, ℕ, Option, Some, None, Result, Ok, Err}
+use Rattle.std.specs.Prelude.{◌⊎◌, ◌≤◌, ℕ, Option, Some, None}
 use Rattle.std.specs.Borrow.{Bor}
 use Rattle.vol_sector.specs.Disk.{Disk}
 use Rattle.vol_sector.specs.Past.{StillGoesOn}
-use Rattle.vol_sector.specs.declared.fault.Refused.{Refused}
-use Rattle.vol_tree.specs.Opened.{Opened}
 use Rattle.vol_tree.specs.Opening.{IsPast}
 use Rattle.sandbox_args.specs.Request.{Text}
 
@@ -27,8 +25,3 @@ FormatsWithin is_honest sectors_on goes_on sectors device left = (end : ℕ) →
 abbrev pub OpensWithin : {D : Type 0} → (D → Type 0) → (D → Disk) → (D → ℕ) → (ℕ → D → D → Type 0) → ℕ → Option (Bor Text) → D → D → Type 0
 OpensWithin is_honest disk sectors_on goes_on sectors (Some file) device left = KeepsWithin is_honest disk sectors_on goes_on device left
 OpensWithin is_honest disk sectors_on goes_on sectors None device left = FormatsWithin is_honest sectors_on goes_on sectors device left
-
--- the device of the volume, or the one that a refusal hands back
-abbrev pub device_of_opening : {D : Type 0} → Result (Opened D) (Refused D) → D
-device_of_opening (Ok v) = v.device
-device_of_opening (Err refused) = refused.device

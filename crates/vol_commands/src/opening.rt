@@ -1,7 +1,8 @@
 //! The volume of a run that names none.
 
 ghost use Rattle.std.specs.Prelude.{IfOk, IfErr};
-ghost use Rattle.vol_commands.specs.Going.{FormatsWithin, device_of_opening};
+ghost use Rattle.vol_tree.specs.Handing.{device_opened};
+ghost use Rattle.vol_commands.specs.Going.{FormatsWithin};
 ghost use Rattle.vol_commands.specs.Volumes.{IsFresh, IsFreshRefused};
 
 use std::alloc::Global;
@@ -20,7 +21,7 @@ pub fn open_fresh<D: Device>(alloc: Global, device: D) -> Result<Volume<D>, Refu
     ensures opens { IfOk result (IsFresh D.honest D.disk D.size D.failures device) }
     ensures refused { IfErr result (IsFreshRefused D.honest D.disk D.size D.failures device) }
     ensures goes_on { FormatsWithin D.honest D.size D.goes_on FRESH_SECTORS device
-        (device_of_opening result) }
+        (device_opened result) }
 {
     match Volume::format(device, FRESH_SECTORS, FRESH_SLOTS) {
         Ok(device) => Volume::open(alloc, device),

@@ -15,5 +15,6 @@ pub mod Opened
 pub mod Clauses
 pub mod Stats
 pub mod Opening
+pub mod Handing
 pub mod Parts
 pub mod internal

@@ -2,11 +2,11 @@
 
 ghost use Rattle.std.specs.Prelude.{◌≡◌, ◌≤◌, ◌<◌, ◌+◌, ◌↔◌, ℕ, OnOk, IfOk, IfErr, Err, is_err};
 ghost use Rattle.vol_sector.specs.Disk.{After, Wrote, Leaves, Only, put, counted};
-ghost use Rattle.vol_sector.specs.Fault.{is_device};
 ghost use Rattle.vol_tree.specs.Superblock.{HasRanges};
 ghost use Rattle.vol_tree.specs.Stands.{StandsAs, empty_tree};
 ghost use Rattle.vol_tree.specs.Fresh.{fresh, fresh_as};
 ghost use Rattle.vol_sector.specs.Past.{LeavesPast, StillGoesOn};
+ghost use Rattle.vol_tree.specs.Handing.{KeepsDevice, device_formatted, is_device_refused};
 ghost use Rattle.vol_tree.specs.internal.Formatting.{root_entry, fresh_slot, HasFreshSlots, IsFresh};
 ghost use Rattle.vol_tree.specs.Fresh.{IsNoneOrEmpty};
 ghost use Rattle.vol_tree.specs.internal.Formatting.{OnlyAfterLogChanges, OnlyAfterFrontChanges};
@@ -42,26 +42,16 @@ impl<D: Device> Volume<D> {
         ensures empty { D.honest device
             → IfOk result (λ d. StandsAs (D.disk d).seen (fresh sectors slots) (empty_tree slots)) }
         // At any moment a crash leaves what it could leave before, or no volume, or the empty one.
-        ensures crash_ok { D.honest device → IfOk result (λ d. Leaves (D.disk device) (D.disk d)
-            (IsNoneOrEmpty (fresh sectors slots))) }
-        ensures crash_err { D.honest device
-            → IfErr result (λ r. Leaves (D.disk device) (D.disk r.device)
-            (IsNoneOrEmpty (fresh sectors slots))) }
+        ensures crash { D.honest device → Leaves (D.disk device)
+            (D.disk (device_formatted result)) (IsNoneOrEmpty (fresh sectors slots)) }
         // What the device has past the volume's sectors stays, and none of it is written.
-        ensures past_ok { D.honest device
-            → IfOk result (λ d. LeavesPast sectors (D.disk device) (D.disk d)) }
-        ensures past_err { D.honest device
-            → IfErr result (λ r. LeavesPast sectors (D.disk device) (D.disk r.device)) }
-        ensures kept_ok { IfOk result (λ d. (D.honest device ↔ D.honest d)
-            × (D.size d ≡ D.size device) × (D.failures d ≡ D.failures device)) }
+        ensures past { D.honest device
+            → LeavesPast sectors (D.disk device) (D.disk (device_formatted result)) }
         // It is refused as `Device` only where an operation failed.
-        ensures kept_err { IfErr result (λ r. (D.honest device ↔ D.honest r.device)
-            × (D.size r.device ≡ D.size device)
-            × (D.failures r.device ≡ counted (is_device r.fault) (D.failures device))) }
-        ensures goes_on_ok { IfOk result (λ d. (end : ℕ) → sectors ≤ end
-            → StillGoesOn (D.goes_on end) device d) }
-        ensures goes_on_err { IfErr result (λ r. (end : ℕ) → sectors ≤ end
-            → StillGoesOn (D.goes_on end) device r.device) }
+        ensures kept { KeepsDevice D.honest D.size D.failures device (device_formatted result)
+            (is_device_refused result) }
+        ensures goes_on { (end : ℕ) → sectors ≤ end
+            → StillGoesOn (D.goes_on end) device (device_formatted result) }
     {
         Volume::format_as(device, Version::One, sectors, slots)
     }
@@ -94,26 +84,16 @@ impl<D: Device> Volume<D> {
         ensures empty { D.honest device → IfOk result
             (λ d. StandsAs (D.disk d).seen (fresh_as version sectors slots) (empty_tree slots)) }
         // At any moment a crash leaves what it could leave before, or no volume, or the empty one.
-        ensures crash_ok { D.honest device → IfOk result (λ d. Leaves (D.disk device) (D.disk d)
-            (IsNoneOrEmpty (fresh_as version sectors slots))) }
-        ensures crash_err { D.honest device
-            → IfErr result (λ r. Leaves (D.disk device) (D.disk r.device)
-            (IsNoneOrEmpty (fresh_as version sectors slots))) }
+        ensures crash { D.honest device → Leaves (D.disk device)
+            (D.disk (device_formatted result)) (IsNoneOrEmpty (fresh_as version sectors slots)) }
         // What the device has past the volume's sectors stays, and none of it is written.
-        ensures past_ok { D.honest device
-            → IfOk result (λ d. LeavesPast sectors (D.disk device) (D.disk d)) }
-        ensures past_err { D.honest device
-            → IfErr result (λ r. LeavesPast sectors (D.disk device) (D.disk r.device)) }
-        ensures kept_ok { IfOk result (λ d. (D.honest device ↔ D.honest d)
-            × (D.size d ≡ D.size device) × (D.failures d ≡ D.failures device)) }
+        ensures past { D.honest device
+            → LeavesPast sectors (D.disk device) (D.disk (device_formatted result)) }
         // It is refused as `Device` only where an operation failed.
-        ensures kept_err { IfErr result (λ r. (D.honest device ↔ D.honest r.device)
-            × (D.size r.device ≡ D.size device)
-            × (D.failures r.device ≡ counted (is_device r.fault) (D.failures device))) }
-        ensures goes_on_ok { IfOk result (λ d. (end : ℕ) → sectors ≤ end
-            → StillGoesOn (D.goes_on end) device d) }
-        ensures goes_on_err { IfErr result (λ r. (end : ℕ) → sectors ≤ end
-            → StillGoesOn (D.goes_on end) device r.device) }
+        ensures kept { KeepsDevice D.honest D.size D.failures device (device_formatted result)
+            (is_device_refused result) }
+        ensures goes_on { (end : ℕ) → sectors ≤ end
+            → StillGoesOn (D.goes_on end) device (device_formatted result) }
     {
         let numbers = Superblock {
             version,

@@ -1,14 +1,15 @@
 //! New volumes that are open at once.
 
-ghost use Rattle.std.specs.Prelude.{ℕ, ◌≡◌, ◌⊎◌, ◌≤◌, ◌<◌, ◌+◌, ◌↔◌, IfOk, IfErr, Err, false};
-ghost use Rattle.vol_sector.specs.Disk.{Image, Leaves, counted};
+ghost use Rattle.std.specs.Prelude.{ℕ, ◌≡◌, ◌⊎◌, ◌≤◌, ◌<◌, ◌+◌, ◌↔◌, IfOk, IfErr, Err};
+ghost use Rattle.vol_sector.specs.Disk.{Image, Leaves};
 ghost use Rattle.vol_sector.specs.Past.{StillGoesOn};
-ghost use Rattle.vol_sector.specs.Fault.{is_device, IsDamage};
+ghost use Rattle.vol_sector.specs.Fault.{IsDamage};
 ghost use Rattle.vol_alloc.specs.Alloc.{first_of, end_of};
 ghost use Rattle.vol_dirs.specs.Names.{slots_of};
 ghost use Rattle.vol_tree.specs.Superblock.{HasRanges};
 ghost use Rattle.vol_tree.specs.Stands.{StandsAs, empty_tree};
 ghost use Rattle.vol_tree.specs.Fresh.{fresh, IsNoneOrEmpty};
+ghost use Rattle.vol_tree.specs.Handing.{IsNew, KeepsDevice, device_opened, is_device_refused};
 ghost use Rattle.vol_tree.specs.internal.Formatting.{HasFreshSlots};
 ghost use Rattle.vol_tree.specs.internal.Reads.{HasParts};
 
@@ -47,27 +48,15 @@ impl<D: Device> Volume<D> {
             ⊎ ((r.fault ≡ VolumeFault.Device) ⊎ (r.fault ≡ VolumeFault.Memory))) }
         ensures undamaged { D.honest device
             → IfErr result (λ r. IsDamage r.fault → ⊥) }
-        ensures numbers { IfOk result (λ v. v.numbers ≡ fresh sectors slots) }
-        ensures working { IfOk result (λ v. v.failed ≡ false) }
-        ensures empty { D.honest device → IfOk result (λ v. v.tree ≡ empty_tree slots) }
-        // At Ok each crash leaves the tree.
-        ensures durable { D.honest device → IfOk result (λ v. (c : Image)
-            → (D.disk v.device).may_leave c → StandsAs c v.numbers v.tree) }
+        ensures makes { IfOk result (IsNew D.honest D.disk D.size device (fresh sectors slots)) }
         // At any moment a crash leaves what it could leave before, or no volume, or the empty one.
-        ensures crash_ok { D.honest device → IfOk result (λ v. Leaves (D.disk device)
-            (D.disk v.device) (IsNoneOrEmpty (fresh sectors slots))) }
-        ensures crash_err { D.honest device → IfErr result (λ r. Leaves (D.disk device)
-            (D.disk r.device) (IsNoneOrEmpty (fresh sectors slots))) }
-        ensures kept_ok { IfOk result (λ v. (D.honest device ↔ D.honest v.device)
-            × (D.size v.device ≡ D.size device) × (D.failures v.device ≡ D.failures device)) }
+        ensures crash { D.honest device → Leaves (D.disk device) (D.disk (device_opened result))
+            (IsNoneOrEmpty (fresh sectors slots)) }
         // It is refused as `Device` only where an operation failed.
-        ensures kept_err { IfErr result (λ r. (D.honest device ↔ D.honest r.device)
-            × (D.size r.device ≡ D.size device)
-            × (D.failures r.device ≡ counted (is_device r.fault) (D.failures device))) }
-        ensures goes_on_ok { IfOk result (λ v. (end : ℕ) → sectors ≤ end
-            → StillGoesOn (D.goes_on end) device v.device) }
-        ensures goes_on_err { IfErr result (λ r. (end : ℕ) → sectors ≤ end
-            → StillGoesOn (D.goes_on end) device r.device) }
+        ensures kept { KeepsDevice D.honest D.size D.failures device (device_opened result)
+            (is_device_refused result) }
+        ensures goes_on { (end : ℕ) → sectors ≤ end
+            → StillGoesOn (D.goes_on end) device (device_opened result) }
     {
         let numbers = Superblock {
             version: Version::One,
@@ -82,9 +71,6 @@ impl<D: Device> Volume<D> {
 }
 
 /// Opens the empty volume that a device holds. Its slots aren't read.
-// So many clauses, since success and refusal hand back different things: what the caller owes (`ranges` to `empty`),
-// when it is refused (`refused`, `undamaged`), the volume (`numbers` to `durable`), what a crash leaves (`crash_ok`,
-// `crash_err`), and what becomes of the device (`kept_ok` to `goes_on_err`).
 fn open_empty<D: Device>(
     alloc: Global,
     device: D,
@@ -97,24 +83,13 @@ fn open_empty<D: Device>(
     ensures refused { IfErr result (λ r. IsDamage r.fault
         ⊎ ((r.fault ≡ VolumeFault.Device) ⊎ (r.fault ≡ VolumeFault.Memory))) }
     ensures undamaged { D.honest device → IfErr result (λ r. IsDamage r.fault → ⊥) }
-    ensures numbers { IfOk result (λ v. v.numbers ≡ numbers) }
-    ensures working { IfOk result (λ v. v.failed ≡ false) }
-    ensures empty { D.honest device → IfOk result (λ v. v.tree ≡ empty_tree numbers.slots) }
-    ensures durable { D.honest device → IfOk result (λ v. (c : Image)
-        → (D.disk v.device).may_leave c → StandsAs c v.numbers v.tree) }
-    ensures crash_ok { D.honest device → IfOk result (λ v. Leaves (D.disk device) (D.disk v.device)
-        (λ c. StandsAs c numbers (empty_tree numbers.slots))) }
-    ensures crash_err { D.honest device → IfErr result (λ r. Leaves (D.disk device)
-        (D.disk r.device) (λ c. StandsAs c numbers (empty_tree numbers.slots))) }
-    ensures kept_ok { IfOk result (λ v. (D.honest device ↔ D.honest v.device)
-        × (D.size v.device ≡ D.size device) × (D.failures v.device ≡ D.failures device)) }
-    ensures kept_err { IfErr result (λ r. (D.honest device ↔ D.honest r.device)
-        × (D.size r.device ≡ D.size device)
-        × (D.failures r.device ≡ counted (is_device r.fault) (D.failures device))) }
-    ensures goes_on_ok { IfOk result (λ v. (end : ℕ) → numbers.sectors ≤ end
-        → StillGoesOn (D.goes_on end) device v.device) }
-    ensures goes_on_err { IfErr result (λ r. (end : ℕ) → numbers.sectors ≤ end
-        → StillGoesOn (D.goes_on end) device r.device) }
+    ensures makes { IfOk result (IsNew D.honest D.disk D.size device numbers) }
+    ensures crash { D.honest device → Leaves (D.disk device) (D.disk (device_opened result))
+        (λ c. StandsAs c numbers (empty_tree numbers.slots)) }
+    ensures kept { KeepsDevice D.honest D.size D.failures device (device_opened result)
+        (is_device_refused result) }
+    ensures goes_on { (end : ℕ) → numbers.sectors ≤ end
+        → StillGoesOn (D.goes_on end) device (device_opened result) }
 {
     let log = match Log::open(alloc, device, numbers.sectors) {
         Ok(log) => log,

@@ -12,9 +12,9 @@ ghost use Rattle.vol_tree.specs.Calls.{created, written, resized, read_bytes, is
 ghost use Rattle.vol_tree.specs.Calls.{unlinked, directory_removed, renamed, next_child};
 ghost use Rattle.vol_tree.specs.Stands.{StandsAs};
 ghost use Rattle.vol_tree.specs.Superblock.{HasRanges, IsOlder};
-ghost use Rattle.vol_tree.specs.Opening.{StandsOn, HoldsOn, NoVolumeOn, HasNoVersion, IsDamaged, IsPast};
+ghost use Rattle.vol_tree.specs.Opening.{StandsOn, IsPast};
+ghost use Rattle.vol_tree.specs.Handing.{IsOpened, IsRightly, KeepsDevice, LeavesRefused, device_opened, is_device_refused};
 ghost use Rattle.vol_tree.specs.declared.superblock.Superblock.{Superblock};
-ghost use Rattle.vol_sector.specs.Fault.{is_device, IsDamage};
 ghost use Rattle.vol_tree.specs.Tree.{Tree};
 ghost use Rattle.vol_tree.specs.Clauses.{Answers, Tells, TellsBytes, MayUpgrade};
 ghost use Rattle.vol_tree.specs.Opened.{Keeps, ReflectsOr};
@@ -71,67 +71,24 @@ impl<D: Device> Volume<D> {
     ///
     /// It may be stopped and begun again any number of times. It takes the memory for all later
     /// calls.
-    // So many clauses, since success and refusal hand back different things: the volume (`stands` to `ranges`), when
-    // each refusal comes (`not_a_volume` to `finds`), what a crash or a refusal leaves (`durable` to `installs`), and
-    // what becomes of the device (`kept_ok` to `goes_on_err`).
     pub fn open(alloc: Global, mut device: D) -> Result<Volume<D>, Refused<D>>
-        // What reads gave stands for the tree, with these numbers.
-        ensures stands { D.honest device → IfOk result
-            (λ v. StandsOn (D.size device) (D.disk device).seen v.numbers v.tree) }
-        ensures working { IfOk result (λ v. v.failed ≡ false) }
-        ensures ranges { IfOk result (λ v. HasRanges v.numbers
-            × (v.numbers.sectors ≤ D.size device)) }
-        // Each refusal but `Device` and `Memory` says what is wrong with what reads gave.
-        ensures not_a_volume { D.honest device → IfErr result
-            (λ r. r.fault ≡ VolumeFault.NotAVolume
-            → NoVolumeOn (D.size device) (D.disk device).seen) }
-        ensures version { D.honest device → IfErr result (λ r. r.fault ≡ VolumeFault.Version
-            → HasNoVersion (D.size device) (D.disk device).seen) }
-        ensures damaged { D.honest device → IfErr result (λ r. IsDamage r.fault
-            → IsDamaged (D.size device) (D.disk device).seen) }
+        ensures opens { IfOk result (IsOpened D.honest D.disk D.size device) }
+        ensures why { IfErr result (IsRightly D.honest D.disk D.size device) }
         ensures few_sectors { D.size device < 137
             → result ≡ Err (record { device = device; fault = VolumeFault.NotAVolume }) }
-        ensures faults_named { IfErr result (λ r. (r.fault ≡ VolumeFault.NotAVolume)
-            ⊎ ((r.fault ≡ VolumeFault.Version) ⊎ (IsDamage r.fault
-            ⊎ ((r.fault ≡ VolumeFault.Device) ⊎ (r.fault ≡ VolumeFault.Memory))))) }
         // So where what reads give stands for a tree, it is opened with that tree, or the device or
         // the memory fails.
         ensures finds { (v : Superblock) (T : Tree) → D.honest device
             → StandsOn (D.size device) (D.disk device).seen v T → MatchResult result
             (λ o. (o.numbers ≡ v) × (o.tree ≡ T))
             (λ r. (r.fault ≡ VolumeFault.Device) ⊎ (r.fault ≡ VolumeFault.Memory)) }
-        // At Ok each crash leaves the tree.
-        ensures durable { D.honest device → IfOk result (λ v. (c : Image)
-            → (D.disk v.device).may_leave c → StandsAs c v.numbers v.tree) }
         // At any moment a crash leaves what it could leave before, or the tree that reads gave.
-        ensures crash_ok { (v : Superblock) (T : Tree) → D.honest device
+        ensures crash { (v : Superblock) (T : Tree) → D.honest device
             → StandsOn (D.size device) (D.disk device).seen v T
-            → IfOk result (λ opened. Leaves (D.disk device) (D.disk opened.device)
-            (λ c. StandsAs c v T)) }
-        ensures crash_err { (v : Superblock) (T : Tree) → D.honest device
-            → StandsOn (D.size device) (D.disk device).seen v T
-            → IfErr result (λ r. Leaves (D.disk device) (D.disk r.device)
-            (λ c. StandsAs c v T)) }
-        // A refusal keeps the tree that reads give, so that another try finds it.
-        ensures kept_tree { (v : Superblock) (T : Tree) → D.honest device
-            → StandsOn (D.size device) (D.disk device).seen v T
-            → IfErr result (λ r. StandsOn (D.size r.device) (D.disk r.device).seen v T) }
-        // Where the first sector or the log's header is wrong, nothing is written.
-        ensures unwritten { D.honest device
-            → ((v : Superblock) (m : Image)
-            → HoldsOn (D.size device) (D.disk device).seen v m → ⊥)
-            → IfErr result (λ r. Leaves (D.disk device) (D.disk r.device) (λ c. ⊥)) }
-        // Else a refusal leaves the first sector and the content as reads gave them.
-        ensures installs { (v : Superblock) (m : Image) → D.honest device
-            → HoldsOn (D.size device) (D.disk device).seen v m
-            → IfErr result (λ r. HoldsOn (D.size device) (D.disk r.device).seen v m
-            × Leaves (D.disk device) (D.disk r.device) (λ c. HoldsOn (D.size device) c v m)) }
-        ensures kept_ok { IfOk result (λ v. (D.honest device ↔ D.honest v.device)
-            × (D.size v.device ≡ D.size device) × (D.failures v.device ≡ D.failures device)) }
-        // It is refused as `Device` only where an operation failed.
-        ensures kept_err { IfErr result (λ r. (D.honest device ↔ D.honest r.device)
-            × (D.size r.device ≡ D.size device)
-            × (D.failures r.device ≡ counted (is_device r.fault) (D.failures device))) }
+            → Leaves (D.disk device) (D.disk (device_opened result)) (λ c. StandsAs c v T) }
+        ensures left { IfErr result (LeavesRefused D.honest D.disk D.size device) }
+        ensures kept { KeepsDevice D.honest D.size D.failures device (device_opened result)
+            (is_device_refused result) }
         // No sector past the volume's own is written.
         ensures goes_on_ok { IfOk result (λ v. (end : ℕ) → v.numbers.sectors ≤ end
             → StillGoesOn (D.goes_on end) device v.device) }

@@ -6,8 +6,8 @@ pub returns-in-Ok-clause-opens : goal.returns-in-Ok-clause-opens
 returns-in-Ok-clause-opens c =
     let made = c.in-Ok.ensures in
     record {
-      numbers = made.numbers;
-      tree = made.empty tt;
-      size = made.kept_ok.1 ∙ (ap length c.in_ok-device.ensures ∙ length-replicate 202 (replicate {A = ℕ} 512 0));
-      working = record { works = made.working; lasts = made.durable tt };
+      numbers = made.makes.numbers;
+      tree = made.makes.empty tt;
+      size = made.kept.size ∙ (ap length c.in_ok-device.ensures ∙ length-replicate 202 (replicate {A = ℕ} 512 0));
+      working = record { works = made.makes.working; lasts = made.makes.durable tt };
     }

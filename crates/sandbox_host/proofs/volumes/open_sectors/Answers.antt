@@ -16,14 +16,14 @@ returns-in-Ok-clause-opens c =
     let d = c.in_ok-device.device in
     let unused = c.in_ok-device.ensures.unused in
     let same : d.sectors ≡ c.args.sectors.now = c.in_ok-device.ensures.sectors in
-    let stood : StandsOn (length d.sectors) (image_of d.sectors) v.numbers v.tree = c.in-Ok.ensures.stands tt in
-    let crash = c.in-Ok.ensures.crash_ok v.numbers v.tree tt stood in
+    let stood : StandsOn (length d.sectors) (image_of d.sectors) v.numbers v.tree = c.in-Ok.ensures.opens.stands tt in
+    let crash = c.in-Ok.ensures.crash v.numbers v.tree tt stood in
     let went = c.in-Ok.ensures.goes_on_ok v.numbers.sectors (omega arith) d (goes_from_itself v.numbers.sectors d) in
     let is_in : IsIn c.args.is_huge c.args.sectors.now v = record {
       few = omega (arith, c.if-sectors-most.false, c.most_sectors-most.ensures.most);
       stands = subst (λ (xs : List (List ℕ)). StandsOn (length xs) (image_of xs) v.numbers v.tree) same stood;
-      size = c.in-Ok.ensures.kept_ok.1 ∙ ap length same;
-      working = record { works = c.in-Ok.ensures.working; lasts = c.in-Ok.ensures.durable tt };
+      size = c.in-Ok.ensures.kept.size ∙ ap length same;
+      working = record { works = c.in-Ok.ensures.opens.working; lasts = c.in-Ok.ensures.opens.durable tt };
       since = λ i left. ⊎_elim (λ first. subst (λ (image : Image). StandsAs image v.numbers v.tree) (sym (unused_leaves d unused.1 unused.2 i first)) stood.stands) (λ is. is)
           (crash.since 0 i (omega arith) left);
     } in
@@ -39,4 +39,4 @@ returns-clause-refused c =
     let e = c.in-Err.ensures in
     let f = c.in-Err.field-0.fault in
     subst (λ (xs : List (List ℕ)). RefusesSectors c.args.is_huge xs f) c.in_ok-device.ensures.sectors
-    (refused_as c.args.is_huge c.in_ok-device.device.sectors f (e.not_a_volume tt) (e.version tt) (e.damaged tt) e.kept_err.2 e.faults_named)
+    (refused_as c.args.is_huge c.in_ok-device.device.sectors f (e.why.not_a_volume tt) (e.why.version tt) (e.why.damaged tt) e.kept.failures e.why.faults_named)

@@ -22,17 +22,17 @@ returns-in-Ok-clause-performs g c =
     let whole : PerformsExport g.D.Device.honest disk g.D.Device.size g.D.Device.failures c.args.path.now c.args.device before printed after c.print_directory-done.result =
     record {
       ends = λ h.
-          let now = opened.kept_ok.0.0 h in
+          let now = opened.kept.honest.0 h in
           inl (record {
             numbers = v.numbers;
             tree = v.tree;
-            stands = opened.stands h;
+            stands = opened.opens.stands h;
             prints = done.prints now;
-            crash = leaves_quiet (disk c.args.device) (disk v.device) (disk after) (λ m. StandsAs m v.numbers v.tree) (opened.crash_ok v.numbers v.tree h (opened.stands h)) (done.asked.crash now);
+            crash = leaves_quiet (disk c.args.device) (disk v.device) (disk after) (λ m. StandsAs m v.numbers v.tree) (opened.crash v.numbers v.tree h (opened.opens.stands h)) (done.asked.crash now);
           });
-      honest = (λ h. done.asked.kept.honest.0 (opened.kept_ok.0.0 h), λ h. opened.kept_ok.0.1 (done.asked.kept.honest.1 h));
-      size = done.asked.kept.size ∙ opened.kept_ok.1;
-      failed = done.asked.kept.failures opened.working ∙ ap (counted (blames_export c.print_directory-done.result)) opened.kept_ok.2;
+      honest = (λ h. done.asked.kept.honest.0 (opened.kept.honest.0 h), λ h. opened.kept.honest.1 (done.asked.kept.honest.1 h));
+      size = done.asked.kept.size ∙ opened.kept.size;
+      failed = done.asked.kept.failures opened.opens.working ∙ ap (counted (blames_export c.print_directory-done.result)) opened.kept.failures;
     } in
     subst (λ (d : g.row.D.Denot). PerformsExport g.D.Device.honest disk g.D.Device.size g.D.Device.failures c.args.path.now c.args.device before printed d c.print_directory-done.result)
     (sym c.into_device.ensures) whole
@@ -46,12 +46,12 @@ returns-in-Err-clause-performs g c =
         refused = c.in-Err.field-0;
         is = refl;
         left_is = refl;
-        refusal = refused_open g.D.Device.honest g.D.Device.disk g.D.Device.size g.D.Device.failures c.args.device (Err c.in-Err.field-0) refused.not_a_volume refused.version refused.damaged refused.faults_named refused.crash_err refused.unwritten refused.installs refused.kept_err;
+        refusal = refused_open g.D.Device.honest g.D.Device.disk g.D.Device.size g.D.Device.failures c.args.device (Err c.in-Err.field-0) refused.why refused.crash refused.left refused.kept;
         prints_nothing = Keeps-refl (g.W.Write.contents c.args.out.now);
       });
-      honest = refused.kept_err.0;
-      size = refused.kept_err.1;
-      failed = refused.kept_err.2;
+      honest = refused.kept.honest;
+      size = refused.kept.size;
+      failed = refused.kept.failures;
     }
 
 -- ---- the sectors past the volume
@@ -59,7 +59,7 @@ returns-in-Err-clause-performs g c =
 pub returns-in-Ok-clause-goes_on : goal.returns-in-Ok-clause-goes_on
 returns-in-Ok-clause-goes_on g c end past first from =
     let opened = c.in-Ok.ensures in
-    let le = past_opened _ _ (g.D.Device.disk c.args.device).seen c.in-Ok.volume.numbers end opened.ranges.0 opened.ranges.1 (λ h. (opened.stands h).stands.front) past in
+    let le = past_opened _ _ (g.D.Device.disk c.args.device).seen c.in-Ok.volume.numbers end opened.opens.ranges.0 opened.opens.ranges.1 (λ h. (opened.opens.stands h).stands.front) past in
     subst (g.D.Device.goes_on end first) (sym c.into_device.ensures) (c.print_directory-done.ensures.asked.goes end le first (opened.goes_on_ok end le first from))
 
 pub returns-in-Err-clause-goes_on : goal.returns-in-Err-clause-goes_on

@@ -9,15 +9,15 @@ pub returns-in-Ok-clause-opens : goal.returns-in-Ok-clause-opens
 returns-in-Ok-clause-opens g c =
     let made = c.in-Ok.ensures in
     let opened = c.open.ensures in
-    fresh_opened g.D.Device.honest g.D.Device.disk g.D.Device.size g.D.Device.failures c.args.device c.in-Ok.device made.kept_ok.0 made.kept_ok.1 made.kept_ok.2 (has_room _ _ _ made.too_small.0) made.empty made.crash_ok
-    c.open.result opened.stands opened.working opened.durable opened.crash_ok opened.kept_ok
+    fresh_opened g.D.Device.honest g.D.Device.disk g.D.Device.size g.D.Device.failures c.args.device c.in-Ok.device made.kept.honest made.kept.size made.kept.failures (has_room _ _ _ made.too_small.0) made.empty made.crash
+    c.open.result opened.opens opened.crash opened.kept
 
 pub returns-in-Ok-clause-refused : goal.returns-in-Ok-clause-refused
 returns-in-Ok-clause-refused g c =
     let made = c.in-Ok.ensures in
     let opened = c.open.ensures in
-    fresh_refused g.D.Device.honest g.D.Device.disk g.D.Device.size g.D.Device.failures c.args.device c.in-Ok.device made.kept_ok.0 made.kept_ok.1 made.kept_ok.2 (has_room _ _ _ made.too_small.0) made.empty made.crash_ok
-    c.open.result opened.not_a_volume opened.version opened.damaged opened.faults_named opened.crash_err opened.kept_err
+    fresh_refused g.D.Device.honest g.D.Device.disk g.D.Device.size g.D.Device.failures c.args.device c.in-Ok.device made.kept.honest made.kept.size made.kept.failures (has_room _ _ _ made.too_small.0) made.empty made.crash
+    c.open.result opened.why opened.crash opened.kept
 
 pub returns-in-Err-clause-refused : goal.returns-in-Err-clause-refused
 returns-in-Err-clause-refused c = grind (arith, common_steps)
@@ -28,8 +28,8 @@ pub returns-in-Ok-clause-goes_on : goal.returns-in-Ok-clause-goes_on
 returns-in-Ok-clause-goes_on g c end past first from =
     let made = c.in-Ok.ensures in
     let opened = c.open.ensures in
-    let here = past_made _ _ _ _ _ 202 16 end made.kept_ok.1 made.kept_ok.0.0 made.empty past in
-    opening_goes g.D.Device.honest g.D.Device.disk g.D.Device.size g.D.Device.goes_on c.in-Ok.device c.open.result end here opened.ranges opened.stands opened.goes_on_ok (opened.goes_on_err end here) first (made.goes_on_ok end past.0 first from)
+    let here = past_made _ _ _ _ _ 202 16 end made.kept.size made.kept.honest.0 made.empty past in
+    opening_goes g.D.Device.honest g.D.Device.disk g.D.Device.size g.D.Device.goes_on c.in-Ok.device c.open.result end here opened.opens opened.goes_on_ok (opened.goes_on_err end here) first (made.goes_on end past.0 first from)
 
 pub returns-in-Err-clause-goes_on : goal.returns-in-Err-clause-goes_on
-returns-in-Err-clause-goes_on g c end past first from = c.in-Err.ensures.goes_on_err end past.0 first from
+returns-in-Err-clause-goes_on g c end past first from = c.in-Err.ensures.goes_on end past.0 first from

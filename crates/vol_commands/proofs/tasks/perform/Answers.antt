@@ -25,21 +25,21 @@ returns-in-Ok-clause-performs g c =
     let whole : Performs g.D.Device.honest disk g.D.Device.size g.D.Device.failures c.args.task c.args.device given unread (out c.args.out.now) (out c.done_with-done.new.out) after c.done_with-done.result =
     record {
       ends = λ h.
-          let now = opened.kept_ok.0.0 h in
+          let now = opened.kept.honest.0 h in
           let these = IsPartOf c.args.task v.numbers v.tree given in
           inl (record {
             numbers = v.numbers;
             tree = v.tree;
-            stands = opened.stands h;
+            stands = opened.opens.stands h;
             new_tree = c.done_with-done.new.volume.tree;
             does = done.does now;
             crash = task_after (disk c.args.device) v.numbers these (disk v.device) (disk after) v.tree (IsRaised c.args.task v.numbers v.tree) (whole_is_part c.args.task v.numbers v.tree given)
-                (opened.crash_ok v.numbers v.tree h (opened.stands h)) (done.crash now);
+                (opened.crash v.numbers v.tree h (opened.opens.stands h)) (done.crash now);
             lasts = done.lasts now;
           });
-      honest = (λ h. done.honest.0 (opened.kept_ok.0.0 h), λ h. opened.kept_ok.0.1 (done.honest.1 h));
-      size = done.size ∙ opened.kept_ok.1;
-      failed = done.failures ∙ ap (counted (blames_device c.done_with-done.result)) opened.kept_ok.2;
+      honest = (λ h. done.honest.0 (opened.kept.honest.0 h), λ h. opened.kept.honest.1 (done.honest.1 h));
+      size = done.size ∙ opened.kept.size;
+      failed = done.failures ∙ ap (counted (blames_device c.done_with-done.result)) opened.kept.failures;
       reads_nothing = done.reads_nothing;
       prints_nothing = done.prints_nothing;
     } in
@@ -54,17 +54,17 @@ returns-in-Err-clause-performs g c =
       ends = λ h. inr (record {
         fault = c.in-Err.field-0.fault;
         is = refl;
-        why = refused_by c.in-Err.field-0.fault (g.D.Device.size c.args.device) (g.D.Device.disk c.args.device).seen (refused.not_a_volume h) (refused.version h) (refused.damaged h) refused.faults_named;
-        crash = λ v T stands. refused.crash_err v T h stands;
-        unwritten = λ is. refused.unwritten h (holds_nothing (g.D.Device.size c.args.device) (g.D.Device.disk c.args.device).seen c.in-Err.field-0.fault (refused.not_a_volume h) (refused.version h) is);
-        untouched = refused.unwritten h;
-        installs = λ v m holds. (refused.installs v m h holds).1;
+        why = refused_by c.in-Err.field-0.fault (g.D.Device.size c.args.device) (g.D.Device.disk c.args.device).seen (refused.why.not_a_volume h) (refused.why.version h) (refused.why.damaged h) refused.why.faults_named;
+        crash = λ v T stands. refused.crash v T h stands;
+        unwritten = λ is. refused.left.unwritten h (holds_nothing (g.D.Device.size c.args.device) (g.D.Device.disk c.args.device).seen c.in-Err.field-0.fault (refused.why.not_a_volume h) (refused.why.version h) is);
+        untouched = refused.left.unwritten h;
+        installs = λ v m holds. (refused.left.installs v m h holds).1;
         reads_nothing = refl;
         prints_nothing = Keeps-refl (g.W.Write.contents c.args.out.now);
       });
-      honest = refused.kept_err.0;
-      size = refused.kept_err.1;
-      failed = refused.kept_err.2;
+      honest = refused.kept.honest;
+      size = refused.kept.size;
+      failed = refused.kept.failures;
       reads_nothing = λ quiet. refl;
       prints_nothing = λ quiet. Keeps-refl (g.W.Write.contents c.args.out.now);
     }
@@ -74,7 +74,7 @@ returns-in-Err-clause-performs g c =
 pub returns-in-Ok-clause-goes_on : goal.returns-in-Ok-clause-goes_on
 returns-in-Ok-clause-goes_on g c end past first from =
     let opened = c.in-Ok.ensures in
-    let le = past_opened _ _ (g.D.Device.disk c.args.device).seen c.in-Ok.volume.numbers end opened.ranges.0 opened.ranges.1 (λ h. (opened.stands h).stands.front) past in
+    let le = past_opened _ _ (g.D.Device.disk c.args.device).seen c.in-Ok.volume.numbers end opened.opens.ranges.0 opened.opens.ranges.1 (λ h. (opened.opens.stands h).stands.front) past in
     subst (g.D.Device.goes_on end first) (sym c.into_device.ensures) (c.done_with-done.ensures.goes_on end le first (opened.goes_on_ok end le first from))
 
 pub returns-in-Err-clause-goes_on : goal.returns-in-Err-clause-goes_on

@@ -20,18 +20,12 @@ returns-in-Err g c =
     record {
       refused = e.faults_named;
       undamaged = λ h is. let st = c.requires.empty h in (e.damaged h is).0 st.content st.log;
-      numbers = tt;
-      working = tt;
-      empty = λ h. tt;
-      durable = λ h. tt;
-      crash_ok = λ h. tt;
-      crash_err = λ h.
+      makes = tt;
+      crash = λ h.
           let st = c.requires.empty h in
           leaves_weaker d0 (g.D.Device.disk c.in-Err.refused.device) _ _ (e.crash_err st.content h st.log) (λ m has. stands_again d0.seen m v (empty_tree v.slots) st has);
-      kept_ok = tt;
-      kept_err = e.kept_err;
-      goes_on_ok = tt;
-      goes_on_err = e.goes_on_err;
+      kept = record { honest = e.kept_err.0; size = e.kept_err.1; failures = e.kept_err.2 };
+      goes_on = e.goes_on_err;
     }
 
 -- ---- it was opened
@@ -75,26 +69,27 @@ returns-in-Ok-empty_parts g c =
     record {
       refused = tt;
       undamaged = λ h. tt;
-      numbers = ap (λ (o : Opened g.row.D.Denot). o.numbers) is;
-      working = ap (λ (o : Opened g.row.D.Denot). o.failed) is ∙ opened.fresh.0;
-      empty = λ h.
-          let st = c.requires.empty h in
-          ap (λ (o : Opened g.row.D.Denot). o.tree) is ∙ found_empty c.args.device log v st (opened.settled h) opened.fresh.1 (opened.content st.content h st.log);
-      durable = λ h.
-          let st = c.requires.empty h in
-          let found = finds_empty c.args.device log v st (opened.settled h) opened.fresh.1 (opened.content st.content h st.log) in
-          subst (λ (o : Opened g.row.D.Denot). (m : Image) → (g.D.Device.disk o.device).may_leave m → StandsAs m o.numbers o.tree) (sym is) (finds_lasting v.sectors d0 d2 (view log) v found);
-      crash_ok = λ h.
+      makes = record {
+        numbers = ap (λ (o : Opened g.row.D.Denot). o.numbers) is;
+        working = ap (λ (o : Opened g.row.D.Denot). o.failed) is ∙ opened.fresh.0;
+        empty = λ h.
+            let st = c.requires.empty h in
+            ap (λ (o : Opened g.row.D.Denot). o.tree) is ∙ found_empty c.args.device log v st (opened.settled h) opened.fresh.1 (opened.content st.content h st.log);
+        durable = λ h.
+            let st = c.requires.empty h in
+            let found = finds_empty c.args.device log v st (opened.settled h) opened.fresh.1 (opened.content st.content h st.log) in
+            subst (λ (o : Opened g.row.D.Denot). (m : Image) → (g.D.Device.disk o.device).may_leave m → StandsAs m o.numbers o.tree) (sym is) (finds_lasting v.sectors d0 d2 (view log) v found);
+      };
+      crash = λ h.
           let st = c.requires.empty h in
           subst (λ d. Leaves d0 (g.D.Device.disk d) (λ m. StandsAs m v (empty_tree v.slots))) (sym device_is)
           (leaves_weaker d0 d2 _ _ (opened.crash_ok st.content h st.log) (λ m has. stands_again d0.seen m v (empty_tree v.slots) st has));
-      crash_err = λ h. tt;
-      kept_ok =
-          subst (λ d. (g.D.Device.honest c.args.device ↔ g.D.Device.honest d) × (g.D.Device.size d ≡ g.D.Device.size c.args.device) × (g.D.Device.failures d ≡ g.D.Device.failures c.args.device))
-          (sym device_is) opened.kept_ok;
-      kept_err = tt;
-      goes_on_ok = λ end le first from. subst (g.D.Device.goes_on end first) (sym device_is) (opened.goes_on_ok end le first from);
-      goes_on_err = tt;
+      kept = record {
+        honest = subst (λ d. g.D.Device.honest c.args.device ↔ g.D.Device.honest d) (sym device_is) opened.kept_ok.0;
+        size = ap g.D.Device.size device_is ∙ opened.kept_ok.1;
+        failures = ap g.D.Device.failures device_is ∙ opened.kept_ok.2;
+      };
+      goes_on = λ end le first from. subst (g.D.Device.goes_on end first) (sym device_is) (opened.goes_on_ok end le first from);
     }
 
 -- ---- there was no memory
@@ -112,19 +107,15 @@ returns-in-Err-empty_parts g c =
     record {
       refused = inr (inr memory);
       undamaged = λ h is. not_damage x (inr memory) is;
-      numbers = tt;
-      working = tt;
-      empty = λ h. tt;
-      durable = λ h. tt;
-      crash_ok = λ h. tt;
-      crash_err = λ h.
+      makes = tt;
+      crash = λ h.
           let st = c.requires.empty h in
           subst (λ d. Leaves d0 (g.D.Device.disk d) (λ m. StandsAs m v (empty_tree v.slots))) (sym c.into_device.ensures)
           (leaves_weaker d0 d2 _ _ (opened.crash_ok st.content h st.log) (λ m has. stands_again d0.seen m v (empty_tree v.slots) st has));
-      kept_ok = tt;
-      kept_err =
-          subst (λ d. (g.D.Device.honest c.args.device ↔ g.D.Device.honest d) × (g.D.Device.size d ≡ g.D.Device.size c.args.device) × (g.D.Device.failures d ≡ counted (is_device x) before))
-          (sym c.into_device.ensures) (opened.kept_ok.0, opened.kept_ok.1, opened.kept_ok.2 ∙ ap (λ (f : VolumeFault). counted (is_device f) before) (sym memory));
-      goes_on_ok = tt;
-      goes_on_err = λ end le first from. subst (g.D.Device.goes_on end first) (sym c.into_device.ensures) (opened.goes_on_ok end le first from);
+      kept = record {
+        honest = subst (λ d. g.D.Device.honest c.args.device ↔ g.D.Device.honest d) (sym c.into_device.ensures) opened.kept_ok.0;
+        size = ap g.D.Device.size c.into_device.ensures ∙ opened.kept_ok.1;
+        failures = ap g.D.Device.failures c.into_device.ensures ∙ opened.kept_ok.2 ∙ ap (λ (f : VolumeFault). counted (is_device f) before) (sym memory);
+      };
+      goes_on = λ end le first from. subst (g.D.Device.goes_on end first) (sym c.into_device.ensures) (opened.goes_on_ok end le first from);
     }

@@ -1,11 +1,11 @@
 use Rattle.std.proofs.Common.{Err, ◌∙◌, inl, inr, refl, sym, ap, arith}
 use Rattle.std.proofs.lemmas.Bool.{cases_lt}
-use Rattle.std.proofs.lemmas.Result.{IfOk-weaker, IfErr-weaker, IfErr-at_err}
+use Rattle.std.proofs.lemmas.Result.{IfOk-weaker, IfErr-at_err}
 use Rattle.vol_sector.specs.Disk.{counted}
-use Rattle.vol_sector.specs.Fault.{is_device}
 use Rattle.vol_sector.specs.declared.fault.VolumeFault.TheVariants as faults
 use Rattle.vol_log.proofs.Moments.{both_then, leaves_then}
 use Rattle.vol_tree.specs.Fresh.{fresh, IsNoneOrEmpty}
+use Rattle.vol_tree.specs.Handing.{device_opened, is_device_refused}
 use Rattle.vol_tree.proofs.FreshVolumes.{in_ranges}
 use Rattle.vol_tree.proofs.Fronts.{not_the_numbers}
 use Rattle.vol_tree.proofs.Refusals.{err_not_ok, not_damage, same_error}
@@ -20,9 +20,9 @@ open_empty-requires g c =
       ranges = ranges;
       room = elim (cases_lt size c.args.sectors) [
         | inl few ↦ absurd (err_not_ok _ _ (sym (e.too_small.0 (ranges, few))))
-        | inr room ↦ omega (arith, room, e.kept_ok.1)
+        | inr room ↦ omega (arith, room, e.kept.size)
       ];
-      empty = λ h1. e.empty (e.kept_ok.0.1 h1);
+      empty = λ h1. e.empty (e.kept.honest.1 h1);
     }
 
 -- ---- it wasn't made
@@ -43,16 +43,10 @@ returns-in-Err g c =
             | inl few ↦ not_the_numbers x named (inr (λ i. (same_error _ _ (e.too_small.0 (ranges, few)) i).fault))
             | inr room ↦ not_damage x (inl (e.otherwise ranges room)) damaged
           ];
-      numbers = tt;
-      working = tt;
-      empty = λ h. tt;
-      durable = λ h. tt;
-      crash_ok = λ h. tt;
-      crash_err = e.crash_err;
-      kept_ok = tt;
-      kept_err = e.kept_err;
-      goes_on_ok = tt;
-      goes_on_err = e.goes_on_err;
+      makes = tt;
+      crash = e.crash;
+      kept = e.kept;
+      goes_on = e.goes_on;
     }
 
 -- ---- it was made, and is opened
@@ -75,15 +69,18 @@ returns-in-Ok g c =
         λ is. not_the_numbers faults.TooSmall (IfErr-at_err _ is o.refused) (inr refl),
       );
       otherwise = λ ranges room. o.refused;
-      undamaged = λ h. o.undamaged (e.kept_ok.0.0 h);
-      numbers = o.numbers;
-      working = o.working;
-      empty = λ h. o.empty (e.kept_ok.0.0 h);
-      durable = λ h. o.durable (e.kept_ok.0.0 h);
-      crash_ok = λ h. IfOk-weaker r _ _ (λ v leaves. leaves_then d0 d1 (g.D.Device.disk v.device) P _ P (e.crash_ok h) leaves (λ m p. p) (λ m stands. inr stands)) (o.crash_ok (e.kept_ok.0.0 h));
-      crash_err = λ h. IfErr-weaker r _ _ (λ v leaves. leaves_then d0 d1 (g.D.Device.disk v.device) P _ P (e.crash_ok h) leaves (λ m p. p) (λ m stands. inr stands)) (o.crash_err (e.kept_ok.0.0 h));
-      kept_ok = IfOk-weaker r _ _ (λ v kept. (both_then e.kept_ok.0 kept.0, kept.1 ∙ e.kept_ok.1, kept.2 ∙ e.kept_ok.2)) o.kept_ok;
-      kept_err = IfErr-weaker r _ _ (λ v kept. (both_then e.kept_ok.0 kept.0, kept.1 ∙ e.kept_ok.1, kept.2 ∙ ap (counted (is_device v.fault)) e.kept_ok.2)) o.kept_err;
-      goes_on_ok = IfOk-weaker r _ _ (λ v goes end le first from. goes end le first (e.goes_on_ok end le first from)) o.goes_on_ok;
-      goes_on_err = IfErr-weaker r _ _ (λ v goes end le first from. goes end le first (e.goes_on_ok end le first from)) o.goes_on_err;
+      undamaged = λ h. o.undamaged (e.kept.honest.0 h);
+      makes = IfOk-weaker r _ _ (λ v new. record {
+        numbers = new.numbers;
+        working = new.working;
+        empty = λ h. new.empty (e.kept.honest.0 h);
+        durable = λ h. new.durable (e.kept.honest.0 h);
+      }) o.makes;
+      crash = λ h. leaves_then d0 d1 (g.D.Device.disk (device_opened r)) P _ P (e.crash h) (o.crash (e.kept.honest.0 h)) (λ m p. p) (λ m stands. inr stands);
+      kept = record {
+        honest = both_then e.kept.honest o.kept.honest;
+        size = o.kept.size ∙ e.kept.size;
+        failures = o.kept.failures ∙ ap (counted (is_device_refused r)) e.kept.failures;
+      };
+      goes_on = λ end le first from. o.goes_on end le first (e.goes_on end le first from);
     }

@@ -7,10 +7,10 @@ returns-in-Ok-clause-durable g c = search rules
 pub returns-in-Ok-clause-empty : goal.returns-in-Ok-clause-empty
 returns-in-Ok-clause-empty g c = search rules
 
-pub returns-in-Ok-clause-past_ok : goal.returns-in-Ok-clause-past_ok
-returns-in-Ok-clause-past_ok g c h =
+pub returns-in-Ok-clause-past : goal.returns-in-Ok-clause-past
+returns-in-Ok-clause-past g c h =
     g.met.D.Device.leaves_past c.args.sectors c.args.device c.lay_out.new.device h (c.lay_out.ensures.goes_on c.args.sectors (omega arith) c.args.device (g.met.D.Device.begins c.args.sectors c.args.device))
 
-pub returns-in-Err-clause-past_err : goal.returns-in-Err-clause-past_err
-returns-in-Err-clause-past_err g c h =
+pub returns-in-Err-clause-past : goal.returns-in-Err-clause-past
+returns-in-Err-clause-past g c h =
     g.met.D.Device.leaves_past c.args.sectors c.args.device c.lay_out.new.device h (c.lay_out.ensures.goes_on c.args.sectors (omega arith) c.args.device (g.met.D.Device.begins c.args.sectors c.args.device))

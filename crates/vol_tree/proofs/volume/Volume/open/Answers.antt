@@ -23,24 +23,23 @@ returns-in-Err g c =
     let d0 = g.D.Device.disk c.args.device in
     let d1 = g.D.Device.disk c.read_front.new.device in
     record {
-      stands = λ h. tt;
-      working = tt;
-      ranges = tt;
-      not_a_volume = e.not_a_volume;
-      version = e.version;
-      damaged = e.damaged;
+      opens = tt;
+      why = record {
+        not_a_volume = e.not_a_volume;
+        version = e.version;
+        damaged = e.damaged;
+        faults_named = or_memory_last x e.refused;
+      };
       few_sectors = λ few. let same = e.few_sectors few in cc;
-      faults_named = or_memory_last x e.refused;
-      durable = λ h. tt;
-      crash_ok = λ w T h on. tt;
-      crash_err = λ w T h on. leaves_nothing d0 d1 (λ m. StandsAs m w T) (e.crash h);
-      kept_tree = λ w T h on.
-          subst (λ (m : Image). StandsOn (g.D.Device.size c.read_front.new.device) m w T) (sym (e.seen h)) (subst (λ (n : ℕ). StandsOn n d0.seen w T) (sym e.size) on);
       finds = λ w T h on. stands_unrefused (g.D.Device.size c.args.device) d0.seen w T x on (e.not_a_volume h) (e.version h) (e.damaged h) (or_memory_last x e.refused);
-      unwritten = λ h none. e.crash h;
-      installs = λ w m h holds. (subst (λ (i : Image). HoldsOn (g.D.Device.size c.args.device) i w m) (sym (e.seen h)) holds, leaves_nothing d0 d1 (λ i. HoldsOn (g.D.Device.size c.args.device) i w m) (e.crash h));
-      kept_ok = tt;
-      kept_err = (e.honest, e.size, e.failures);
+      crash = λ w T h on. leaves_nothing d0 d1 (λ m. StandsAs m w T) (e.crash h);
+      left = record {
+        kept_tree = λ w T h on.
+            subst (λ (m : Image). StandsOn (g.D.Device.size c.read_front.new.device) m w T) (sym (e.seen h)) (subst (λ (n : ℕ). StandsOn n d0.seen w T) (sym e.size) on);
+        unwritten = λ h none. e.crash h;
+        installs = λ w m h holds. (subst (λ (i : Image). HoldsOn (g.D.Device.size c.args.device) i w m) (sym (e.seen h)) holds, leaves_nothing d0 d1 (λ i. HoldsOn (g.D.Device.size c.args.device) i w m) (e.crash h));
+      };
+      kept = record { honest = e.honest; size = e.size; failures = e.failures };
       goes_on_ok = tt;
       goes_on_err = λ end past. e.goes_on end;
     }
@@ -77,38 +76,41 @@ returns-in-Err-open g c =
     } in
     r) in
     record {
-      stands = λ h. tt;
-      working = tt;
-      ranges = tt;
-      not_a_volume = λ h is. not_the_front x named (inl is);
-      version = λ h is. not_the_front x named (inr is);
-      damaged = damaged;
+      opens = tt;
+      why = record {
+        not_a_volume = λ h is. not_the_front x named (inl is);
+        version = λ h is. not_the_front x named (inr is);
+        damaged = damaged;
+        faults_named = inr (inr named);
+      };
       few_sectors = λ few. absurd (omega (arith, few, read.ranges.least, read.room));
-      faults_named = inr (inr named);
-      durable = λ h. tt;
-      crash_ok = λ w T h on. tt;
-      crash_err = λ w T h on.
+      finds = λ w T h on. stands_unrefused size d0.seen w T x on (λ is. not_the_front x named (inl is)) (λ is. not_the_front x named (inr is)) (damaged h) (inr (inr named));
+      crash = λ w T h on.
           crash_over d0 d1 (g.D.Device.size c.args.device) c.in-Ok.numbers w T read.ranges (read.front h) (read.seen h) on (g.D.Device.disk c.in-Err-open.refused.device) (read.crash h)
           (λ m has. c.in-Err-open.ensures.crash_err m (read.honest.0 h) has);
-      kept_tree = λ w T h on.
-          let after = c.in-Err-open.refused.device in
-          kept_over d0 d1 (g.D.Device.size c.args.device) c.in-Ok.numbers w T read.ranges (read.front h) (read.seen h) on (g.D.Device.disk after).seen (g.D.Device.size after)
-          (c.in-Err-open.ensures.kept_err.1 ∙ read.size)
-          (λ m has. c.in-Err-open.ensures.kept_content m (read.honest.0 h) has);
-      finds = λ w T h on. stands_unrefused size d0.seen w T x on (λ is. not_the_front x named (inl is)) (λ is. not_the_front x named (inr is)) (damaged h) (inr (inr named));
-      unwritten = λ h none.
-          let quiet = e.unwritten (read.honest.0 h) (none_held d0 d1 size c.in-Ok.numbers read.ranges read.room (read.front h) (read.seen h) none) in
-          leaves_quiet d0 d1 (g.D.Device.disk c.in-Err-open.refused.device) (λ m. ⊥) (read.crash h) quiet;
-      installs = λ w m h holds.
-          let v = c.in-Ok.numbers in
-          let h1 = read.honest.0 h in
-          let has : HasContent v.sectors d1.seen m = held_log d0 d1 size v w m read.ranges (read.front h) (read.seen h) holds in
-          let after = g.D.Device.disk c.in-Err-open.refused.device in (
-            held_again d0 d1 size v w m read.ranges (read.front h) (read.seen h) holds after.seen (e.kept_content m h1 has),
-            held_over d0 d1 size v w m read.ranges (read.front h) (read.seen h) holds after (read.crash h) (e.crash_err m h1 has),
-          );
-      kept_ok = tt;
-      kept_err = (both_then read.honest e.kept_err.0, e.kept_err.1 ∙ read.size, e.kept_err.2 ∙ ap (counted (is_device x)) read.failures);
+      left = record {
+        kept_tree = λ w T h on.
+            let after = c.in-Err-open.refused.device in
+            kept_over d0 d1 (g.D.Device.size c.args.device) c.in-Ok.numbers w T read.ranges (read.front h) (read.seen h) on (g.D.Device.disk after).seen (g.D.Device.size after)
+            (c.in-Err-open.ensures.kept_err.1 ∙ read.size)
+            (λ m has. c.in-Err-open.ensures.kept_content m (read.honest.0 h) has);
+        unwritten = λ h none.
+            let quiet = e.unwritten (read.honest.0 h) (none_held d0 d1 size c.in-Ok.numbers read.ranges read.room (read.front h) (read.seen h) none) in
+            leaves_quiet d0 d1 (g.D.Device.disk c.in-Err-open.refused.device) (λ m. ⊥) (read.crash h) quiet;
+        installs = λ w m h holds.
+            let v = c.in-Ok.numbers in
+            let h1 = read.honest.0 h in
+            let has : HasContent v.sectors d1.seen m = held_log d0 d1 size v w m read.ranges (read.front h) (read.seen h) holds in
+            let after = g.D.Device.disk c.in-Err-open.refused.device in (
+              held_again d0 d1 size v w m read.ranges (read.front h) (read.seen h) holds after.seen (e.kept_content m h1 has),
+              held_over d0 d1 size v w m read.ranges (read.front h) (read.seen h) holds after (read.crash h) (e.crash_err m h1 has),
+            );
+      };
+      kept = record {
+        honest = both_then read.honest e.kept_err.0;
+        size = e.kept_err.1 ∙ read.size;
+        failures = e.kept_err.2 ∙ ap (counted (is_device x)) read.failures;
+      };
       goes_on_ok = tt;
       goes_on_err = λ end past first from. e.goes_on_err end (past_front _ _ d0.seen c.in-Ok.numbers end read.ranges read.room read.front past) first (read.goes_on end first from);
     }
@@ -134,64 +136,61 @@ returns-in-Err-read_parts g c =
     } in
     r) in
     record {
-      stands = λ h. tt;
-      working = tt;
-      ranges = tt;
-      not_a_volume = λ h is. not_the_front x named (inl is);
-      version = λ h is. not_the_front x named (inr is);
-      damaged = damaged;
+      opens = tt;
+      why = record {
+        not_a_volume = λ h is. not_the_front x named (inl is);
+        version = λ h is. not_the_front x named (inr is);
+        damaged = damaged;
+        faults_named = inr (inr named);
+      };
       few_sectors = λ few. absurd (omega (arith, few, read.ranges.least, read.room));
-      faults_named = inr (inr named);
-      durable = λ h. tt;
-      crash_ok = λ w T h on. tt;
-      crash_err = λ w T h on.
+      finds = λ w T h on. stands_unrefused size d0.seen w T x on (λ is. not_the_front x named (inl is)) (λ is. not_the_front x named (inr is)) (damaged h) (inr (inr named));
+      crash = λ w T h on.
           let d2 = g.D.Device.disk (device_of c.in-Ok-open.log) in
           let h1 = read.honest.0 h in
           let h2 = installed.kept_ok.0.0 h1 in
           let first = crash_over d0 d1 (g.D.Device.size c.args.device) c.in-Ok.numbers w T read.ranges (read.front h) (read.seen h) on d2 (read.crash h) (λ m has. installed.crash_ok m h1 has) in
           subst (λ d. Leaves d0 (g.D.Device.disk d) (λ m. StandsAs m w T)) (sym c.into_device.ensures)
           (leaves_quiet d0 d2 (g.D.Device.disk (device_of c.read_parts.new.log)) (λ m. StandsAs m w T) first (c.in-Err-read_parts.ensures.reads.crash h2));
-      kept_tree = λ w T h on.
-          let d2 = g.D.Device.disk (device_of c.in-Ok-open.log) in
-          let h1 = read.honest.0 h in
-          let h2 = installed.kept_ok.0.0 h1 in
-          let reads = c.in-Err-read_parts.ensures.reads in
-          let v = c.in-Ok.numbers in
-          let content = view c.in-Ok-open.log in
-          let plain : content ≡ d2.seen = ap (λ (batch : List Staged). over batch d2.seen) installed.fresh.1 in
-          let after = device_of c.read_parts.new.log in
-          subst (λ d. StandsOn (g.D.Device.size d) (g.D.Device.disk d).seen w T) (sym c.into_device.ensures)
-          (kept_over d0 d1 (g.D.Device.size c.args.device) v w T read.ranges (read.front h) (read.seen h) on (g.D.Device.disk after).seen (g.D.Device.size after)
-          (reads.size ∙ installed.kept_ok.1 ∙ read.size)
-          (λ m has. settled_has v.sectors d2 (g.D.Device.disk after).seen content m (installed.settled h1) (reads.seen h2) plain (installed.content m h1 has)));
-      finds = λ w T h on. stands_unrefused size d0.seen w T x on (λ is. not_the_front x named (inl is)) (λ is. not_the_front x named (inr is)) (damaged h) (inr (inr named));
-      unwritten = λ h none.
-          let some = installed.right (read.honest.0 h) in
-          absurd (none_held d0 d1 size c.in-Ok.numbers read.ranges read.room (read.front h) (read.seen h) none some.0 some.1);
-      installs = λ w m h holds.
-          let v = c.in-Ok.numbers in
-          let h1 = read.honest.0 h in
-          let h2 = installed.kept_ok.0.0 h1 in
-          let d2 = g.D.Device.disk (device_of c.in-Ok-open.log) in
-          let reads = e.reads in
-          let content = view c.in-Ok-open.log in
-          let plain : content ≡ d2.seen = ap (λ (batch : List Staged). over batch d2.seen) installed.fresh.1 in
-          let after = g.D.Device.disk (device_of c.read_parts.new.log) in
-          let has : HasContent v.sectors d1.seen m = held_log d0 d1 size v w m read.ranges (read.front h) (read.seen h) holds in
-          let kept = settled_has v.sectors d2 after.seen content m (installed.settled h1) (reads.seen h2) plain (installed.content m h1 has) in
-          let first = held_over d0 d1 size v w m read.ranges (read.front h) (read.seen h) holds d2 (read.crash h) (installed.crash_ok m h1 has) in
-          subst (λ d. HoldsOn size (g.D.Device.disk d).seen w m × Leaves d0 (g.D.Device.disk d) (λ i. HoldsOn size i w m)) (sym c.into_device.ensures) (
-            held_again d0 d1 size v w m read.ranges (read.front h) (read.seen h) holds after.seen kept,
-            leaves_quiet d0 d2 after (λ i. HoldsOn size i w m) first (reads.crash h2),
-          );
-      kept_ok = tt;
-      kept_err =
-          subst (λ d. (g.D.Device.honest c.args.device ↔ g.D.Device.honest d) × (g.D.Device.size d ≡ g.D.Device.size c.args.device) × (g.D.Device.failures d ≡ counted (is_device x) (g.D.Device.failures c.args.device)))
-          (sym c.into_device.ensures) (
-            both_then (both_then read.honest installed.kept_ok.0) e.reads.honest,
-            e.reads.size ∙ installed.kept_ok.1 ∙ read.size,
-            e.reads.failures installed.fresh.0 ∙ ap (λ (b : Bool). counted b before) e.failed ∙ ap (counted (is_device x)) (installed.kept_ok.2 ∙ read.failures),
-          );
+      left = record {
+        kept_tree = λ w T h on.
+            let d2 = g.D.Device.disk (device_of c.in-Ok-open.log) in
+            let h1 = read.honest.0 h in
+            let h2 = installed.kept_ok.0.0 h1 in
+            let reads = c.in-Err-read_parts.ensures.reads in
+            let v = c.in-Ok.numbers in
+            let content = view c.in-Ok-open.log in
+            let plain : content ≡ d2.seen = ap (λ (batch : List Staged). over batch d2.seen) installed.fresh.1 in
+            let after = device_of c.read_parts.new.log in
+            subst (λ d. StandsOn (g.D.Device.size d) (g.D.Device.disk d).seen w T) (sym c.into_device.ensures)
+            (kept_over d0 d1 (g.D.Device.size c.args.device) v w T read.ranges (read.front h) (read.seen h) on (g.D.Device.disk after).seen (g.D.Device.size after)
+            (reads.size ∙ installed.kept_ok.1 ∙ read.size)
+            (λ m has. settled_has v.sectors d2 (g.D.Device.disk after).seen content m (installed.settled h1) (reads.seen h2) plain (installed.content m h1 has)));
+        unwritten = λ h none.
+            let some = installed.right (read.honest.0 h) in
+            absurd (none_held d0 d1 size c.in-Ok.numbers read.ranges read.room (read.front h) (read.seen h) none some.0 some.1);
+        installs = λ w m h holds.
+            let v = c.in-Ok.numbers in
+            let h1 = read.honest.0 h in
+            let h2 = installed.kept_ok.0.0 h1 in
+            let d2 = g.D.Device.disk (device_of c.in-Ok-open.log) in
+            let reads = e.reads in
+            let content = view c.in-Ok-open.log in
+            let plain : content ≡ d2.seen = ap (λ (batch : List Staged). over batch d2.seen) installed.fresh.1 in
+            let after = g.D.Device.disk (device_of c.read_parts.new.log) in
+            let has : HasContent v.sectors d1.seen m = held_log d0 d1 size v w m read.ranges (read.front h) (read.seen h) holds in
+            let kept = settled_has v.sectors d2 after.seen content m (installed.settled h1) (reads.seen h2) plain (installed.content m h1 has) in
+            let first = held_over d0 d1 size v w m read.ranges (read.front h) (read.seen h) holds d2 (read.crash h) (installed.crash_ok m h1 has) in
+            subst (λ d. HoldsOn size (g.D.Device.disk d).seen w m × Leaves d0 (g.D.Device.disk d) (λ i. HoldsOn size i w m)) (sym c.into_device.ensures) (
+              held_again d0 d1 size v w m read.ranges (read.front h) (read.seen h) holds after.seen kept,
+              leaves_quiet d0 d2 after (λ i. HoldsOn size i w m) first (reads.crash h2),
+            );
+      };
+      kept = record {
+        honest = subst (λ d. g.D.Device.honest c.args.device ↔ g.D.Device.honest d) (sym c.into_device.ensures) (both_then (both_then read.honest installed.kept_ok.0) e.reads.honest);
+        size = ap g.D.Device.size c.into_device.ensures ∙ e.reads.size ∙ installed.kept_ok.1 ∙ read.size;
+        failures = ap g.D.Device.failures c.into_device.ensures ∙ e.reads.failures installed.fresh.0 ∙ ap (λ (b : Bool). counted b before) e.failed ∙ ap (counted (is_device x)) (installed.kept_ok.2 ∙ read.failures);
+      };
       goes_on_ok = tt;
       goes_on_err = λ end past first from.
           let le = past_front _ _ d0.seen c.in-Ok.numbers end read.ranges read.room read.front past in
@@ -213,33 +212,28 @@ returns-in-Ok-read_parts g c =
     read.ranges read.room (read.front h) (read.seen h) installed.fresh.1 (λ m has. installed.content m (read.honest.0 h) has) (installed.right (read.honest.0 h)) (installed.settled (read.honest.0 h)) done.reads (done.parts (installed.kept_ok.0.0 (read.honest.0 h))) in
     let stands = λ (h : g.D.Device.honest c.args.device). finds_stands size d0 (g.D.Device.disk (device_of log)) (view log) c.in-Ok.numbers (found h) in
     record {
-      stands = stands;
-      working = done.failed;
-      ranges = (read.ranges, read.room);
-      not_a_volume = λ h. tt;
-      version = λ h. tt;
-      damaged = λ h. tt;
+      opens = record {
+        stands = stands;
+        working = done.failed;
+        ranges = (read.ranges, read.room);
+        durable = λ h. finds_lasting size d0 (g.D.Device.disk (device_of log)) (view log) c.in-Ok.numbers (found h);
+      };
+      why = tt;
       few_sectors = λ few. absurd (omega (arith, few, read.ranges.least, read.room));
-      faults_named = tt;
-      durable = λ h. finds_lasting size d0 (g.D.Device.disk (device_of log)) (view log) c.in-Ok.numbers (found h);
-      crash_ok = λ w T h on.
+      finds = λ w T h on. one_volume d0.seen c.in-Ok.numbers w (tree_in (view log) c.in-Ok.numbers) T (stands h).stands on.stands;
+      crash = λ w T h on.
           let d1 = g.D.Device.disk c.read_front.new.device in
           let d2 = g.D.Device.disk (device_of c.in-Ok-open.log) in
           let h1 = read.honest.0 h in
           let h2 = installed.kept_ok.0.0 h1 in
           let first = crash_over d0 d1 (g.D.Device.size c.args.device) c.in-Ok.numbers w T read.ranges (read.front h) (read.seen h) on d2 (read.crash h) (λ m has. installed.crash_ok m h1 has) in
           leaves_quiet d0 d2 (g.D.Device.disk (device_of c.read_parts.new.log)) (λ m. StandsAs m w T) first (c.in-Ok-read_parts.ensures.reads.crash h2);
-      crash_err = λ w T h on. tt;
-      kept_tree = λ w T h on. tt;
-      finds = λ w T h on. one_volume d0.seen c.in-Ok.numbers w (tree_in (view log) c.in-Ok.numbers) T (stands h).stands on.stands;
-      unwritten = λ h none. tt;
-      installs = λ w m h holds. tt;
-      kept_ok = (
-        both_then (both_then read.honest installed.kept_ok.0) done.reads.honest,
-        done.reads.size ∙ installed.kept_ok.1 ∙ read.size,
-        done.reads.failures installed.fresh.0 ∙ ap (λ (b : Bool). counted b before) done.failed ∙ installed.kept_ok.2 ∙ read.failures,
-      );
-      kept_err = tt;
+      left = tt;
+      kept = record {
+        honest = both_then (both_then read.honest installed.kept_ok.0) done.reads.honest;
+        size = done.reads.size ∙ installed.kept_ok.1 ∙ read.size;
+        failures = done.reads.failures installed.fresh.0 ∙ ap (λ (b : Bool). counted b before) done.failed ∙ installed.kept_ok.2 ∙ read.failures;
+      };
       goes_on_ok = λ end le first from. done.reads.goes_on end first (installed.goes_on_ok end le first (read.goes_on end first from));
       goes_on_err = λ end past. tt;
     }
