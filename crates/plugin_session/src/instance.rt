@@ -67,7 +67,6 @@ where
         ensures refused { IfErr result (λ r. IsRefused D.honest r.fault plugin.now.valid
             (given settings.entry volume input out err)) }
     {
-        volume.is_a_tree(); // a law for the contract
         let parts = HostParts {
             settings,
             volume,
@@ -75,6 +74,24 @@ where
             out,
             err,
         };
+        Instance::of_parts(alloc, plugin, parts)
+    }
+
+    /// The same, of parts that are packed.
+    pub fn of_parts(
+        alloc: Global,
+        plugin: &Plugin<'a>,
+        parts: HostParts<'s, 't, D, R, W1, W2>,
+    ) -> Result<Instance<'a, 's, 't, D, R, W1, W2>, RefusedParts<'s, 't, D, R, W1, W2>>
+        requires { parts.settings.pages ≡ plugin.now.pages }
+        ensures opens { IfOk result (Opens plugin.now.valid parts.entry) }
+        ensures shares { IfOk result (λ i. Shares D.Device parts.entry (session_of i)) }
+        ensures hands_back { IfErr result (λ r. HandsBack D.Device plugin.now.valid parts.entry
+            (record { valid = plugin.now.valid; parts = r.parts; fault = r.fault })) }
+        ensures refused { IfErr result (λ r. IsRefused D.honest r.fault plugin.now.valid
+            parts.entry) }
+    {
+        parts.volume.is_a_tree(); // a law for the contract
         let mut host = match WasiHost::new(alloc, parts) {
             Ok(host) => host,
             Err(RefusedHost { parts, fault }) => {

@@ -124,7 +124,6 @@ where
         ensures refused { IfErr result (λ r. IsRefused D.honest r.fault valid.entry
             (given settings.entry volume input out err)) }
     {
-        volume.is_a_tree(); // a law for the contract
         let parts = HostParts {
             settings,
             volume,
@@ -132,6 +131,23 @@ where
             out,
             err,
         };
+        Session::of_parts(alloc, valid, parts)
+    }
+
+    /// The same, of parts that are packed.
+    pub fn of_parts(
+        alloc: Global,
+        valid: Valid<'a>,
+        parts: HostParts<'s, 't, D, R, W1, W2>,
+    ) -> Result<Session<'a, 's, 't, D, R, W1, W2>, RefusedSession<'a, 's, 't, D, R, W1, W2>>
+        ensures opens { IfOk result (Opens valid.entry parts.entry) }
+        ensures shares { IfOk result (Shares D.Device parts.entry) }
+        ensures hands_back { IfErr result (HandsBack D.Device valid.entry parts.entry) }
+        ensures refused { IfErr result (λ r. IsRefused D.honest r.fault valid.entry
+            parts.entry) }
+    {
+        parts.volume.is_a_tree(); // a law for the contract
+        let pages = parts.settings.pages;
         let mut host = match WasiHost::new(alloc, parts) {
             Ok(host) => host,
             Err(RefusedHost { parts, fault }) => {
@@ -142,7 +158,7 @@ where
                 });
             }
         };
-        let machine = match Machine::new(alloc, valid, settings.pages, &host) {
+        let machine = match Machine::new(alloc, valid, pages, &host) {
             Ok(machine) => machine,
             Err(RefusedInstance { valid, fault }) => {
                 return Err(RefusedSession {

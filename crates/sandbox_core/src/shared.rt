@@ -162,7 +162,6 @@ where
         ensures refused { IfErr result (λ r. IsRefused D.honest r.fault shared.now.valid
             (given settings.entry volume input out err)) }
     {
-        volume.is_a_tree(); // a law for the contract
         let parts = HostParts {
             settings,
             volume,
@@ -170,6 +169,24 @@ where
             out,
             err,
         };
+        SharedSession::of_parts(alloc, shared, parts)
+    }
+
+    /// The same, of parts that are packed.
+    pub fn of_parts(
+        alloc: Global,
+        shared: &SharedModule<'a>,
+        parts: HostParts<'s, 't, D, R, W1, W2>,
+    ) -> Result<SharedSession<'a, 's, 't, D, R, W1, W2>, RefusedParts<'s, 't, D, R, W1, W2>>
+        requires { parts.settings.pages ≡ shared.now.pages }
+        ensures opens { IfOk result (Opens shared.now.valid parts.entry) }
+        ensures shares { IfOk result (Shares D.Device parts.entry) }
+        ensures hands_back { IfErr result (λ r. HandsBack D.Device shared.now.valid parts.entry
+            (record { valid = shared.now.valid; parts = r.parts; fault = r.fault })) }
+        ensures refused { IfErr result (λ r. IsRefused D.honest r.fault shared.now.valid
+            parts.entry) }
+    {
+        parts.volume.is_a_tree(); // a law for the contract
         let mut host = match WasiHost::new(alloc, parts) {
             Ok(host) => host,
             Err(RefusedHost { parts, fault }) => {

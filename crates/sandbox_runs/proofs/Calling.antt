@@ -137,7 +137,7 @@ module _ {D R W1 W2 : Type 0} (device : Ghosts D) (remaining : R → Option (Lis
 
   module _ (parts : HostParts D R W1 W2) (taken : HostParts D (Counted R) (Counted W1) (Counted W2)) (same : taken ≡ counting run parts) where
     abbrev handed : HostParts D (Counted R) (Counted W1) (Counted W2) → HostParts D (Counted R) (Counted W1) (Counted W2)
-    handed p = given p.settings p.volume p.input p.out p.err
+    handed p = p
 
     -- an instance was opened, and its function called
     pub called : (begun : InstanceState D (Counted R) (Counted W1) (Counted W2)) → Opens m (handed taken) begun → Shares device (handed taken) (session_of begun)

@@ -91,7 +91,7 @@ module _ {D R W1 W2 : Type 0} (device : Ghosts D) (remaining : R → Option (Lis
     on = counted_devices device.honest device.disk device.size device.failures device.goes_on remaining outs errs ear
 
     abbrev handed : HostParts D (Counted R) (Counted W1) (Counted W2) → HostParts D (Counted R) (Counted W1) (Counted W2)
-    handed p = given p.settings p.volume p.input p.out p.err
+    handed p = p
 
     pub ran : (begun : SessionState D (Counted R) (Counted W1) (Counted W2)) → Opens m (handed taken) begun → Shares device (handed taken) begun
         → (imported : ℕ) → imported ≡ length m.imports → (left : Executed D R W1 W2)

@@ -296,15 +296,8 @@ fn launch_instance<D: Device + Drop, R: Inlet + Drop, W1: Outlet + Drop, W2: Out
         plugin.now.valid run.now its result }
     ensures answered { RunAnswered W1.flushed W1.refuses W2.flushed W2.refuses result }
 {
-    let HostParts {
-        settings,
-        volume,
-        input,
-        out,
-        err,
-    } = parts;
     let imported = imports_of(plugin.module().module());
-    match Instance::new(alloc, plugin, settings, volume, input, out, err) {
+    match Instance::of_parts(alloc, plugin, parts) {
         Ok(instance) => {
             let fuel_use = fuel_use_of(stacks, imported);
             call_within(alloc, run, name, instance, arguments, fuel_use)

@@ -258,15 +258,8 @@ pub fn launch_bare<'a, D: Device + Drop, R: Inlet + Drop, W1: Outlet + Drop, W2:
         result.1 }
     ensures answered { RunAnswered W1.flushed W1.refuses W2.flushed W2.refuses result.1 }
 {
-    let HostParts {
-        settings,
-        volume,
-        input,
-        out,
-        err,
-    } = parts;
     let imported = imports_of(valid.module());
-    match Session::new(alloc, valid, settings, volume, input, out, err) {
+    match Session::of_parts(alloc, valid, parts) {
         Ok(session) => run_session(alloc, run, imported, session, stacks),
         Err(
             RefusedSession {
@@ -295,16 +288,9 @@ pub fn launch_prepared<D: Device + Drop, R: Inlet + Drop, W1: Outlet + Drop, W2:
         its result }
     ensures answered { RunAnswered W1.flushed W1.refuses W2.flushed W2.refuses result }
 {
-    let HostParts {
-        settings,
-        volume,
-        input,
-        out,
-        err,
-    } = parts;
     let valid = shared.module();
     let imported = imports_of(valid.module());
-    match SharedSession::new(alloc, shared, settings, volume, input, out, err) {
+    match SharedSession::of_parts(alloc, shared, parts) {
         Ok(session) => {
             let ((), left) = run_session(alloc, run, imported, session, stacks);
             left

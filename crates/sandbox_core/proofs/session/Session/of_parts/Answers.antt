@@ -1,9 +1,9 @@
 use Rattle.std.proofs.Common.{sym, ◌∙◌, subst}
 use Rattle.wasm_syntax.specs.declared.module.Module.{Module}
-use Rattle.sandbox_core.specs.Session.{HandsBack, IsRefused, given}
+use Rattle.sandbox_core.specs.Session.{HandsBack, IsRefused}
 use Rattle.sandbox_core.specs.declared.fault.SessionFault.{SessionFault}
 use Rattle.sandbox_core.proofs.Refusing.{by_instance, by_preopen, hands_back}
-use Rattle.sandbox_core.proofs.session.Session.new.Goals as goal
+use Rattle.sandbox_core.proofs.session.Session.of_parts.Goals as goal
 
 pub returns-in-Ok-preopen-clause-opens : goal.returns-in-Ok-preopen-clause-opens
 returns-in-Ok-preopen-clause-opens g c =
@@ -22,13 +22,13 @@ returns-in-Ok-preopen-clause-opens g c =
 
 pub returns-in-Err-new-clause-refused : goal.returns-in-Err-new-clause-refused
 returns-in-Err-new-clause-refused g c =
-    let parts = given c.args.settings c.args.volume c.args.input c.args.out c.args.err in
+    let parts = c.args.parts in
     subst (λ (f : SessionFault). IsRefused g.D.Device.honest f c.args.valid parts) (sym c.of_instance.ensures)
     (by_instance g.D.Device.honest c.args.valid parts c.in-Ok.ensures.made.fits c.in-Err-new.field-0.fault c.in-Err-new.ensures.refused.1)
 
 pub returns-in-Err-preopen-clause-refused : goal.returns-in-Err-preopen-clause-refused
 returns-in-Err-preopen-clause-refused g c =
-    let parts = given c.args.settings c.args.volume c.args.input c.args.out c.args.err in
+    let parts = c.args.parts in
     let made = c.in-Ok.ensures.made in
     subst (λ (f : SessionFault). IsRefused g.D.Device.honest f c.args.valid parts) (sym c.of_host-in-Err-preopen.ensures)
     (by_preopen g.D.Device.honest c.args.valid parts made.fits c.in-Ok.host c.preopen.new.self made.volume made.settings
@@ -36,7 +36,7 @@ returns-in-Err-preopen-clause-refused g c =
 
 pub returns-in-Err-preopen-clause-hands_back : goal.returns-in-Err-preopen-clause-hands_back
 returns-in-Err-preopen-clause-hands_back g c =
-    let parts = given c.args.settings c.args.volume c.args.input c.args.out c.args.err in
+    let parts = c.args.parts in
     let no = c.in-Err-preopen in
     let back = c.into_parts-in-Err-preopen.result in
     let fault = c.of_host-in-Err-preopen.result in
