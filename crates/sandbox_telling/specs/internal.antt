@@ -1,4 +1,3 @@
--- What private contracts and proofs cite; public contracts do without it. The first files are about one run (its words, its
--- seed, its module, its session), then come the tests of a list.
+-- What private contracts and proofs cite; public contracts do without it: the words of a run, and its module.
 pub mod Supplies
 pub mod Runnable

@@ -1,3 +1,2 @@
--- What private contracts and proofs cite. `Bodies` comes first, since it has what the body of each call that answers
--- says; it and `Asking` serve several subjects, and each folder serves one.
+-- What private contracts and proofs cite on the calls that walk paths.
 pub mod paths
