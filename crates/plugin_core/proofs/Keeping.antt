@@ -1,20 +1,24 @@
 -- The answers of a life are turns, and nothing else changes the host.
-use Rattle.std.proofs.Common.{◌≡◌, ◌==◌, ℕ, List, [], ◌∷◌, ◌++◌, map, refl, sym, ◌∙◌, ap, subst, inl, inr}
+use Rattle.std.proofs.Common.{◌≡◌, ◌⊎◌, ◌==◌, ℕ, List, [], ◌∷◌, ◌++◌, map, refl, sym, ◌∙◌, ap, subst, inl, inr}
 use Rattle.std.proofs.lemmas.Bool.{and_parts, eqb-true}
-use Rattle.vol_sector.specs.Disk.{Disk}
+use Rattle.vol_sector.specs.Disk.{Image, Disk, Leaves}
+use Rattle.vol_log.proofs.Moments.{leaves_same, leaves_then}
 use Rattle.vol_tree.specs.Tree.{Tree}
+use Rattle.vol_tree.specs.Opened.{Reflects}
+use Rattle.vol_tree.specs.Stands.{StandsAs}
+use Rattle.vol_tree.proofs.OneTree.{one_tree}
 use Rattle.vol_tree.specs.declared.superblock.Superblock.{Superblock}
 use Rattle.wasm_store.specs.declared.call.HostCall.{HostCall}
 use Rattle.wasm_store.specs.declared.call.Errno.{Errno}
 use Rattle.wasm_steps.specs.Configuration.{Instance, Store, Configuration, store_of}
 use Rattle.wasm_steps.specs.Steps.{CallsOf, silent, answers, Reach, stays, goes}
-use Rattle.wasi_bodies.specs.laws.Moments.{CallsKeepMoments, Turn, Turns, is_sync}
+use Rattle.wasi_bodies.specs.laws.Moments.{CallsKeepMoments, IsTurn, Turn, Turns, is_sync}
 use Rattle.wasi_calls.proofs.runs.Moments.{Changes, step_changes, keeps_all}
 use Rattle.wasm_syntax.specs.declared.module.Module.{Module}
 use Rattle.plugin_steps.specs.Lives.{Invocation}
 use Rattle.wasm_store.specs.Allocation.{AllLinks}
 use Rattle.plugin_core.specs.WholeLives.{Life, calls_in}
-use Rattle.plugin_core.specs.Moments.{is_synced, ChangesBy, KeepsLives}
+use Rattle.plugin_core.specs.Moments.{is_synced, ChangesBy, IsPassed, KeepsLives, StandsPassed}
 use Rattle.plugin_core.proofs.Living.{talk_carries, lives_carry}
 
 map_joins : {A B : Type 0} (f : A → B) (xs ys : List A) → map f (xs ++ ys) ≡ map f xs ++ map f ys
@@ -35,6 +39,67 @@ module _ {H : Type 0} (disk : H → Disk) (numbers : H → Superblock) (tree : H
   turns_join : (h g : H) (ts us : List (Turn H)) → ChangesFrom h ts g → AreTurns h ts → AreTurns g us → AreTurns h (ts ++ us)
   turns_join h g [] us same first second = subst (λ (x : H). AreTurns x us) same second
   turns_join h g (t ∷ ts) us (old, rest) (a, b, c, d, e, first) second = (a, b, c, d, e, turns_join t.new g ts us rest first second)
+
+  -- ---- what a crash may leave over turns
+
+  abbrev Passed : H → List (Turn H) → Image → Type 0
+  Passed = StandsPassed disk numbers tree honest
+
+  abbrev LeftBy : H → List (Turn H) → Image → Type 0
+  LeftBy h ts image = Reflects (disk h) (numbers h) image ⊎ Passed h ts image
+
+  passed_first : (h : H) (ts : List (Turn H)) → IsPassed disk numbers tree honest h ts (tree h)
+  passed_first h [] = refl
+  passed_first h (t ∷ ts) = inl refl
+
+  passed_last : (h h' : H) (ts : List (Turn H)) → ChangesFrom h ts h' → IsPassed disk numbers tree honest h ts (tree h')
+  passed_last h h' [] same = ap tree same
+  passed_last h h' (t ∷ ts) (old, rest) = inr (passed_last t.new h' ts rest)
+
+  -- what one turn leaves
+  module _ (h g : H) (ts : List (Turn H)) (turn : IsTurn (disk h) (disk g) (numbers h) (tree h) (tree g)) (t : Turn H) (new : t.new ≡ g) (numbered : numbers g ≡ numbers h) where
+    abbrev all : List (Turn H)
+    all = t ∷ ts
+
+    after_turn : (T : Tree) → IsPassed disk numbers tree honest g ts T → IsPassed disk numbers tree honest h all T
+    after_turn T is = inr (subst (λ (x : H). IsPassed disk numbers tree honest x ts T) (sym new) is)
+
+    in_turn : (image : Image) → Reflects (disk h) (numbers h) image ⊎ (StandsAs image (numbers h) (tree h) ⊎ StandsAs image (numbers h) (tree g)) → LeftBy h all image
+    in_turn image (inl r) = inl r
+    in_turn image (inr (inl stands)) = inr (tree h, inl refl, stands)
+    in_turn image (inr (inr stands)) = inr (tree g, after_turn (tree g) (passed_first g ts), stands)
+
+    -- what stands for a tree that such an image stands for
+    as_in_turn : (earlier image : Image) (T : Tree) → LeftBy h all earlier → StandsAs earlier (numbers h) T → StandsAs image (numbers h) T → LeftBy h all image
+    as_in_turn earlier image T (inl r) stood stands =
+        let same : T ≡ r.tree = one_tree earlier (numbers h) T r.tree stood r.stands in
+        inl (record { earlier = r.earlier; could = r.could; tree = r.tree; stood = r.stood; stands = subst (λ (U : Tree). StandsAs image (numbers h) U) same stands })
+    as_in_turn earlier image T (inr (U, is, there)) stood stands =
+        let same : T ≡ U = one_tree earlier (numbers h) T U stood there in
+        inr (U, is, subst (λ (V : Tree). StandsAs image (numbers h) V) same stands)
+
+    -- and what the later ones leave
+    later_turns : (image : Image) → LeftBy g ts image → LeftBy h all image
+    later_turns image (inr (T, is, stands)) = inr (T, after_turn T is, subst (λ (v : Superblock). StandsAs image v T) numbered stands)
+    later_turns image (inl r) =
+        let stood = subst (λ (v : Superblock). StandsAs r.earlier v r.tree) numbered r.stood in
+        let stands = subst (λ (v : Superblock). StandsAs image v r.tree) numbered r.stands in
+        elim (turn.now r.earlier r.could) [
+          | inl could ↦ inl (record { earlier = r.earlier; could = could; tree = r.tree; stood = stood; stands = stands })
+          | inr left ↦ as_in_turn r.earlier image r.tree (in_turn r.earlier left) stood stands
+        ]
+
+  passes : (h h' : H) (ts : List (Turn H)) → ChangesFrom h ts h' → AreTurns h ts → Leaves (disk h) (disk h') (LeftBy h ts)
+  passes h h' [] same are = subst (λ (x : H). Leaves (disk h) (disk x) (LeftBy h [])) (sym same) (leaves_same (disk h) (LeftBy h []))
+  passes h h' (t ∷ ts) (old, rest) (same, numbered, turn, synced, counts, more) =
+      let turns = subst (λ (x : H). IsTurn (disk x) (disk t.new) (numbers x) (tree x) (tree t.new)) same turn in
+      let one : numbers t.new ≡ numbers h = numbered ∙ ap numbers same in
+      leaves_then (disk h) (disk t.new) (disk h') _ (LeftBy t.new ts) (LeftBy h (t ∷ ts)) turns (passes t.new h' ts rest more)
+      (in_turn h t.new ts turns t refl one) (later_turns h t.new ts turns t refl one)
+
+  numbers_stay : (h h' : H) (ts : List (Turn H)) → ChangesFrom h ts h' → AreTurns h ts → numbers h' ≡ numbers h
+  numbers_stay h h' [] same are = ap numbers same
+  numbers_stay h h' (t ∷ ts) (old, rest) (same, numbered, turn, synced, counts, more) = numbers_stay t.new h' ts rest more ∙ (numbered ∙ ap numbers same)
 
   -- where the host is honest, the answers are turns of it
   record Turned (h : H) (es : List (HostCall × Errno)) (h' : H) : Type 0 where
@@ -106,4 +171,8 @@ lives_keep_moments disk numbers tree honest Calls links pages m h h' vs s trees 
       one_each = all.one_each;
       changes = all.changes;
       kept = keeps_all disk numbers tree all.turns h trees from safe all.are;
+      crash = passes disk numbers tree honest h h' all.turns all.changes all.are;
+      last_tree = passed_last disk numbers tree honest h h' all.turns all.changes;
+      same_numbers = numbers_stay disk numbers tree honest h h' all.turns all.changes all.are;
+      still_honest = all.still;
     }

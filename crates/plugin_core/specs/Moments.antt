@@ -1,7 +1,9 @@
 -- What a crash may leave of the volume in an instance's life.
-use Rattle.std.specs.Prelude.{◌≡◌, ◌==◌, ◌&&◌, ℕ, Bool, List, [], ◌∷◌, map}
-use Rattle.vol_sector.specs.Disk.{Disk}
+use Rattle.std.specs.Prelude.{◌≡◌, ◌⊎◌, ◌==◌, ◌&&◌, ℕ, Bool, List, [], ◌∷◌, map}
+use Rattle.vol_sector.specs.Disk.{Image, Disk, Leaves}
 use Rattle.vol_tree.specs.Tree.{Tree}
+use Rattle.vol_tree.specs.Opened.{Reflects}
+use Rattle.vol_tree.specs.Stands.{StandsAs}
 use Rattle.vol_tree.specs.declared.superblock.Superblock.{Superblock}
 use Rattle.wasm_syntax.specs.declared.module.Module.{Module}
 use Rattle.wasm_store.specs.declared.call.HostCall.{HostCall}
@@ -24,6 +26,15 @@ module _ {H : Type 0} (disk : H → Disk) (numbers : H → Superblock) (tree : H
   ChangesBy h [] h' = h' ≡ h
   ChangesBy h (t ∷ ts) h' = (t.old ≡ h) × ChangesBy t.new ts h'
 
+  -- the tree at first, or that after one of these turns
+  abbrev pub IsPassed : H → List (Turn H) → Tree → Type 0
+  IsPassed h [] T = T ≡ tree h
+  IsPassed h (t ∷ ts) T = (T ≡ tree h) ⊎ IsPassed t.new ts T
+
+  -- the image stands for such a tree, under the volume's numbers at first
+  abbrev pub StandsPassed : H → List (Turn H) → Image → Type 0
+  StandsPassed h turns image = (T : Tree) × IsPassed h turns T × StandsAs image (numbers h) T
+
   -- From a host to another by these answers: each is a turn, nothing else changes the host, and each image that is left in a turn
   -- stands for a tree of the life, from that of the last sync on that was answered with success, under the volume's numbers. The
   -- trees so far are given, and the place from which on a crash may leave them.
@@ -32,6 +43,12 @@ module _ {H : Type 0} (disk : H → Disk) (numbers : H → Superblock) (tree : H
     pub one_each : map (λ t. t.synced) turns ≡ map is_synced answers
     pub changes : ChangesBy h turns h'
     pub kept : AllKept disk numbers tree (numbers h) trees from turns
+    -- At any moment in between a crash leaves what it could leave at first, an image that stands for a tree that one could leave then, or
+    -- one that stands for a tree that the turns come by.
+    pub crash : Leaves (disk h) (disk h') (λ image. Reflects (disk h) (numbers h) image ⊎ StandsPassed h turns image)
+    pub last_tree : IsPassed h turns (tree h')
+    pub same_numbers : numbers h' ≡ numbers h
+    pub still_honest : honest h'
 
   abbrev pub KeepsLives : CallsOf H → Type 0
   KeepsLives Calls = (links : AllLinks) (pages : ℕ) (m : Module) (h h' : H) (vs : List Invocation) (s : Store) (trees : List Tree) (from : ℕ)
