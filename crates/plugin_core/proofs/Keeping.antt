@@ -1,10 +1,10 @@
 -- The answers of a life are turns, and nothing else changes the host.
-use Rattle.std.proofs.Common.{◌≡◌, ◌⊎◌, ◌==◌, ℕ, List, [], ◌∷◌, ◌++◌, map, refl, sym, ◌∙◌, ap, subst, inl, inr}
+use Rattle.std.proofs.Common.{◌≡◌, ◌⊎◌, ◌==◌, ℕ, List, [], ◌∷◌, ◌++◌, map, refl, sym, ◌∙◌, ap, subst, inl, inr, ⊎_elim}
 use Rattle.std.proofs.lemmas.Bool.{and_parts, eqb-true}
 use Rattle.vol_sector.specs.Disk.{Image, Disk, Leaves}
 use Rattle.vol_log.proofs.Moments.{leaves_same, leaves_then}
 use Rattle.vol_tree.specs.Tree.{Tree}
-use Rattle.vol_tree.specs.Opened.{Reflects}
+use Rattle.vol_tree.specs.Opened.{Reflects, ReflectsOr}
 use Rattle.vol_tree.specs.Stands.{StandsAs}
 use Rattle.vol_tree.proofs.OneTree.{one_tree}
 use Rattle.vol_tree.specs.declared.superblock.Superblock.{Superblock}
@@ -100,6 +100,38 @@ module _ {H : Type 0} (disk : H → Disk) (numbers : H → Superblock) (tree : H
   numbers_stay : (h h' : H) (ts : List (Turn H)) → ChangesFrom h ts h' → AreTurns h ts → numbers h' ≡ numbers h
   numbers_stay h h' [] same are = ap numbers same
   numbers_stay h h' (t ∷ ts) (old, rest) (same, numbered, turn, synced, counts, more) = numbers_stay t.new h' ts rest more ∙ (numbered ∙ ap numbers same)
+
+  -- From a disk whose images stand for the first tree, over turns, and a commit behind them: each image stands for a tree that they come
+  -- by.
+  module _ (h h' : H) (ts : List (Turn H)) (a new : Disk) (v : Superblock) (T : Tree) (one : v ≡ numbers h) (same : T ≡ tree h)
+      (lasts : (m : Image) → a.may_leave m → StandsAs m v T) (first : Leaves a (disk h) (λ m. ⊥)) where
+    could_stand : (m : Image) → (disk h).may_leave m → StandsAs m (numbers h) (tree h)
+    could_stand m may =
+        let was : a.may_leave m = ⊎_elim (λ was. was) (λ never. absurd never) (first.now m may) in
+        subst (λ (u : Superblock). StandsAs m u (tree h)) one (subst (λ (U : Tree). StandsAs m v U) same (lasts m was))
+
+    passes_in : (m : Image) → LeftBy h ts m → Passed h ts m
+    passes_in m (inr passed) = passed
+    passes_in m (inl r) =
+        let is : r.tree ≡ tree h = one_tree r.earlier (numbers h) r.tree (tree h) r.stood (could_stand r.earlier r.could) in
+        (tree h, passed_first h ts, subst (λ (U : Tree). StandsAs m (numbers h) U) is r.stands)
+
+    passes_at_end : Leaves (disk h) (disk h') (LeftBy h ts) → (m : Image) → (disk h').may_leave m → Passed h ts m
+    passes_at_end turns m may = ⊎_elim (λ could. (tree h, passed_first h ts, could_stand m could)) (λ left. passes_in m left) (turns.now m may)
+
+    pub whole_life : Leaves (disk h) (disk h') (LeftBy h ts) → IsPassed disk numbers tree honest h ts (tree h') → numbers h' ≡ numbers h
+        → Leaves (disk h') new (ReflectsOr (disk h') (numbers h') (tree h')) → Leaves a new (Passed h ts)
+    whole_life turns last numbered commit =
+        leaves_then a (disk h') new (Passed h ts) (ReflectsOr (disk h') (numbers h') (tree h')) (Passed h ts)
+        (leaves_then a (disk h) (disk h') (λ m. ⊥) (LeftBy h ts) (Passed h ts) first turns (λ m never. absurd never) passes_in)
+        commit (λ m passed. passed) committed
+      where
+        committed : (m : Image) → ReflectsOr (disk h') (numbers h') (tree h') m → Passed h ts m
+        committed m (inr stands) = (tree h', last, subst (λ (u : Superblock). StandsAs m u (tree h')) numbered stands)
+        committed m (inl r) =
+            let (U, is, there) = passes_at_end turns r.earlier r.could in
+            let equal : r.tree ≡ U = one_tree r.earlier (numbers h) r.tree U (subst (λ (u : Superblock). StandsAs r.earlier u r.tree) numbered r.stood) there in
+            (U, is, subst (λ (V : Tree). StandsAs m (numbers h) V) equal (subst (λ (u : Superblock). StandsAs m u r.tree) numbered r.stands))
 
   -- where the host is honest, the answers are turns of it
   record Turned (h : H) (es : List (HostCall × Errno)) (h' : H) : Type 0 where

@@ -67,14 +67,14 @@ module _ {D : Type 0} (is_honest : D → Type 0) (disk : D → Disk) (sectors_on
   opened_honest None device v opened h = opened.working.honest.0 h
 
   -- what was only read leaves nothing new
-  kept_crash : (f : SessionFault) (old new : Opened D) → KeepsVolume (known_of is_honest disk sectors_on failures goes_on) f old new → is_honest old.device → Leaves (disk old.device) (disk new.device) (λ m. ⊥)
+  pub kept_crash : (f : SessionFault) (old new : Opened D) → KeepsVolume (known_of is_honest disk sectors_on failures goes_on) f old new → is_honest old.device → Leaves (disk old.device) (disk new.device) (λ m. ⊥)
   kept_crash Setting old new same h = subst (λ (v : Opened D). Leaves (disk old.device) (disk v.device) (λ m. ⊥)) (sym same) (leaves_same (disk old.device) (λ m. ⊥))
   kept_crash (NoInstance f) old new same h = subst (λ (v : Opened D). Leaves (disk old.device) (disk v.device) (λ m. ⊥)) (sym same) (leaves_same (disk old.device) (λ m. ⊥))
   kept_crash Device old new reads h = reads.crash h
   kept_crash Preopen old new reads h = reads.crash h
   kept_crash Memory old new same h = subst (λ (v : Opened D). Leaves (disk old.device) (disk v.device) (λ m. ⊥)) (sym same) (leaves_same (disk old.device) (λ m. ⊥))
 
-  kept_honest : (f : SessionFault) (old new : Opened D) → KeepsVolume (known_of is_honest disk sectors_on failures goes_on) f old new → is_honest old.device → is_honest new.device
+  pub kept_honest : (f : SessionFault) (old new : Opened D) → KeepsVolume (known_of is_honest disk sectors_on failures goes_on) f old new → is_honest old.device → is_honest new.device
   kept_honest Setting old new same h = subst (λ (v : Opened D). is_honest v.device) (sym same) h
   kept_honest (NoInstance f) old new same h = subst (λ (v : Opened D). is_honest v.device) (sym same) h
   kept_honest Device old new reads h = reads.kept.honest.0 h

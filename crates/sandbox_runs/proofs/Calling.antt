@@ -2,7 +2,7 @@
 use Rattle.std.proofs.Common.{◌≡◌, ◌≤◌, ℕ, Bool, true, List, [], ◌∷◌, Option, Some, None, Result, Ok, Err, inl, inr, refl, sym, ◌∙◌, ap, subst, if◌then◌else◌}
 use Rattle.std.specs.Prelude.{IsSome, is_err, take}
 use Rattle.std.specs.Io.KnownBytes.{Keeps}
-use Rattle.vol_sector.specs.Disk.{Disk, Image}
+use Rattle.vol_sector.specs.Disk.{Disk, Image, Leaves}
 use Rattle.vol_sector.specs.declared.device.Device.{Ghosts}
 use Rattle.vol_sector.specs.declared.fault.Refused.{Refused}
 use Rattle.vol_tree.specs.Opened.{Opened}
@@ -23,7 +23,9 @@ use Rattle.wasi_bodies.specs.host.Worlds.{Hearing}
 use Rattle.sandbox_core.specs.declared.fault.SessionFault.{SessionFault}
 use Rattle.sandbox_core.specs.declared.fault.SessionFault.TheVariants.{Memory}
 use Rattle.sandbox_core.specs.declared.session.RefusedSession.{RefusedSession}
-use Rattle.sandbox_core.specs.Devices.{Devices}
+use Rattle.sandbox_core.specs.Devices.{Devices, IsHonest, disk_of, numbers_of, tree_of}
+use Rattle.plugin_core.specs.Moments.{StandsPassed}
+use Rattle.wasm_interp.specs.Machine.{Represents}
 use Rattle.sandbox_core.specs.Safety.{TurnsAreSafe}
 use Rattle.sandbox_core.specs.Session.{HandsBack, KeepsVolume, Shares, given}
 use Rattle.sandbox_core.specs.internal.Faults.{of_instance}
@@ -50,6 +52,7 @@ use Rattle.sandbox_runs.specs.Status.{EndsWith, session_status, volume_status}
 use Rattle.sandbox_telling.specs.Supplies.{AreSettings, terminals_of}
 use Rattle.sandbox_runs.specs.internal.Invoking.{CallsInstance, readied_by, with_seed, with_terminals}
 use Rattle.sandbox_runs.proofs.Charged.{tells_use, told_use}
+use Rattle.sandbox_runs.proofs.CallCrash.{call_crash, call_honest, call_leaves, call_lives, whole_honest}
 use Rattle.sandbox_runs.proofs.Launching.{kept_streams}
 
 -- ---- before it is called
@@ -140,21 +143,34 @@ module _ {D R W1 W2 : Type 0} (device : Ghosts D) (remaining : R → Option (Lis
     handed p = p
 
     -- an instance was opened, and its function called
-    pub called : (begun : InstanceState D (Counted R) (Counted W1) (Counted W2)) → Opens m (handed taken) begun → Shares device (handed taken) (session_of begun)
+    pub called : InstanceHeadline Represents on → TurnsAreSafe on → TellsStores Represents
+        → (begun : InstanceState D (Counted R) (Counted W1) (Counted W2)) → Opens m (handed taken) begun → Shares device (handed taken) (session_of begun)
         → (numbers : List ℕ) (value_type : Option ValueType) → AreArguments m name (texts run.words.items) numbers value_type → (left : Executed D R W1 W2)
         → CallsInstance device.honest device.disk device.size device.failures device.goes_on remaining outs errs ear run name numbers value_type begun left → Launched parts left
-    called begun begins sharing numbers value_type are left it = inr (record {
-      numbers = numbers;
-      value_type = value_type;
-      arguments = are;
-      instance = readied_by run begun;
-      opens = opens_readied m (counting run parts) begun run (subst (λ (p : HostParts D (Counted R) (Counted W1) (Counted W2)). Opens m (handed p) begun) same begins);
-      shares = shares_readied device (counting run parts) begun run (subst (λ (p : HostParts D (Counted R) (Counted W1) (Counted W2)). Shares device (handed p) (session_of begun)) same sharing);
-      called = it.called;
-      room = it.room;
-      calls = it.calls;
-      told = it.told;
-    })
+    called headline safe tells begun begins sharing numbers value_type are left it =
+        let instance = readied_by run begun in
+        let opens = opens_readied m (counting run parts) begun run (subst (λ (p : HostParts D (Counted R) (Counted W1) (Counted W2)). Opens m (handed p) begun) same begins) in
+        let shares = shares_readied device (counting run parts) begun run (subst (λ (p : HostParts D (Counted R) (Counted W1) (Counted W2)). Shares device (handed p) (session_of begun)) same sharing) in
+        inr (record {
+          numbers = numbers;
+          value_type = value_type;
+          arguments = are;
+          instance = instance;
+          opens = opens;
+          shares = shares;
+          called = it.called;
+          room = it.room;
+          calls = it.calls;
+          told = it.told;
+          crash = λ h lasts. (
+            call_lives on headline safe tells m run.seed (terminals_of run) (counting run parts) instance opens shares name numbers run.limits.fuel it.room it.called it.calls h lasts,
+            subst (λ (d : D). Leaves (device.disk parts.volume.device) (device.disk d) (StandsPassed (disk_of on) numbers_of tree_of (IsHonest on) instance.host
+            (call_lives on headline safe tells m run.seed (terminals_of run) (counting run parts) instance opens shares name numbers run.limits.fuel it.room it.called it.calls h lasts).kept.turns)) (sym it.told.device)
+            (call_leaves on headline safe tells m run.seed (terminals_of run) (counting run parts) instance opens shares name numbers run.limits.fuel it.room it.called it.calls h lasts),
+          );
+          honest = λ h lasts. subst device.honest (sym it.told.device)
+              (call_honest on headline safe tells m run.seed (terminals_of run) (counting run parts) instance opens shares name numbers run.limits.fuel it.room it.called it.calls h lasts);
+        })
 
     -- no instance could be opened
     pub not_opened : (r : RefusedSession D (Counted R) (Counted W1) (Counted W2)) → HandsBack device m (handed taken) r → opening.IsRefused device.honest r.fault m (handed taken)
@@ -205,19 +221,19 @@ module _ {D R W1 W2 : Type 0} (device : Ghosts D) (remaining : R → Option (Lis
       → IsOpenFor device.honest device.disk device.size device.failures (volume_of run) d v → AreSettings run random parts.settings → parts ≡ given parts.settings v input out err
       → Launched parts left
       → InvokesOn device.honest device.disk device.size device.failures device.goes_on remaining outs errs ear name run m random d input out err left
-  call_on_volume random d input out err v parts left opened are same launched = inr (record {
-    volume = v;
-    opened = opened;
-    parts = parts;
-    are_settings = are;
-    given = (
-      ap (λ (p : HostParts D R W1 W2). p.volume) same,
-      ap (λ (p : HostParts D R W1 W2). p.input) same,
-      ap (λ (p : HostParts D R W1 W2). p.out) same,
-      ap (λ (p : HostParts D R W1 W2). p.err) same,
-    );
-    launched = launched;
-  })
+  call_on_volume random d input out err v parts left opened are same launched =
+      let its = given parts.settings v input out err in
+      let launches = subst (λ (p : HostParts D R W1 W2). Launched p left) same launched in
+      inr (record {
+        volume = v;
+        opened = opened;
+        parts = its;
+        are_settings = are;
+        given = (refl, refl, refl, refl);
+        launched = launches;
+        crash = call_crash device remaining outs errs ear run name m its left (volume_of run) d opened launches;
+        honest = whole_honest device remaining outs errs ear run name m its left (volume_of run) d opened launches;
+      })
 
   pub call_no_volume : (random : Text) (d : D) (input : R) (out : W1) (err : W2) (refused : Refused D) (left : Executed D R W1 W2)
       → IsRefusedFor device.honest device.disk device.size device.failures (volume_of run) d refused

@@ -5,4 +5,5 @@ pub mod Seeding
 pub mod Charged
 pub mod Launching
 pub mod Results
+pub mod CallCrash
 pub mod Calling

@@ -4,7 +4,8 @@
 -- configurations, as `GuestRan` (`Guest`) of a command's session: the headline of an instance holds of it (`CallUpholds`).
 use Rattle.std.specs.Prelude.{◌≡◌, ◌⊎◌, ◌≤◌, ◌++◌, ℕ, Bool, true, List, [], ◌∷◌, Option, Some, None, Result, Ok, Err, codes, if◌then◌else◌, slice_get, take}
 use Rattle.std.specs.Io.KnownBytes.{Appends, Keeps}
-use Rattle.vol_sector.specs.Disk.{Image, Disk}
+use Rattle.std.proofs.Common.{inl, inr}
+use Rattle.vol_sector.specs.Disk.{Image, Disk, Leaves}
 use Rattle.vol_sector.specs.declared.fault.Refused.{Refused}
 use Rattle.vol_tree.specs.Opened.{Opened}
 use Rattle.vol_tree.specs.Stands.{StandsAs}
@@ -25,9 +26,10 @@ use Rattle.wasi_calls.specs.declared.host.wasi_host.HostParts.{HostParts}
 use Rattle.wasi_bodies.specs.host.Worlds.{Hearing}
 use Rattle.sandbox_core.specs.declared.fault.SessionFault.{SessionFault}
 use Rattle.sandbox_core.specs.declared.fault.SessionFault.TheVariants.{Setting, Memory, Instance as NoInstance}
-use Rattle.sandbox_core.specs.Devices.{Devices}
+use Rattle.sandbox_core.specs.Devices.{Devices, IsHonest, disk_of, numbers_of, tree_of}
 use Rattle.sandbox_core.specs.Finishing.{Commits}
 use Rattle.sandbox_core.specs.Session.{Shares, KeepsVolume}
+use Rattle.plugin_core.specs.Moments.{StandsPassed}
 use Rattle.plugin_session.specs.Headline.{History, FollowBy, Upholds}
 use Rattle.plugin_session.specs.Instance as opening
 use Rattle.plugin_session.specs.Instance.{InstanceState, OpensBy, links, session_of, used_by}
@@ -44,7 +46,7 @@ use Rattle.sandbox_report.specs.declared.fault.Fault.{Fault}
 use Rattle.sandbox_report.specs.declared.fault.Fault.TheVariants as reason
 use Rattle.sandbox_args.specs.declared.request.Run.{Run}
 use Rattle.sandbox_args.specs.Request.{Text, texts}
-use Rattle.vol_commands.specs.Volumes.{IsOpenFor}
+use Rattle.vol_commands.specs.Volumes.{IsOpenFor, LeftByOpening}
 use Rattle.sandbox_runs.specs.declared.program.Executed.{Executed}
 use Rattle.sandbox_telling.specs.declared.stopping.Stopped.{Stopped}
 use Rattle.sandbox_telling.specs.Reporting.{kept_where_not_begun, not_run, session_reason, volume_of}
@@ -169,9 +171,22 @@ module _ {D R W1 W2 : Type 0} (is_honest : D → Type 0) (disk : D → Disk) (se
     pub room : List Frame
     pub calls : CallsOnceAndEnds on instance name numbers run.limits.fuel room called
     pub told : IsToldOfCall value_type called room left
+    -- Where a crash at its beginning leaves the volume's tree, what the instance did is its life, and a crash at any moment leaves the tree
+    -- at first or that after one of its answers.
+    pub crash : is_honest parts.volume.device → ((c : Image) → (disk parts.volume.device).may_leave c → StandsAs c parts.volume.numbers parts.volume.tree)
+        → (life : Upholds on m parts.settings.pages (parts.volume.tree ∷ []) 0 instance calls.acts calls.last)
+        × Leaves (disk parts.volume.device) (disk left.device) (StandsPassed (disk_of on) numbers_of tree_of (IsHonest on) instance.host life.kept.turns)
+    pub honest : is_honest parts.volume.device → ((c : Image) → (disk parts.volume.device).may_leave c → StandsAs c parts.volume.numbers parts.volume.tree) → is_honest left.device
 
   abbrev pub LaunchesCall : (name : Text) → Module → Run → HostParts D R W1 W2 → Executed D R W1 W2 → Type 0
   LaunchesCall name m run parts left = NotCalled name m run parts left ⊎ Called name m run parts left
+
+  -- what a stop after the volume was opened may leave: a tree of the life of its instance
+  abbrev pub LeftByCall : (name : Text) (m : Module) (run : Run) (parts : HostParts D R W1 W2) (left : Executed D R W1 W2) → LaunchesCall name m run parts left → Image → Type 0
+  LeftByCall name m run parts left (inl none) image = ⊥
+  LeftByCall name m run parts left (inr c) image =
+      (life : Upholds on m parts.settings.pages (parts.volume.tree ∷ []) 0 c.instance c.calls.acts c.calls.last)
+      × StandsPassed (disk_of on) numbers_of tree_of (IsHonest on) c.instance.host life.kept.turns image
 
   -- The volume was opened, and the function called with it and with the settings that were asked for.
   pub record CallsOnVolume (name : Text) (run : Run) (m : Module) (random : Text) (device : D) (input : R) (out : W1) (err : W2) (left : Executed D R W1 W2) : Type 0 where
@@ -181,6 +196,10 @@ module _ {D R W1 W2 : Type 0} (is_honest : D → Type 0) (disk : D → Disk) (se
     pub are_settings : AreSettings run random parts.settings
     pub given : (parts.volume ≡ volume) × (parts.input ≡ input) × (parts.out ≡ out) × (parts.err ≡ err)
     pub launched : LaunchesCall name m run parts left
+    -- At any moment a crash leaves what it could leave before, what opening leaves, or a tree of the instance's life.
+    pub crash : is_honest device → Leaves (disk device) (disk left.device)
+        (λ c. LeftByOpening is_honest disk sectors_on failures (volume_of run) volume c ⊎ LeftByCall name m run parts left launched c)
+    pub honest : is_honest device → is_honest left.device
 
 -- ---- by any relation
 

@@ -22,11 +22,12 @@ use crate::program::{Executed, FAULT, no_session, no_volume, reported, volume_of
 use crate::sessions::{fuel_use_of, imports_of, parts_of};
 use invoked_run::{CallEnd, CalledOnce, call_once, exported_type};
 use observed_run::FuelProfile;
-use plugin_session::{Instance, Plugin};
+use plugin_session::{Instance, Plugin, instance_headline};
 use sandbox_args::Run;
 use sandbox_core::{
     Frame, HostParts, Outcome, RefusedParts, Report, SessionFault, Tally, Valid, of_instance,
 };
+use sandbox_core::laws::turns_are_safe;
 use sandbox_report::{Counted, End, Fault, Summary};
 use sandbox_telling::output::NOT_COMMITTED;
 use sandbox_telling::profiling::FuelUse;
@@ -37,6 +38,7 @@ use std::alloc::Global;
 use stream_answers::{Inlet, Outlet, print_all};
 use value_words::{NoNumbers, line_of, numbers_of};
 use vol_sector::Device;
+use wasm_interp::{OwnMeaning, own_meaning_tells_stores};
 use wasm_module::{FuncType, Module, ValueType};
 use wasm_store::InstanceFault;
 
@@ -296,6 +298,10 @@ fn launch_instance<D: Device + Drop, R: Inlet + Drop, W1: Outlet + Drop, W2: Out
         plugin.now.valid run.now its result }
     ensures answered { RunAnswered W1.flushed W1.refuses W2.flushed W2.refuses result }
 {
+    // laws for the contract
+    instance_headline::<OwnMeaning, D, Counted<R>, Counted<W1>, Counted<W2>>();
+    turns_are_safe::<D, Counted<R>, Counted<W1>, Counted<W2>>();
+    own_meaning_tells_stores();
     let imported = imports_of(plugin.module().module());
     match Instance::of_parts(alloc, plugin, parts) {
         Ok(instance) => {

@@ -8,7 +8,7 @@ use Rattle.sandbox_runs.proofs.invoking.launch_instance.Goals as goal
 pub returns-in-Ok-clause-launches : goal.returns-in-Ok-clause-launches
 returns-in-Ok-clause-launches g c = λ its same.
     called g.D.Device g.R.Read.remaining g.W1.Write.contents g.W2.Write.contents (hearing g.R.Inlet.gave g.R.Inlet.refused g.W1.Outlet.took g.W1.Outlet.refused g.W2.Outlet.took g.W2.Outlet.refused) c.args.run.now c.args.name.now c.args.plugin.now.valid its c.args.parts same
-    c.in-Ok.instance c.in-Ok.ensures.opens c.in-Ok.ensures.shares c.args.arguments.now.numbers.items c.args.arguments.now.value_type c.requires.arguments
+    c.instance_headline.ensures c.turns_are_safe.ensures c.own_meaning_tells_stores.ensures c.in-Ok.instance c.in-Ok.ensures.opens c.in-Ok.ensures.shares c.args.arguments.now.numbers.items c.args.arguments.now.value_type c.requires.arguments
     c.call_within.result c.call_within.ensures.called
 
 -- there is no instance
