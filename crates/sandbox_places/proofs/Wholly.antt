@@ -1,5 +1,5 @@
 -- A stream that is read whole.
-use Rattle.std.proofs.Common.{◌≡◌, ◌+◌, ◌-◌, ◌≤◌, ◌++◌, ◌∙◌, ℕ, List, [], ◌∷◌, length, length-append, append-nil, sym, ap, refl, subst, arith}
+use Rattle.std.proofs.Common.{Result, Ok, Err, IfErr, IsErrAnd, ◌≡◌, ◌+◌, ◌-◌, ◌≤◌, ◌++◌, ◌∙◌, ℕ, List, [], ◌∷◌, length, length-append, append-nil, sym, ap, refl, subst, arith}
 use Rattle.stream_answers.specs.Pieces.{Gives}
 
 no_bytes : (xs : List ℕ) → length xs ≡ 0 → xs ≡ []
@@ -19,3 +19,8 @@ at_end {S} gave first before then more all last count long zero came is was =
 pub in_all : (before more all : List ℕ) (left count most : ℕ) → all ≡ before ++ more → length more ≡ count → length before + left ≡ most → count ≤ left
     → length all + (left - count) ≡ most
 in_all before more all left count most is long had few = omega (arith, ap length is, length-append before more)
+
+-- an error that is passed on
+pub passed : {X E : Type 0} (N : E → Type 0) (r : Result X E) (e : E) → IsErrAnd r (λ f. f ≡ e) → N e → IfErr r N
+passed N (Ok x) e is holds = tt
+passed N (Err f) e is holds = subst N (sym is) holds

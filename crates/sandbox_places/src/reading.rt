@@ -1,6 +1,9 @@
 //! Streams that are read whole.
 
-ghost use Rattle.std.specs.Prelude.{◌≡◌, ◌≤◌, ◌++◌, ℕ, List, IfOk, length, take};
+ghost use Rattle.std.specs.Prelude.{◌≡◌, ◌≤◌, ◌++◌, ◌⊎◌, ℕ, List, IfErr, IfOk, OnErr, length, take};
+ghost use Rattle.std.specs.IoError.{error_kind};
+ghost use Rattle.std.specs.declared.io.ErrorKind.TheVariants.{OutOfMemory};
+ghost use Rattle.sandbox_places.specs.Reading.{IsStopped, IsUnread};
 ghost use Rattle.stream_answers.specs.Pieces.{AtLast, IsWhole};
 
 use std::alloc::Global;
@@ -16,6 +19,7 @@ fn read_piece<R: Inlet>(input: &mut R, piece: &mut [u8]) -> io::Result<usize>
     ensures few { IfOk result (λ n. n ≤ length piece.new) }
     ensures gave { IfOk result (λ n. AtLast R.gave R.refused input.old (take n piece.new)
         input.new) }
+    ensures refused { OnErr result (IsStopped R.refused input.old input.new) }
 {
     for _tries in 0..u64::MAX {
         match input.try_read(piece) {
@@ -36,6 +40,8 @@ fn read_more<R: Inlet>(input: &mut R, piece: &mut [u8], bytes: &mut Vec<u8>) -> 
     ensures gave { IfOk result (λ n. (more : List ℕ) × (length more ≡ n)
         × AtLast R.gave R.refused input.old more input.new
         × (bytes.new.items ≡ bytes.old.items ++ more)) }
+    ensures refused { IfErr result (λ error. (error_kind error ≡ OutOfMemory)
+        ⊎ IsStopped R.refused input.old input.new) }
 {
     let count = read_piece(input, piece)?;
     bytes.extend_from_slice(&piece[..count])?;
@@ -43,15 +49,16 @@ fn read_more<R: Inlet>(input: &mut R, piece: &mut [u8], bytes: &mut Vec<u8>) -> 
 }
 
 /// Reads a stream to its end, or this many bytes of it where it has more, into memory for so many as are expected. Where a read is
-/// interrupted it is asked again.
+/// interrupted it is asked again. It fails only where memory or a read is refused.
 pub fn read_whole<R: Inlet>(
     alloc: Global,
     input: &mut R,
     most: u64,
     expected: usize,
 ) -> io::Result<Vec<u8>>
-    ensures { IfOk result (λ bytes. IsWhole (AtLast R.gave R.refused) most input.old bytes.items
-        input.new) }
+    ensures whole { IfOk result (λ bytes. IsWhole (AtLast R.gave R.refused) most input.old
+        bytes.items input.new) }
+    ensures refused { IfErr result (IsUnread R.gave R.refused input.old input.new) }
 {
     let mut bytes = Vec::with_capacity(alloc, expected)?;
     let mut piece = vec![in alloc; 0; PIECE]?;
