@@ -146,7 +146,7 @@ module _ {D W1 W2 : Type 0} (honest : D → Type 0) (disk : D → Disk) (sectors
 
   module _ (i : Instance) where
     -- so in a step, which leaves the mark of the end
-    step_before : (n : ℕ) (h h' : HostState D Fed W1 W2) (c d : Configuration) (ev : Event) → h'.input.failed ≡ false → Step (HostState D Fed W1 W2) OverFed i n h c ev h' d
+    pub step_before : (n : ℕ) (h h' : HostState D Fed W1 W2) (c d : Configuration) (ev : Event) → h'.input.failed ≡ false → Step (HostState D Fed W1 W2) OverFed i n h c ev h' d
         → (h.input.failed ≡ false) × (h'.input.reader.ended ≡ h.input.reader.ended)
     step_before n h _ _ _ _ now (plain_step r) = (now, refl)
     step_before n h _ _ _ _ now (free_step e) = (now, refl)
@@ -157,7 +157,7 @@ module _ {D W1 W2 : Type 0} (honest : D → Type 0) (disk : D → Disk) (sectors
     step_before n h h' _ _ _ now (in_label {s = s} {s' = s'} {f = f} {f' = f'} {c = c} {c' = c'} {ev = ev} inner) = step_before n h h' (at s f c) (at s' f' c') ev now inner
     step_before n h h' _ _ _ now (in_frame {s = s} {s' = s'} {g = g} {g' = g'} {c = c} {c' = c'} {ev = ev} inner) = step_before (suc n) h h' (at s g c) (at s' g' c') ev now inner
 
-    step_whole : (more : List ℕ) (n : ℕ) (h h' : HostState D Fed W1 W2) (c d : Configuration) (ev : Event) → MayCome more h.input.reader → h'.input.failed ≡ false
+    pub step_whole : (more : List ℕ) (n : ℕ) (h h' : HostState D Fed W1 W2) (c d : Configuration) (ev : Event) → MayCome more h.input.reader → h'.input.failed ≡ false
         → Step (HostState D Fed W1 W2) OverFed i n h c ev h' d → Step (HostState D (List ℕ) W1 W2) OverWhole i n (whole_host more h) c ev (whole_host more h') d
     step_whole more n h _ _ _ _ may now (plain_step r) = plain_step r
     step_whole more n h _ _ _ _ may now (free_step e) = free_step e
@@ -168,11 +168,11 @@ module _ {D W1 W2 : Type 0} (honest : D → Type 0) (disk : D → Disk) (sectors
     step_whole more n h h' _ _ _ may now (in_label {s = s} {s' = s'} {f = f} {f' = f'} {c = c} {c' = c'} {ev = ev} inner) = in_label (step_whole more n h h' (at s f c) (at s' f' c') ev may now inner)
     step_whole more n h h' _ _ _ may now (in_frame {s = s} {s' = s'} {g = g} {g' = g'} {c = c} {c' = c'} {ev = ev} inner) = in_frame (step_whole more (suc n) h h' (at s g c) (at s' g' c') ev may now inner)
 
-    reach_before : (h h' : HostState D Fed W1 W2) (c d : Configuration) (es : List (HostCall × Errno)) → h'.input.failed ≡ false → Reach (HostState D Fed W1 W2) OverFed i h c es h' d → h.input.failed ≡ false
+    pub reach_before : (h h' : HostState D Fed W1 W2) (c d : Configuration) (es : List (HostCall × Errno)) → h'.input.failed ≡ false → Reach (HostState D Fed W1 W2) OverFed i h c es h' d → h.input.failed ≡ false
     reach_before h _ c _ _ now halts = now
     reach_before h h' c d _ now (makes {h' = g} {c' = b} ev es first rest) = (step_before 0 h g c b ev (reach_before g h' b d es now rest) first).0
 
-    reach_whole : (more : List ℕ) (h h' : HostState D Fed W1 W2) (c d : Configuration) (es : List (HostCall × Errno)) → MayCome more h.input.reader → h'.input.failed ≡ false
+    pub reach_whole : (more : List ℕ) (h h' : HostState D Fed W1 W2) (c d : Configuration) (es : List (HostCall × Errno)) → MayCome more h.input.reader → h'.input.failed ≡ false
         → Reach (HostState D Fed W1 W2) OverFed i h c es h' d → Reach (HostState D (List ℕ) W1 W2) OverWhole i (whole_host more h) c es (whole_host more h') d
     reach_whole more h _ c _ _ may now halts = halts
     reach_whole more h h' c d _ may now (makes {h' = g} {c' = b} ev es first rest) =

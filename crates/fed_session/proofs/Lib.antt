@@ -1,0 +1,4 @@
+mod Waiting
+mod Acting
+mod Pieces
+mod Wholes

@@ -1,0 +1,51 @@
+-- Bytes that are handed over, and the end of them.
+use Rattle.std.proofs.Common.{◌≡◌, ℕ, Bool, true, false, true≢false, List, [], ◌∷◌, ◌++◌, Result, Ok, Err, if◌then◌else◌, refl, sym, ap, subst, ◌∙◌}
+use Rattle.std.specs.Prelude.{IfErr, IfOk}
+use Rattle.plugin_session.specs.States.{InstanceState}
+use Rattle.fed_input.specs.declared.fed.NotFed.{NotFed}
+use Rattle.fed_input.specs.Feeding.{Fed, IsNotFed, fed, left_of}
+use Rattle.fed_session.specs.Feeding.{Feeds, with_input}
+
+is_empty : List ℕ → Bool
+is_empty [] = true
+is_empty (x ∷ xs) = false
+
+-- with one more byte behind it, something is left
+something : (bytes : List ℕ) → bytes ++ (0 ∷ []) ≡ [] → ⊥
+unfolding is_empty
+something [] e = true≢false (sym (ap is_empty e))
+something (x ∷ xs) e = true≢false (sym (ap is_empty e))
+
+left_going_on : (f : Fed) → f.ended ≡ false → left_of f ≡ f.bytes ++ (0 ∷ [])
+left_going_on f still = ap (λ (b : Bool). f.bytes ++ (if b then [] else (0 ∷ []))) still
+
+-- what stands in for the input has nothing left
+pub nothing_left : (f g : Fed) → f ≡ record { bytes = []; ended = false } → g ≡ record { bytes = f.bytes; ended = true } → left_of g ≡ []
+nothing_left f g none is = ap left_of is ∙ ap (λ (z : Fed). z.bytes ++ []) none
+
+-- once the guest has seen the end, nothing comes
+pub still_at_end : (r : Result (Unit {0}) NotFed) (f g : Fed) (bytes : List ℕ) (seen : Bool) → (seen ≡ true → left_of f ≡ []) → IfOk r (λ u. (f.ended ≡ false) × (g ≡ fed bytes f)) → IfErr r (λ e. (g ≡ f) × IsNotFed f e)
+    → seen ≡ true → left_of g ≡ []
+still_at_end (Ok u) f g bytes seen before (still, is) other at = absurd (something f.bytes (sym (left_going_on f still) ∙ before at))
+still_at_end (Err e) f g bytes seen before ok (same, why) at = ap left_of same ∙ before at
+
+pub ended_left : (f g : Fed) (seen : Bool) → (seen ≡ true → left_of f ≡ []) → g ≡ record { bytes = f.bytes; ended = true } → seen ≡ true → left_of g ≡ []
+ended_left f g seen before is at = ap left_of is ∙ by_end f.ended f.bytes (before at) where
+  by_end : (b : Bool) (bytes : List ℕ) → bytes ++ (if b then [] else (0 ∷ [])) ≡ [] → bytes ++ [] ≡ []
+  by_end true bytes e = e
+  by_end false bytes e = absurd (something bytes e)
+
+module _ {D W1 W2 : Type 0} where
+  -- the input is another one in the end
+  pub twice : (s t u : InstanceState D Fed W1 W2) (f g : Fed) → t ≡ with_input s f → u ≡ with_input t g → u ≡ with_input s g
+  twice s t u f g first then_ = then_ ∙ ap (λ (z : InstanceState D Fed W1 W2). with_input z g) first
+
+  pub feeds : (r : Result (Unit {0}) NotFed) (s u : InstanceState D Fed W1 W2) (f g : Fed) (bytes : List ℕ) (P : Type 0) → P → f ≡ s.host.input.reader → u ≡ with_input s g → IfOk r (λ x. (f.ended ≡ false) × (g ≡ fed bytes f))
+      → IfOk r (λ x. Feeds s u bytes × P)
+  feeds (Ok x) s u f g bytes P p same is (still, more) = (record { goes_on = ap (λ (z : Fed). z.ended) (sym same) ∙ still; is = is ∙ ap (λ (z : Fed). with_input s z) (more ∙ ap (fed bytes) same) }, p)
+  feeds (Err e) s u f g bytes P p same is k = tt
+
+  pub feeds_nothing : (r : Result (Unit {0}) NotFed) (s u : InstanceState D Fed W1 W2) (f g : Fed) → f ≡ s.host.input.reader → u ≡ with_input s g → IfErr r (λ e. (g ≡ f) × IsNotFed f e)
+      → IfErr r (λ e. (u ≡ s) × IsNotFed s.host.input.reader e)
+  feeds_nothing (Ok x) s u f g same is k = tt
+  feeds_nothing (Err e) s u f g same is (kept, why) = (is ∙ ap (λ (z : Fed). with_input s z) (kept ∙ same), subst (λ (z : Fed). IsNotFed z e) same why)

@@ -1,0 +1,9 @@
+use Rattle.std.proofs.Common.{refl}
+use Rattle.fed_session.specs.Feeding.{around}
+use Rattle.fed_session.proofs.Acting.{does_let_go, if_ok}
+use Rattle.fed_session.proofs.feeding.FedInstance.abandon.Goals as goal
+
+pub returns-clause-abandoned : goal.returns-clause-abandoned
+returns-clause-abandoned g c =
+    let a = around g.D.Device g.W1.Write g.W2.Write g.W1.Outlet.took g.W1.Outlet.refused g.W2.Outlet.took g.W2.Outlet.refused in
+    rw (← c.self.view_is) (if_ok _ _ c.abandon.result (λ u k. (does_let_go a c.self.inside.goes_on _ _ k, refl)) c.abandon.ensures.abandoned)
