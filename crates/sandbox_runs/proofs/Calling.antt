@@ -165,8 +165,8 @@ module _ {D R W1 W2 : Type 0} (device : Ghosts D) (remaining : R → Option (Lis
           crash = λ h lasts. (
             call_lives on headline safe tells m run.seed (terminals_of run) (counting run parts) instance opens shares name numbers run.limits.fuel it.room it.called it.calls h lasts,
             subst (λ (d : D). Leaves (device.disk parts.volume.device) (device.disk d) (StandsPassed (disk_of on) numbers_of tree_of (IsHonest on) instance.host
-            (call_lives on headline safe tells m run.seed (terminals_of run) (counting run parts) instance opens shares name numbers run.limits.fuel it.room it.called it.calls h lasts).kept.turns)) (sym it.told.device)
-            (call_leaves on headline safe tells m run.seed (terminals_of run) (counting run parts) instance opens shares name numbers run.limits.fuel it.room it.called it.calls h lasts),
+                (call_lives on headline safe tells m run.seed (terminals_of run) (counting run parts) instance opens shares name numbers run.limits.fuel it.room it.called it.calls h lasts).kept.turns)) (sym it.told.device)
+                (call_leaves on headline safe tells m run.seed (terminals_of run) (counting run parts) instance opens shares name numbers run.limits.fuel it.room it.called it.calls h lasts),
           );
           honest = λ h lasts. subst device.honest (sym it.told.device)
               (call_honest on headline safe tells m run.seed (terminals_of run) (counting run parts) instance opens shares name numbers run.limits.fuel it.room it.called it.calls h lasts);

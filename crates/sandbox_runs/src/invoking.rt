@@ -24,10 +24,10 @@ use invoked_run::{CallEnd, CalledOnce, call_once, exported_type};
 use observed_run::FuelProfile;
 use plugin_session::{Instance, Plugin, instance_headline};
 use sandbox_args::Run;
+use sandbox_core::laws::turns_are_safe;
 use sandbox_core::{
     Frame, HostParts, Outcome, RefusedParts, Report, SessionFault, Tally, Valid, of_instance,
 };
-use sandbox_core::laws::turns_are_safe;
 use sandbox_report::{Counted, End, Fault, Summary};
 use sandbox_telling::output::NOT_COMMITTED;
 use sandbox_telling::profiling::FuelUse;
