@@ -14,7 +14,7 @@ use Rattle.wasm_store.specs.Instantiating.{IsCallee, IsInstantiated}
 use Rattle.wasm_steps.specs.Configuration.{Callee, signature_of}
 use Rattle.wasm_store.specs.Instances.{callee_of}
 use Rattle.wasm_interp.specs.declared.begin.Begun.{Begun}
-use Rattle.wasm_operands.specs.declared.tables.Prepared.{Prepared}
+use Rattle.wasm_places.specs.declared.tables.Prepared.{Prepared}
 use Rattle.wasm_interp.specs.internal.Begun.{HasBegun, HasOpened, IsReady, IsReadyToOpen}
 use Rattle.wasm_interp.specs.Shared.{AreCallsOf, AreLinksOf}
 use Rattle.wasm_syntax.specs.declared.module.Module.{Module}

@@ -3,7 +3,7 @@
 ghost use Rattle.std.specs.Prelude.{◌≡◌, ◌∷◌, reverse, slice_get};
 ghost use Rattle.wasm_steps.specs.Configuration.{Configuration, Instance};
 ghost use Rattle.wasm_interp.specs.Machine.{Represents, Snapshot, outcome_of};
-ghost use Rattle.wasm_operands.specs.declared.tables.Prepared.{Prepared as PreparedValue};
+ghost use Rattle.wasm_places.specs.declared.tables.Prepared.{Prepared as PreparedValue};
 ghost use Rattle.wasm_interp.specs.Frames.{Tells, frames_of, is_inside_at};
 ghost use Rattle.wasm_interp.specs.internal.Running.{snapshot_of};
 

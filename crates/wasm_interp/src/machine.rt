@@ -11,7 +11,7 @@ use crate::frames::Frame;
 use crate::state::State;
 use std::alloc::Global;
 use std::marker::Model;
-use wasm_operands::tables::Prepared;
+use wasm_places::tables::Prepared;
 use wasm_steps::Pause;
 use wasm_store::{Host, InstanceFault};
 use wasm_valid::Valid;

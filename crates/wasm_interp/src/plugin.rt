@@ -13,7 +13,7 @@ use crate::machine::RefusedInstance;
 use std::alloc::{AllocError, Global};
 use std::marker::Model;
 use std::sync::Arc;
-use wasm_operands::tables::Prepared;
+use wasm_places::tables::Prepared;
 use wasm_store::{Host, InstanceFault};
 use wasm_valid::Valid;
 

@@ -17,7 +17,7 @@ use crate::state::State;
 use std::alloc::{AllocError, Global};
 use std::marker::Model;
 use std::sync::Arc;
-use wasm_operands::tables::Prepared;
+use wasm_places::tables::Prepared;
 use wasm_steps::Pause;
 use wasm_store::{Host, InstanceFault};
 use wasm_valid::Valid;

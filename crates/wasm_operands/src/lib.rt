@@ -18,6 +18,5 @@ pub mod pending;
 pub mod phase;
 mod reads;
 pub mod stores;
-pub mod tables;
 pub mod unary;
 pub mod work;

@@ -14,7 +14,7 @@ use Rattle.plugin_steps.specs.Serving.{with_memory}
 use Rattle.wasm_operands.specs.declared.phase.Phase.{Phase}
 use Rattle.wasm_operands.specs.declared.phase.Phase.TheVariants.{Within as within, Between as between, Asking as asking}
 use Rattle.wasm_operands.specs.declared.phase.Ask.{Ask}
-use Rattle.wasm_operands.specs.declared.tables.Prepared.{Prepared}
+use Rattle.wasm_places.specs.declared.tables.Prepared.{Prepared}
 use Rattle.wasm_interp.specs.declared.state.State.{State}
 use Rattle.wasm_interp.specs.Machine.{Represents, Snapshot}
 use Rattle.wasm_interp.specs.Invoking.{Answers, AnswersAt, Fit, invocation_over, Invokes, IsAsked, IsImportType, IsLetGo, IsOwnType, IsWritten, Returns, values_of}

@@ -6,7 +6,7 @@ use Rattle.wasm_places.specs.declared.invocable.Event.TheVariants.{Asked, Paused
 use Rattle.wasm_operands.specs.declared.phase.Phase.{Phase}
 use Rattle.wasm_operands.specs.declared.phase.Phase.TheVariants.{Within, Between, Asking}
 use Rattle.wasm_operands.specs.declared.phase.Ask.{Ask}
-use Rattle.wasm_operands.specs.declared.tables.Prepared.{Prepared}
+use Rattle.wasm_places.specs.declared.tables.Prepared.{Prepared}
 use Rattle.wasm_interp.specs.declared.state.State.{State}
 use Rattle.wasm_operands.specs.internal.Awaited.{nothing_awaited}
 use Rattle.wasm_interp.specs.internal.Running.{AsksWithin, GoesOn}

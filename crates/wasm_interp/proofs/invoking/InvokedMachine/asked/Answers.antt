@@ -2,7 +2,7 @@ use Rattle.std.proofs.Common.{◌∙◌, ℕ, List, length, reverse, take, drop,
 use Rattle.std.specs.Arc.{arc_value}
 use Rattle.wasm_syntax.specs.declared.module.FuncType.{FuncType}
 use Rattle.wasm_syntax.specs.declared.module.Module.{Module}
-use Rattle.wasm_operands.specs.declared.tables.Prepared.{Prepared}
+use Rattle.wasm_places.specs.declared.tables.Prepared.{Prepared}
 use Rattle.wasm_interp.specs.Invoking.{IsImportType}
 use Rattle.wasm_interp.proofs.PlainSteps.Invoking.{arguments_asked}
 use Rattle.wasm_operands.specs.declared.phase.Ask.{Ask}

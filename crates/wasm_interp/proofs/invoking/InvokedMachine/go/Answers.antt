@@ -7,7 +7,7 @@ use Rattle.wasm_operands.specs.declared.phase.Ask.{Ask}
 use Rattle.wasm_operands.specs.declared.phase.Phase.{Phase}
 use Rattle.wasm_operands.specs.declared.phase.Phase.TheVariants.{Within, Between, Refused, Over, Asking}
 use Rattle.wasm_interp.specs.declared.state.State.{State}
-use Rattle.wasm_operands.specs.declared.tables.Prepared.{Prepared}
+use Rattle.wasm_places.specs.declared.tables.Prepared.{Prepared}
 use Rattle.wasm_interp.specs.Invoking.{IsAsked}
 use Rattle.wasm_interp.specs.internal.Invoking.{HasStopped, Waits, event_of}
 use Rattle.wasm_interp.specs.internal.Running.{IsLive, Pauses, snapshot_of}

@@ -3,7 +3,7 @@ use Rattle.std.specs.Arc.{arc_value}
 use Rattle.wasm_syntax.specs.declared.instruction.ValueType.{ValueType}
 use Rattle.wasm_syntax.specs.declared.module.FuncType.{FuncType}
 use Rattle.wasm_syntax.specs.declared.module.Module.{Module}
-use Rattle.wasm_operands.specs.declared.tables.Prepared.{Prepared}
+use Rattle.wasm_places.specs.declared.tables.Prepared.{Prepared}
 use Rattle.wasm_interp.specs.Invoking.{Fit, IsOwnType}
 use Rattle.wasm_interp.proofs.PlainSteps.Invoking.{entered_invocable, invokes}
 use Rattle.wasm_interp.proofs.PlainSteps.Refusing.{own_once}

@@ -1,6 +1,6 @@
 use Rattle.std.proofs.Common.{sym, subst}
 use Rattle.wasm_store.specs.Allocation.{with_embedder}
-use Rattle.wasm_operands.specs.declared.tables.Prepared.{Prepared}
+use Rattle.wasm_places.specs.declared.tables.Prepared.{Prepared}
 use Rattle.wasm_interp.specs.internal.Begun.{IsReadyToOpen}
 use Rattle.wasm_interp.proofs.Making.{open_made, opened_has}
 use Rattle.wasm_interp.proofs.plugin.PreparedPlugin.new.Goals as goal

@@ -1,5 +1,5 @@
 use Rattle.std.proofs.Common.{sym, subst}
-use Rattle.wasm_operands.specs.declared.tables.Prepared.{Prepared}
+use Rattle.wasm_places.specs.declared.tables.Prepared.{Prepared}
 use Rattle.wasm_interp.specs.internal.Begun.{IsReady}
 use Rattle.wasm_interp.proofs.Making.{begun_has, ready_made}
 use Rattle.wasm_interp.proofs.shared.PreparedModule.new.Goals as goal

@@ -1,6 +1,6 @@
 use Rattle.std.proofs.Common.{◌∙◌, sym, subst}
 use Rattle.std.specs.Arc.{arc_value}
-use Rattle.wasm_operands.specs.declared.tables.Prepared.{Prepared}
+use Rattle.wasm_places.specs.declared.tables.Prepared.{Prepared}
 use Rattle.wasm_store.specs.NotStarting.{RefusedFor}
 use Rattle.wasm_interp.specs.Promise.{Starts}
 use Rattle.wasm_interp.specs.internal.Running.{IsMachine, snapshot_of}

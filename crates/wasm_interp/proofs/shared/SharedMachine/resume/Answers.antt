@@ -1,6 +1,6 @@
 use Rattle.std.proofs.Common.{◌∙◌, subst}
 use Rattle.std.specs.Arc.{arc_value}
-use Rattle.wasm_operands.specs.declared.tables.Prepared.{Prepared}
+use Rattle.wasm_places.specs.declared.tables.Prepared.{Prepared}
 use Rattle.wasm_interp.specs.internal.Running.{IsLive, Pauses}
 use Rattle.wasm_interp.proofs.PlainSteps.Snapshots.{resumed_of}
 use Rattle.wasm_interp.proofs.shared.SharedMachine.resume.Goals as goal
