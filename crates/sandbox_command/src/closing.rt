@@ -16,7 +16,7 @@ ghost use Rattle.sandbox_telling.specs.Sources.{own_of, sink_contents};
 ghost use Rattle.sandbox_runs.specs.Status.{export_status, file_status};
 ghost use Rattle.sandbox_telling.specs.Streams.{AppendsSome};
 
-use crate::refusals::{tell_of_outcome, tell_of_refusal};
+use sandbox_refusals::refusals::{tell_of_outcome, tell_of_refusal};
 use sandbox_args::Run;
 use sandbox_device::{Hindrance, RamDevice};
 use sandbox_places::places::Places;

@@ -13,7 +13,7 @@ ghost use Rattle.sandbox_runs.specs.Status.{file_status};
 use crate::inspecting::inspect;
 use crate::list_of_tests::run_list;
 use crate::opening::MODULE_READ;
-use crate::refusals::tell_of_clash;
+use sandbox_refusals::refusals::tell_of_clash;
 use crate::runs::{end_refused, run_alone};
 use sandbox_args::{GivenTerminals, Invocation, invocation};
 use sandbox_places::clashing::clashes;

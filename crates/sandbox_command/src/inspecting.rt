@@ -7,29 +7,15 @@ ghost use Rattle.sandbox_runs.specs.Flushing.{Answered};
 ghost use Rattle.sandbox_runs.specs.Inspecting.{Inspects, refused_status, survey_status};
 ghost use Rattle.sandbox_telling.specs.Streams.{AppendsSome};
 
-use sandbox_inspect::{Links, survey};
+use sandbox_refusals::serving::Served;
+use sandbox_inspect::survey;
 use sandbox_runs::program::{Executed, FAULT, left_with, out_of_memory, refuse_file};
 use sandbox_telling::streams::Streams;
 use std::alloc::Global;
 use std::io;
 use std::io::ErrorKind;
 use stream_answers::Outlet;
-use wasi_calls::call_of;
-use wasm_module::{FuncType, LoadFault, Profile};
-use wasm_store::HostCall;
-
-/// The calls that a guest is given.
-pub(crate) struct Served;
-
-impl Links for Served {
-    ghost use Rattle.wasi_calls.specs.host.Links.{link};
-
-    ghost links = { link };
-
-    fn link(&self, module_name: &str, name: &str, func_type: &FuncType) -> Option<HostCall> {
-        call_of(module_name, name, func_type)
-    }
-}
+use wasm_module::{LoadFault, Profile};
 
 /// Prints the line of memory or of an output that is refused, and gives the status.
 fn refuse_survey<W: Outlet>(err: &mut W, error: &io::Error) -> u8

@@ -9,7 +9,6 @@ mod inspecting;
 pub mod laws;
 mod list_of_tests;
 mod opening;
-mod refusals;
 mod runs;
 
 pub use files::{exit_code, perform, perform_in};

@@ -15,7 +15,7 @@ ghost use Rattle.sandbox_telling.specs.Streams.{AppendsSome};
 
 use crate::closing::{refuse, unread};
 use crate::opening::{memory_of, read_files};
-use crate::refusals::{tell_of_line, tell_of_refusal};
+use sandbox_refusals::refusals::{tell_of_line, tell_of_refusal};
 use sandbox_args::Run;
 use sandbox_core::{SessionFault, load_with};
 use sandbox_device::RamDevice;

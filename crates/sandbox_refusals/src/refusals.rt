@@ -2,7 +2,7 @@
 
 ghost use Rattle.sandbox_telling.specs.Streams.{AppendsSome};
 
-use crate::inspecting::Served;
+use crate::serving::Served;
 use arrayvec::ArrayVec;
 use meanings::{fault_cure, fault_text};
 use sandbox_args::{Invocation, Run};
@@ -203,7 +203,7 @@ fn tell_of_setting<W: Outlet>(err: &mut W, run: &Run<'_>)
 }
 
 /// Prints which line of a list of tests is none.
-pub(crate) fn tell_of_line<W: Outlet>(err: &mut W, list: &str, number: usize)
+pub fn tell_of_line<W: Outlet>(err: &mut W, list: &str, number: usize)
     ensures { AppendsSome (W.contents err.old) (W.contents err.new) }
 {
     let mut part = ArrayVec::<u8, 32>::new();
@@ -218,7 +218,7 @@ pub(crate) fn tell_of_line<W: Outlet>(err: &mut W, list: &str, number: usize)
 }
 
 /// Prints what it means that a run could not begin, whose module has these bytes.
-pub(crate) fn tell_of_refusal<W: Outlet>(
+pub fn tell_of_refusal<W: Outlet>(
     alloc: Global,
     err: &mut W,
     run: &Run<'_>,
@@ -250,7 +250,7 @@ pub(crate) fn tell_of_refusal<W: Outlet>(
 }
 
 /// Prints what it means that a guest ended so, where it ended for want of something, or with a status that can't be its own.
-pub(crate) fn tell_of_outcome<W: Outlet>(err: &mut W, run: &Run<'_>, outcome: Outcome)
+pub fn tell_of_outcome<W: Outlet>(err: &mut W, run: &Run<'_>, outcome: Outcome)
     ensures { AppendsSome (W.contents err.old) (W.contents err.new) }
 {
     match outcome {
@@ -345,7 +345,7 @@ fn clash_of(run: &Run<'_>) -> (&'static str, &'static str) {
 }
 
 /// Prints which options of a command don't go together.
-pub(crate) fn tell_of_clash<W: Outlet>(err: &mut W, invocation: &Invocation<'_>)
+pub fn tell_of_clash<W: Outlet>(err: &mut W, invocation: &Invocation<'_>)
     ensures { AppendsSome (W.contents err.old) (W.contents err.new) }
 {
     let (what, cure) = match invocation {

@@ -1,5 +1,5 @@
 use Rattle.sandbox_telling.proofs.Lines.{lines_then}
-use Rattle.sandbox_command.proofs.refusals.say_word.Goals as goal
+use Rattle.sandbox_refusals.proofs.refusals.say_word.Goals as goal
 
 -- two pieces
 pub returns : goal.returns

@@ -1,0 +1,6 @@
+//! (to be written)
+
+#![tactic(auto)]
+
+pub mod refusals;
+pub mod serving;
