@@ -29,6 +29,7 @@ use sandbox_host::{
     FunctionFrame, Handle, SessionLimits, Supplies, Told, VolumeOperation, VolumeSource, Why,
 };
 use std::alloc::Global;
+use vol_sector::Sector;
 
 /// The version of the archive.
 #[unsafe(no_mangle)]
@@ -332,7 +333,7 @@ pub extern "C" fn sandbox_finish(alloc: Global, session: &mut Handle) -> u32
 pub extern "C" fn sandbox_volume_out(
     alloc: Global,
     session: &mut Handle,
-    room: &mut [[u8; 512]],
+    room: &mut [Sector],
 ) -> usize
     ensures length { result ≡ length (sectors session.old.held) }
     ensures shown { IsShown (sectors session.old.held) room.old room.new }
@@ -403,7 +404,7 @@ pub extern "C" fn sandbox_unload(alloc: Global, module: &mut Handle) -> u32
 
 /// Makes sectors an empty volume.
 #[unsafe(no_mangle)]
-pub extern "C" fn sandbox_format(alloc: Global, sectors: &mut [[u8; 512]], slots: u32) -> u32
+pub extern "C" fn sandbox_format(alloc: Global, sectors: &mut [Sector], slots: u32) -> u32
     ensures formatted { result ≡ 0 → StandsAs (image_of sectors.new)
         (fresh (length sectors.old) slots) (empty_tree slots) }
     ensures refused { result ≢ 0 → IsUnformatted (fresh (length sectors.old) slots) result
@@ -415,7 +416,7 @@ pub extern "C" fn sandbox_format(alloc: Global, sectors: &mut [[u8; 512]], slots
 
 /// Makes sectors an empty volume of version 4.
 #[unsafe(no_mangle)]
-pub extern "C" fn sandbox_format_huge(alloc: Global, sectors: &mut [[u8; 512]], slots: u32) -> u32
+pub extern "C" fn sandbox_format_huge(alloc: Global, sectors: &mut [Sector], slots: u32) -> u32
     ensures formatted { result ≡ 0 → StandsAs (image_of sectors.new)
         (fresh_as Four (length sectors.old) slots) (empty_tree slots) }
     ensures refused { result ≢ 0 → IsUnformatted (fresh_as Four (length sectors.old) slots) result

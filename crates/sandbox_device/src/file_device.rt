@@ -21,7 +21,7 @@ use std::fs::{File, OpenOptions};
 use std::io;
 use std::io::ErrorKind;
 use std::rt::Files;
-use vol_sector::{Device, DeviceFault};
+use vol_sector::{Device, DeviceFault, Sector};
 
 /// The sectors that a device has at most. What a file has after them is never read or written.
 const MOST_SECTORS: u32 = 16_777_216;
@@ -51,7 +51,7 @@ pub struct FileDevice<F = File> {
 const PIECE: u32 = 64;
 
 /// Whether sectors begin as a volume of version 4.
-fn begins_as_version_4(sectors: &[[u8; 512]]) -> bool
+fn begins_as_version_4(sectors: &[Sector]) -> bool
     ensures { IsTrue result → BeginsWith version_4 sectors.now }
 {
     match sectors.first() {
@@ -62,7 +62,7 @@ fn begins_as_version_4(sectors: &[[u8; 512]]) -> bool
 
 /// How many of the whole sectors that a file has are a device's: 65,536 at most, or as many as are wanted, or all where it begins as
 /// a volume of version 4. (So that a long file that is no such volume isn't read whole to be refused.)
-fn count_of(there: u32, wanted: u32, beginning: &[[u8; 512]]) -> u32
+fn count_of(there: u32, wanted: u32, beginning: &[Sector]) -> u32
     ensures few { result ≤ there }
     ensures enough { min there (max wanted 65536) ≤ result }
     ensures sized { result ≤ max wanted 65536 ⊎ BeginsWith version_4 beginning.now }
@@ -78,7 +78,7 @@ fn count_of(there: u32, wanted: u32, beginning: &[[u8; 512]]) -> u32
 fn read_piece<F: SectorFile>(
     file: &F,
     first: u32,
-    images: &mut [[u8; 512]],
+    images: &mut [Sector],
     sectors: &mut Sectors,
 ) -> io::Result<()>
     requires fit { first + length images.old ≤ length sectors.old }
@@ -98,7 +98,7 @@ fn read_piece<F: SectorFile>(
 fn read_sectors<F: SectorFile>(
     alloc: Global,
     file: &F,
-    beginning: &[[u8; 512]],
+    beginning: &[Sector],
     count: u32,
 ) -> io::Result<Sectors>
     requires within { length beginning.now ≤ count }
@@ -335,13 +335,13 @@ impl<F: SectorFile + Drop> Device for FileDevice<F> {
         self.failures
     }
 
-    fn read(&mut self, n: u32) -> Result<[u8; 512], DeviceFault> {
+    fn read(&mut self, n: u32) -> Result<Sector, DeviceFault> {
         self.moments = self.moments.after_reading(&self.sectors);
         Ok(self.sectors.get(n))
     }
 
     /// What the trait says; and it is the file that took it, or that failed.
-    fn write(&mut self, n: u32, image: &[u8; 512]) -> Result<(), DeviceFault>
+    fn write(&mut self, n: u32, image: &Sector) -> Result<(), DeviceFault>
         requires { n < length self.old.sectors }
         ensures told { MatchResult result (λ _. F.wrote self.old.file n image.now self.new.file)
             (λ _. F.refused self.old.file self.new.file) }

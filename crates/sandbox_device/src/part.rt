@@ -5,6 +5,7 @@ ghost use Rattle.vol_sector.specs.Record.{image_of};
 
 use std::alloc::{AllocError, Global};
 use std::marker::Model;
+use vol_sector::Sector;
 
 /// Sectors of one part at most, with the room for all of which is asked for at once: 64 MiB.
 pub(crate) const PART: u32 = 131_072;
@@ -15,7 +16,7 @@ pub(crate) const PART: u32 = 131_072;
 pub(crate) struct SectorBlock {
     /// Of each sector 0 where it is zeros, else one more than its place among the written ones.
     places: Vec<u32>,
-    written: Vec<[u8; 512]>,
+    written: Vec<Sector>,
 }
 
 impl Model for SectorBlock {
@@ -31,7 +32,7 @@ impl Model for SectorBlock {
 }
 
 /// Whether these are zeros.
-fn is_zeros(image: &[u8; 512]) -> bool
+fn is_zeros(image: &Sector) -> bool
     ensures { IsTrue result → image.now ≡ replicate 512 0 }
 {
     // (An array is compared byte after byte, up to the first that differs. The largest is found of many at a time.)
@@ -54,7 +55,7 @@ impl SectorBlock {
     }
 
     /// The bytes of one.
-    pub(crate) fn get(&self, n: u32) -> [u8; 512]
+    pub(crate) fn get(&self, n: u32) -> Sector
         requires { n < length self.now }
         ensures { result ≡ image_of self.now n }
     {
@@ -65,7 +66,7 @@ impl SectorBlock {
     }
 
     /// Gives one these bytes.
-    pub(crate) fn put(&mut self, n: u32, image: &[u8; 512])
+    pub(crate) fn put(&mut self, n: u32, image: &Sector)
         requires { n < length self.old }
         ensures { self.new ≡ set self.old n image.now }
     {

@@ -17,7 +17,7 @@ use std::alloc::{AllocError, Global};
 use std::fs::File;
 use std::io;
 use std::io::Write;
-use vol_sector::{Device, DeviceFault};
+use vol_sector::{Device, DeviceFault, Sector};
 
 /// Sectors in memory. No operation fails, and each write lasts at once. It keeps no record. The room for all is
 /// reserved when it is made, and a sector that is zeros ever since isn't touched.
@@ -42,7 +42,7 @@ impl RamDevice {
     }
 
     /// A device of these sectors. It fails only where memory is refused.
-    pub fn of(alloc: Global, sectors: &[[u8; 512]]) -> Result<RamDevice, AllocError>
+    pub fn of(alloc: Global, sectors: &[Sector]) -> Result<RamDevice, AllocError>
         requires { length sectors.now ≤ 16777216 }
         ensures { IfOk result (λ d. d.sectors ≡ sectors.now) }
     {
@@ -78,7 +78,7 @@ impl RamDevice {
     }
 
     /// The bytes of a sector.
-    pub fn sector(&self, n: u32) -> [u8; 512]
+    pub fn sector(&self, n: u32) -> Sector
         requires { n < length self.now.sectors }
         ensures { result ≡ image_of self.now.sectors n }
     {
@@ -125,12 +125,12 @@ impl Device for RamDevice {
         0
     }
 
-    fn read(&mut self, n: u32) -> Result<[u8; 512], DeviceFault> {
+    fn read(&mut self, n: u32) -> Result<Sector, DeviceFault> {
         self.past = self.next_past();
         Ok(self.sectors.get(n))
     }
 
-    fn write(&mut self, n: u32, image: &[u8; 512]) -> Result<(), DeviceFault> {
+    fn write(&mut self, n: u32, image: &Sector) -> Result<(), DeviceFault> {
         self.past = self.next_past();
         self.sectors.put(n, image);
         Ok(())

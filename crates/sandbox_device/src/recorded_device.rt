@@ -8,7 +8,7 @@ ghost use Rattle.sandbox_device.specs.internal.RecordedLaws.{now_is_since, now_i
 use crate::history::History;
 use crate::sectors::Sectors;
 use std::alloc::{AllocError, Global};
-use vol_sector::{Device, DeviceFault, Operation};
+use vol_sector::{Device, DeviceFault, Operation, Sector};
 
 /// Sectors in memory, and where that was asked for a record of the writes and syncs that were done, for whoever does them on a
 /// disk, in order. A crash leaves of such a disk each sector at its value of the last sync or at any value that was written
@@ -47,7 +47,7 @@ impl RecordedDevice {
     /// A device of these sectors, which keeps a record or not. It fails only where memory is refused.
     pub fn of(
         alloc: Global,
-        sectors: &[[u8; 512]],
+        sectors: &[Sector],
         is_recorded: bool,
     ) -> Result<RecordedDevice, AllocError>
         requires { length sectors.now ≤ 16777216 }
@@ -78,7 +78,7 @@ impl RecordedDevice {
     }
 
     /// The bytes of a sector.
-    pub fn sector(&self, n: u32) -> [u8; 512]
+    pub fn sector(&self, n: u32) -> Sector
         requires { n < length self.now.sectors }
         ensures { result ≡ image_of self.now.sectors n }
     {
@@ -165,12 +165,12 @@ impl Device for RecordedDevice {
         0
     }
 
-    fn read(&mut self, n: u32) -> Result<[u8; 512], DeviceFault> {
+    fn read(&mut self, n: u32) -> Result<Sector, DeviceFault> {
         self.history = self.history.quiet();
         Ok(self.sectors.get(n))
     }
 
-    fn write(&mut self, n: u32, image: &[u8; 512]) -> Result<(), DeviceFault> {
+    fn write(&mut self, n: u32, image: &Sector) -> Result<(), DeviceFault> {
         let operation = Operation::Write(n, *image);
         note(&mut self.noted, &mut self.is_whole, &operation);
         self.sectors.put(n, image);

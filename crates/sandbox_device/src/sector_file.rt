@@ -6,6 +6,7 @@ ghost use Rattle.vol_sector.specs.Record.{image_of};
 use std::fs::File;
 use std::io;
 use std::os::unix::fs::FileExt;
+use vol_sector::Sector;
 
 /// Bytes of a sector.
 const SECTOR: u64 = 512;
@@ -49,12 +50,12 @@ pub trait SectorFile {
         ensures { OnErr result (refused self.now self.now) };
 
     /// Reads sectors from one on.
-    fn read_into(&self, first: u32, images: &mut [[u8; 512]]) -> io::Result<()>
+    fn read_into(&self, first: u32, images: &mut [Sector]) -> io::Result<()>
         ensures gave { OnOk result ((n : ℕ) → n < length images.new → gave self.now (first + n) (image_of images.new n)) }
         ensures refused { OnErr result (refused self.now self.now) };
 
     /// Writes a sector.
-    fn write(&mut self, n: u32, image: &[u8; 512]) -> io::Result<()>
+    fn write(&mut self, n: u32, image: &Sector) -> io::Result<()>
         ensures told { MatchResult result (λ _. wrote self.old n image.now self.new)
             (λ _. refused self.old self.new) }
         ensures honest { honest self.old ↔ honest self.new };
@@ -97,11 +98,11 @@ impl SectorFile for File {
         self.set_len(u64::from(sectors) * SECTOR)
     }
 
-    fn read_into(&self, first: u32, images: &mut [[u8; 512]]) -> io::Result<()> {
+    fn read_into(&self, first: u32, images: &mut [Sector]) -> io::Result<()> {
         self.read_exact_at(images.as_flattened_mut(), u64::from(first) * SECTOR)
     }
 
-    fn write(&mut self, n: u32, image: &[u8; 512]) -> io::Result<()> {
+    fn write(&mut self, n: u32, image: &Sector) -> io::Result<()> {
         self.write_all_at(image, u64::from(n) * SECTOR)
     }
 

@@ -6,6 +6,7 @@ ghost use Rattle.vol_sector.specs.Record.{image_of};
 use crate::part::{PART, SectorBlock};
 use std::alloc::{AllocError, Global};
 use std::marker::Model;
+use vol_sector::Sector;
 
 /// The sectors of a device. The room for all is reserved when they are made, part by part, so that no write takes memory, and that
 /// of a sector which was never anything but zeros isn't touched.
@@ -30,7 +31,7 @@ impl Model for Sectors {
 /// Asks for the room of this many sectors, and gives it back. The system looks at one request at a time: of what it refuses as a
 /// whole it would grant each part, and end the process later.
 fn ask_for_all(alloc: Global, count: u32) -> Result<(), AllocError> {
-    let all: Vec<[u8; 512]> = Vec::with_capacity(alloc, count as usize)?;
+    let all: Vec<Sector> = Vec::with_capacity(alloc, count as usize)?;
     drop(all);
     Ok(())
 }
@@ -61,7 +62,7 @@ impl Sectors {
     }
 
     /// The sectors that have these bytes.
-    pub(crate) fn of(alloc: Global, images: &[[u8; 512]]) -> Result<Sectors, AllocError>
+    pub(crate) fn of(alloc: Global, images: &[Sector]) -> Result<Sectors, AllocError>
         requires { length images.now ≤ 16777216 }
         ensures { IfOk result (λ s. s ≡ images.now) }
     {
@@ -79,7 +80,7 @@ impl Sectors {
     }
 
     /// The bytes of one.
-    pub(crate) fn get(&self, n: u32) -> [u8; 512]
+    pub(crate) fn get(&self, n: u32) -> Sector
         requires { n < length self.now }
         ensures { result ≡ image_of self.now n }
     {
@@ -87,7 +88,7 @@ impl Sectors {
     }
 
     /// Gives those from one on these bytes.
-    pub(crate) fn put_all(&mut self, first: u32, images: &[[u8; 512]])
+    pub(crate) fn put_all(&mut self, first: u32, images: &[Sector])
         requires fit { first + length images.now ≤ length self.old }
         requires small { first + length images.now < 2 ^ 32 }
         ensures { self.new ≡ take first self.old ++ images.now ++ drop (first + length images.now)
@@ -101,7 +102,7 @@ impl Sectors {
     }
 
     /// Gives one these bytes.
-    pub(crate) fn put(&mut self, n: u32, image: &[u8; 512])
+    pub(crate) fn put(&mut self, n: u32, image: &Sector)
         requires { n < length self.old }
         ensures { self.new ≡ set self.old n image.now }
     {

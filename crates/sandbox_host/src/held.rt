@@ -11,7 +11,7 @@ use crate::showing::show_sectors;
 use plugin_session::Plugin;
 use sandbox_device::RecordedDevice;
 use sandbox_inspect::ModuleBytes;
-use vol_sector::Device;
+use vol_sector::{Device, Sector};
 
 /// A session that isn't finished.
 #[derive(Drop)]
@@ -136,7 +136,7 @@ impl HandleContent {
     }
 
     /// Copies the sectors of a finished session's volume, as many as there is room for, and says how many it has.
-    pub(crate) fn show_sectors(&self, room: &mut [[u8; 512]]) -> usize
+    pub(crate) fn show_sectors(&self, room: &mut [Sector]) -> usize
         ensures length { result ≡ length (sectors_of self.now) }
         ensures shown { IsShown (sectors_of self.now) room.old room.new }
     {

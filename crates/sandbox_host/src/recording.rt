@@ -8,7 +8,7 @@ use crate::held::HandleContent;
 use crate::numbers::{MISUSE, OK, OUT_OF_MEMORY};
 use sandbox_device::RecordedDevice;
 use std::alloc::Global;
-use vol_sector::Operation;
+use vol_sector::{Operation, Sector};
 
 /// A write or a sync, as C has it.
 #[repr(C)]
@@ -19,7 +19,7 @@ pub struct VolumeOperation {
     /// Of a write, the sector.
     pub sector: u32,
     /// And its bytes.
-    pub bytes: [u8; 512],
+    pub bytes: Sector,
 }
 
 /// Tells an operation, or that there is none.

@@ -13,7 +13,7 @@ use sandbox_core::{Finished, Volume};
 use sandbox_device::RecordedDevice;
 use sandbox_inspect::ModuleBytes;
 use std::alloc::Global;
-use vol_sector::Refused;
+use vol_sector::{Refused, Sector};
 
 /// Lets a session go on for at most this many units, and not past 2^64 - 1 in all.
 fn go_on(session: &mut HostSession, units: u64) -> Told
@@ -88,7 +88,7 @@ pub fn full(alloc: Global, session: &mut Handle, descriptor: u32) -> u32
 }
 
 /// Copies the sectors of a finished session's volume, as many as there is room for, and says how many it has.
-pub fn volume_out(alloc: Global, session: &mut Handle, room: &mut [[u8; 512]]) -> usize
+pub fn volume_out(alloc: Global, session: &mut Handle, room: &mut [Sector]) -> usize
     ensures length { result ≡ length (sectors session.old.held) }
     ensures shown { IsShown (sectors session.old.held) room.old room.new }
     ensures kept { session.new.held ≡ session.old.held }

@@ -4,7 +4,7 @@ ghost use Rattle.std.specs.Prelude.{◌≡◌};
 ghost use Rattle.sandbox_host.specs.Sessions.{IsShown};
 
 use sandbox_device::RecordedDevice;
-use vol_sector::Device;
+use vol_sector::{Device, Sector};
 
 /// Copies as many items as there is room for.
 pub(crate) fn show<T: Copy>(items: &[T], room: &mut [T])
@@ -15,7 +15,7 @@ pub(crate) fn show<T: Copy>(items: &[T], room: &mut [T])
 }
 
 /// Copies the sectors of a device in memory, as many as there is room for.
-pub(crate) fn show_sectors(device: &RecordedDevice, room: &mut [[u8; 512]])
+pub(crate) fn show_sectors(device: &RecordedDevice, room: &mut [Sector])
     ensures { IsShown device.now.sectors room.old room.new }
 {
     let count = room.len().min(device.sectors() as usize);

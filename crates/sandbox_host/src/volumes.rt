@@ -6,7 +6,7 @@ ghost use Rattle.sandbox_host.specs.Volumes.{IsVolume, RefusesVolume, most_secto
 use sandbox_core::Volume;
 use sandbox_device::RecordedDevice;
 use std::alloc::Global;
-use vol_sector::{Refused, VolumeFault};
+use vol_sector::{Refused, Sector, VolumeFault};
 
 /// The sectors of a fresh volume.
 const FRESH_SECTORS: u32 = 202;
@@ -28,7 +28,7 @@ pub(crate) fn most_sectors(is_huge: bool) -> usize
 pub struct VolumeSource<'a> {
     /// 0 a fresh volume, 1 that of the sectors, 2 the same, of which a record is kept; 5 and 6 as 1 and 2, of more sectors.
     pub kind: u32,
-    pub sectors: &'a [[u8; 512]],
+    pub sectors: &'a [Sector],
 }
 
 /// Where the volume of a guest comes from.
@@ -37,7 +37,7 @@ pub enum Origin<'a> {
     /// An empty one is made in memory.
     Fresh,
     /// It is that of these sectors, which are copied; what is done to it may be recorded, and it may be huge.
-    Sectors(&'a [[u8; 512]], bool, bool),
+    Sectors(&'a [Sector], bool, bool),
 }
 
 impl<'a> VolumeSource<'a> {
@@ -73,7 +73,7 @@ fn open_fresh(alloc: Global) -> Result<Volume<RecordedDevice>, VolumeFault>
 /// Opens the volume that sectors hold, of which a copy is made.
 fn open_sectors(
     alloc: Global,
-    sectors: &[[u8; 512]],
+    sectors: &[Sector],
     is_recorded: bool,
     is_huge: bool,
 ) -> Result<Volume<RecordedDevice>, VolumeFault>

@@ -19,7 +19,7 @@ use sandbox_core::{Report, Volume};
 use sandbox_device::RecordedDevice;
 use std::alloc::Global;
 use vol_inode::Version;
-use vol_sector::Refused;
+use vol_sector::{Refused, Sector};
 
 /// Decodes and validates a module.
 pub fn check(alloc: Global, module: &[u8], why: &mut Why) -> u32
@@ -71,7 +71,7 @@ pub fn run(
 }
 
 /// Makes sectors an empty volume, in place: of version 1, with at most 65,536 sectors.
-pub fn format(alloc: Global, sectors: &mut [[u8; 512]], slots: u32) -> u32
+pub fn format(alloc: Global, sectors: &mut [Sector], slots: u32) -> u32
     ensures formatted { result ≡ 0 → StandsAs (image_of sectors.new)
         (fresh (length sectors.old) slots) (empty_tree slots) }
     ensures refused { result ≢ 0 → IsUnformatted (fresh (length sectors.old) slots) result
@@ -85,7 +85,7 @@ pub fn format(alloc: Global, sectors: &mut [[u8; 512]], slots: u32) -> u32
 }
 
 /// Makes sectors an empty volume of version 4, in place: with at most 16,777,216 sectors.
-pub fn format_huge(alloc: Global, sectors: &mut [[u8; 512]], slots: u32) -> u32
+pub fn format_huge(alloc: Global, sectors: &mut [Sector], slots: u32) -> u32
     ensures formatted { result ≡ 0 → StandsAs (image_of sectors.new)
         (fresh_as Version.Four (length sectors.old) slots) (empty_tree slots) }
     ensures refused { result ≢ 0 → IsUnformatted (fresh_as Version.Four (length sectors.old) slots)
@@ -96,7 +96,7 @@ pub fn format_huge(alloc: Global, sectors: &mut [[u8; 512]], slots: u32) -> u32
 }
 
 /// Makes sectors an empty volume of this version, in place.
-fn format_as(alloc: Global, sectors: &mut [[u8; 512]], version: Version, slots: u32) -> u32
+fn format_as(alloc: Global, sectors: &mut [Sector], version: Version, slots: u32) -> u32
     ensures formatted { result ≡ 0 → StandsAs (image_of sectors.new)
         (fresh_as version (length sectors.old) slots) (empty_tree slots) }
     ensures refused { result ≢ 0 → IsUnformatted (fresh_as version (length sectors.old) slots)

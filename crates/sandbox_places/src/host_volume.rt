@@ -7,7 +7,7 @@ ghost use Rattle.sandbox_device.specs.File.{kept, KeepsItsModel};
 ghost use Rattle.sandbox_device.specs.internal.FileLaws.{mixed_since, mixed_now, now_may_stay};
 
 use sandbox_device::FileDevice;
-use vol_sector::{Device, DeviceFault};
+use vol_sector::{Device, DeviceFault, Sector};
 
 /// A file that a command line names, as the device of a volume: what is promised of a `FileDevice` is promised of it.
 #[derive(Drop)]
@@ -51,11 +51,11 @@ impl Device for HostVolume {
         self.device.failures()
     }
 
-    fn read(&mut self, n: u32) -> Result<[u8; 512], DeviceFault> {
+    fn read(&mut self, n: u32) -> Result<Sector, DeviceFault> {
         self.device.read(n)
     }
 
-    fn write(&mut self, n: u32, image: &[u8; 512]) -> Result<(), DeviceFault> {
+    fn write(&mut self, n: u32, image: &Sector) -> Result<(), DeviceFault> {
         self.device.write(n, image)
     }
 

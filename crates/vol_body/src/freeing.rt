@@ -19,7 +19,7 @@ use crate::pointer_sectors::PointerSector;
 use vol_alloc::Alloc;
 use vol_inode::{DIRECT, DOUBLE_INDIRECT, Entry, INDIRECT, LISTED, NUMBERS, SERVED, TWICE_LISTED};
 use vol_log::Log;
-use vol_sector::{Device, DeviceFault};
+use vol_sector::{Device, DeviceFault, Sector};
 
 /// Frees the sector if it is taken.
 fn free_taken(sectors: &mut Alloc, n: u32)
@@ -45,7 +45,7 @@ fn free_direct(sectors: &mut Alloc, entry: &Entry, from: u32)
 }
 
 /// Frees the sectors whose numbers a pointer sector has from one on.
-fn free_listed(sectors: &mut Alloc, image: &[u8; 512], from: u32)
+fn free_listed(sectors: &mut Alloc, image: &Sector, from: u32)
     ensures frees { Frees (taken_of sectors.old) (taken_of sectors.new)
         (IsAmong (λ i. little_number 4 (drop (4 * i) image.now)) from NUMBERS) }
     ensures range { (first_of sectors.new ≡ first_of sectors.old)
@@ -99,7 +99,7 @@ fn number_before(n: u32, end: u32) -> u32
 }
 
 /// The numbers of a pointer sector, those before the end; the others are 0.
-fn numbers_before(image: &[u8; 512], end: u32) -> Numbers
+fn numbers_before(image: &Sector, end: u32) -> Numbers
     ensures { (i : ℕ) → i < NUMBERS → let m = little_number 4 (drop (4 * i) image.now) in
         slice_index result i ≡ (if nat_lt m end then m else 0) }
 {

@@ -17,7 +17,7 @@ use crate::pointer_sectors::{
 use vol_alloc::Alloc;
 use vol_inode::{DIRECT, Entry, NUMBERS};
 use vol_log::Log;
-use vol_sector::{Device, DeviceFault};
+use vol_sector::{Device, DeviceFault, Sector};
 
 /// The pointer sectors that are held.
 #[derive(Drop)]
@@ -86,7 +86,7 @@ pub fn read_unless_held<D: Device>(
     log: &mut Log<D>,
     held: &PointerSector,
     n: u32,
-) -> Result<[u8; 512], DeviceFault>
+) -> Result<Sector, DeviceFault>
     requires some { n ≢ 0 }
     requires there { n < log_sectors log.old }
     requires working { has_failed log.old ≡ false }
@@ -110,7 +110,7 @@ pub fn read_held<D: Device>(
     held: &mut HeldPointers,
     j: u32,
     last: u32,
-) -> Result<[u8; 512], DeviceFault>
+) -> Result<Sector, DeviceFault>
     requires place { j ≤ last }
     requires small { last < MOST_BLOCKS }
     requires there { end_of sectors.now ≤ log_sectors log.old }

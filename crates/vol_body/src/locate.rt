@@ -12,7 +12,7 @@ use byteorder::{ByteOrder, LittleEndian};
 use vol_alloc::Alloc;
 use vol_inode::{MOST_BLOCKS, NUMBERS};
 use vol_log::Log;
-use vol_sector::{Device, DeviceFault};
+use vol_sector::{Device, DeviceFault, Sector};
 
 /// The last data block that a file may have.
 pub const LAST: u32 = MOST_BLOCKS - 1;
@@ -28,7 +28,7 @@ pub fn taken_or_zero(sectors: &Alloc, n: u32) -> u32
 }
 
 /// The `i`-th number of a pointer sector.
-pub fn number_at(image: &[u8; 512], i: u32) -> u32
+pub fn number_at(image: &Sector, i: u32) -> u32
     requires { i < NUMBERS }
     ensures { result ≡ little_number 4 (drop (4 * i) image.now) }
 {
@@ -40,7 +40,7 @@ pub fn read_taken<D: Device>(
     log: &mut Log<D>,
     sectors: &Alloc,
     n: u32,
-) -> Result<[u8; 512], DeviceFault>
+) -> Result<Sector, DeviceFault>
     requires taken { n ≢ 0 → taken_of sectors.now n ≡ true }
     requires there { end_of sectors.now ≤ log_sectors log.old }
     requires working { has_failed log.old ≡ false }

@@ -19,14 +19,14 @@ use vol_inode::{
     TWICE_LISTED, put_number,
 };
 use vol_log::Log;
-use vol_sector::{Device, DeviceFault};
+use vol_sector::{Device, DeviceFault, Sector};
 
 /// A pointer sector: its number, and its bytes. Where the file has none the number is 0, and the
 /// bytes are zeros.
 #[derive(Drop)]
 pub struct PointerSector {
     pub number: u32,
-    pub image: [u8; 512],
+    pub image: Sector,
 }
 
 /// The pointer sectors that a write uses.
@@ -45,7 +45,7 @@ pub struct PointerSectors {
 }
 
 /// The pointer sector with another `i`-th number.
-pub fn with_number(image: &[u8; 512], i: u32, n: u32) -> [u8; 512]
+pub fn with_number(image: &Sector, i: u32, n: u32) -> Sector
     requires { i < NUMBERS }
     ensures one { little_number 4 (drop (4 * i) result) ≡ n }
     ensures rest { (k : ℕ) → k < NUMBERS → k ≢ i

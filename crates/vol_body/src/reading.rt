@@ -12,7 +12,7 @@ use crate::holding::{hold, read_held};
 use vol_alloc::Alloc;
 use vol_inode::Entry;
 use vol_log::Log;
-use vol_sector::{Device, DeviceFault};
+use vol_sector::{Device, DeviceFault, Sector};
 
 /// Reads the file's bytes from the offset on into the buffer, as many as there are and fit, and
 /// says how many.
@@ -99,7 +99,7 @@ fn readable(size: u32, offset: u64, room: usize) -> usize
 }
 
 /// Copies bytes of a sector from a place on into the buffer between two places, and says how many.
-fn fill(buffer: &mut [u8], from: usize, end: usize, image: &[u8; 512], start: usize) -> usize
+fn fill(buffer: &mut [u8], from: usize, end: usize, image: &Sector, start: usize) -> usize
     requires before { from < end }
     requires within { end ≤ length buffer.old }
     requires start { start < 512 }

@@ -22,7 +22,7 @@ use vol_inode::{
     TWICE_LISTED,
 };
 use vol_log::Log;
-use vol_sector::{Damage, Device, DeviceFault, Rule, VolumeFault};
+use vol_sector::{Damage, Device, DeviceFault, Rule, Sector, VolumeFault};
 
 /// Pushes the number, unless it is 0. It is refused as `Damaged` where it is out of the range, or
 /// where there are as many as the range has sectors.
@@ -76,7 +76,7 @@ fn push_all(named: &mut Vec<u32>, numbers: &[u32], first: u32, end: u32) -> Resu
 }
 
 /// The numbers of a pointer sector.
-fn numbers_in(image: &[u8; 512]) -> Numbers
+fn numbers_in(image: &Sector) -> Numbers
     ensures { (i : ℕ) → i < NUMBERS
         → slice_index result i ≡ little_number 4 (drop (4 * i) image.now) }
 {
@@ -316,7 +316,7 @@ fn survey_sectors<D: Device>(
 }
 
 /// Whether the bytes from one place on are all 0.
-fn zeros_from(image: &[u8; 512], from: u32) -> bool
+fn zeros_from(image: &Sector, from: u32) -> bool
     ensures yes { IsTrue result → (i : ℕ) → from ≤ i → i < 512
         → slice_index image.now i ≡ 0 }
     ensures no { ((i : ℕ) → from ≤ i → i < 512 → slice_index image.now i ≡ 0) → IsTrue result }

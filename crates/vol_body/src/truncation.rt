@@ -21,13 +21,13 @@ use crate::pointer_sectors::double_of;
 use vol_alloc::Alloc;
 use vol_inode::{DIRECT, Entry, LISTED, NUMBERS, SERVED, TWICE_LISTED};
 use vol_log::Log;
-use vol_sector::{Device, DeviceFault};
+use vol_sector::{Device, DeviceFault, Sector};
 
 /// What is to be written for a sector of which a beginning is kept. Sector 0 stands for nothing.
 #[derive(Drop)]
 pub struct CutSector {
     pub sector: u32,
-    pub image: [u8; 512],
+    pub image: Sector,
 }
 
 /// What is to be written for a file that is made shorter.
@@ -44,7 +44,7 @@ pub struct Truncation {
 }
 
 /// The bytes before a place, and zeros from it on.
-fn cut_at(image: &[u8; 512], kept: usize) -> [u8; 512]
+fn cut_at(image: &Sector, kept: usize) -> Sector
     requires { kept ≤ 512 }
     ensures { result ≡ zeroed_from kept image.now }
 {
@@ -55,7 +55,7 @@ fn cut_at(image: &[u8; 512], kept: usize) -> [u8; 512]
 
 /// What is to be written for a sector of which this many bytes are kept: nothing where it is sector
 /// 0, is kept whole or not at all, or has zeros after them already.
-fn cut_of(number: u32, old: &[u8; 512], kept: u32) -> CutSector
+fn cut_of(number: u32, old: &Sector, kept: u32) -> CutSector
     requires within { kept ≤ 512 }
     ensures cut { (content : Image) → old.now ≡ block_bytes content number
         → IsCut content number kept result }

@@ -22,7 +22,7 @@ use crate::writing_spans::write_blocks;
 use vol_alloc::Alloc;
 use vol_inode::{Entry, write_entry};
 use vol_log::Log;
-use vol_sector::{Device, DeviceFault};
+use vol_sector::{Device, DeviceFault, Sector};
 
 /// The most bytes that one call of `write_at` writes.
 pub const PIECE: usize = 16_384;
@@ -121,7 +121,7 @@ fn read_edges<D: Device>(
     all: &PointerSectors,
     offset: u32,
     end: u32,
-) -> Result<([u8; 512], [u8; 512]), DeviceFault>
+) -> Result<(Sector, Sector), DeviceFault>
     requires some { offset < end }
     requires few { end ≤ offset + PIECE }
     requires small { end ≤ LARGEST_SIZE }
@@ -161,7 +161,7 @@ fn read_edge<D: Device>(
     offset: u32,
     end: u32,
     j: u32,
-) -> Result<[u8; 512], DeviceFault>
+) -> Result<Sector, DeviceFault>
     requires place { j < MOST_BLOCKS }
     requires from { offset / 512 ≤ j }
     requires near { j ≤ offset / 512 + NUMBERS }

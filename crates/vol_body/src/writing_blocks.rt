@@ -15,7 +15,7 @@ use crate::pointer_sectors::{PointerSector, with_number};
 use vol_alloc::Alloc;
 use vol_inode::Entry;
 use vol_log::Log;
-use vol_sector::Device;
+use vol_sector::{Device, Sector};
 
 /// Takes a sector for the image, and names it by a pointer of the entry. It says its number, and 0
 /// where none is free; then nothing changes.
@@ -24,7 +24,7 @@ pub fn add_pointer<D: Device>(
     sectors: &mut Alloc,
     entry: &mut Entry,
     slot: u32,
-    image: &[u8; 512],
+    image: &Sector,
 ) -> u32
     requires pointer { slot < 61 }
     requires can { CanStage log.old sectors.old }
@@ -56,7 +56,7 @@ pub fn add_number<D: Device>(
     sectors: &mut Alloc,
     above: &mut PointerSector,
     i: u32,
-    image: &[u8; 512],
+    image: &Sector,
 ) -> u32
     requires place { i < NUMBERS }
     requires can { CanStage log.old sectors.old }
@@ -93,7 +93,7 @@ pub fn write_direct_block<D: Device>(
     sectors: &mut Alloc,
     entry: &mut Entry,
     j: u32,
-    image: &[u8; 512],
+    image: &Sector,
 )
     requires direct { j < DIRECT }
     requires can { CanStage log.old sectors.old }
@@ -122,7 +122,7 @@ pub fn write_listed_block<D: Device>(
     sectors: &mut Alloc,
     above: &mut PointerSector,
     i: u32,
-    image: &[u8; 512],
+    image: &Sector,
 )
     requires place { i < NUMBERS }
     requires can { CanStage log.old sectors.old }

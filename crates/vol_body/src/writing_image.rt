@@ -5,6 +5,7 @@ ghost use Rattle.vol_body.specs.internal.Writing.{image_of};
 ghost use Rattle.vol_inode.specs.declared.version.TheConstants.{LARGEST_SIZE};
 
 use crate::source::Source;
+use vol_sector::Sector;
 
 /// Where bytes are to be written, and what stands around them.
 #[derive(Drop)]
@@ -12,9 +13,9 @@ pub struct Piece {
     /// The first byte of the file that is written.
     pub offset: usize,
     /// The old bytes of the first data block that is touched.
-    pub first: [u8; 512],
+    pub first: Sector,
     /// The old bytes of the last data block that is touched.
-    pub last: [u8; 512],
+    pub last: Sector,
 }
 
 /// The bytes that are to be written to a data block, and to those after it.
@@ -27,7 +28,7 @@ pub fn bytes_from<'m>(piece: &Piece, bytes: &Source<'m>, j: u32) -> Source<'m>
 
 /// The new bytes of a data block that is touched. What is left to be written stands at its bytes,
 /// and then after them.
-pub fn image_of_block(piece: &Piece, bytes: &Source<'_>, rest: &mut Source<'_>, j: u32) -> [u8; 512]
+pub fn image_of_block(piece: &Piece, bytes: &Source<'_>, rest: &mut Source<'_>, j: u32) -> Sector
     requires before { 512 * j < piece.now.offset + length bytes.now }
     requires starts_before { piece.now.offset < 512 * j + 512 }
     requires small { piece.now.offset + length bytes.now ≤ LARGEST_SIZE }

@@ -21,7 +21,7 @@ use crate::slots::slot_sector;
 use std::alloc::{AllocError, Global};
 use vol_inode::{Entry, Serial, Version, read_entry, write_entry};
 use vol_log::{FIRST_AFTER_LOG, Log};
-use vol_sector::{Device, DeviceFault, VolumeFault};
+use vol_sector::{Device, DeviceFault, Sector, VolumeFault};
 
 // As many slots as have sectors after the log: no log has more sectors than 32 bits can number.
 const MOST_SLOTS: u32 = u32::MAX - FIRST_AFTER_LOG;
@@ -255,7 +255,7 @@ impl Dirs {
     }
 
     /// Takes up the name of the entry that a slot holds, if it holds one.
-    fn hold_image(&mut self, version: Version, serial: Serial, image: &[u8; 512])
+    fn hold_image(&mut self, version: Version, serial: Serial, image: &Sector)
         requires first { 1 ≤ serial }
         requires last { serial ≤ slots_of self.old }
         requires free { IsFree self.old serial }

@@ -13,6 +13,7 @@ use crate::Staged;
 use crate::index::search;
 use crate::layout::IMAGES;
 use std::alloc::{AllocError, Global};
+use vol_sector::Sector;
 
 /// The sectors that wait for their commit, and the index that finds them.
 #[derive(Drop)]
@@ -35,7 +36,7 @@ impl Batch {
     }
 
     /// What is staged for the sector, if anything is.
-    pub fn image_for(&self, n: u32) -> Option<[u8; 512]>
+    pub fn image_for(&self, n: u32) -> Option<Sector>
         requires { IsIndex (numbers self.now.staged.items) self.now.index.items }
         ensures image { (m : Image) → MatchOption result (over self.now.staged.items m n ≡ m n)
             (λ bytes. over self.now.staged.items m n ≡ bytes) }

@@ -8,9 +8,10 @@ ghost use Rattle.vol_log.specs.internal.Batch.{numbers};
 use crate::Staged;
 use crate::layout::{FIRST_AFTER_LOG, IMAGES};
 use byteorder::{ByteOrder, LittleEndian};
+use vol_sector::Sector;
 
 /// The header of a log that holds the batch.
-pub fn header_image(batch: &[Staged]) -> [u8; 512]
+pub fn header_image(batch: &[Staged]) -> Sector
     requires { length batch.now ≤ 120 }
     ensures { result ≡ header_bytes (numbers batch.now) }
 {
@@ -23,7 +24,7 @@ pub fn header_image(batch: &[Staged]) -> [u8; 512]
 }
 
 /// Reads the sectors that the header names into the batch, or says that it is no right header.
-pub fn read_header(header: &[u8; 512], sectors: u32, batch: &mut Vec<Staged>) -> bool
+pub fn read_header(header: &Sector, sectors: u32, batch: &mut Vec<Staged>) -> bool
     requires empty { batch.old.items ≡ [] }
     requires room { 120 ≤ vec_capacity batch.old }
     ensures right { IsTrue result → IsHeader sectors header.now (numbers batch.new.items) }

@@ -20,7 +20,7 @@ use crate::layout::IMAGES;
 use crate::replay::replay;
 use crate::steps::{commit_batch, write_front};
 use std::alloc::Global;
-use vol_sector::{Device, DeviceFault, Refused, VolumeFault};
+use vol_sector::{Device, DeviceFault, Refused, Sector, VolumeFault};
 
 /// A map from sector numbers to sectors over a device, which changes on the disk by whole commits.
 ///
@@ -140,7 +140,7 @@ impl<D: Device> Log<D> {
     /// one device operation, or none where the log has failed or the sector is staged.
     // So many clauses, since each says of one thing that a read leaves it alone: what the log stands for and has
     // staged, and what is on the device; besides, how many operations there are, and whether one failed.
-    pub fn read(&mut self, n: u32) -> Result<[u8; 512], DeviceFault>
+    pub fn read(&mut self, n: u32) -> Result<Sector, DeviceFault>
         requires { n < log_sectors self.old }
         ensures value { D.honest (device_of self.old)
             → IfOk result (λ bytes. bytes ≡ view self.old n) }
@@ -181,7 +181,7 @@ impl<D: Device> Log<D> {
 
     /// Stages a sector after the log, in place of what was staged for it before. It takes one of
     /// the 120 places, unless the sector has one already.
-    pub fn stage(&mut self, n: u32, image: &[u8; 512])
+    pub fn stage(&mut self, n: u32, image: &Sector)
         requires place { FIRST_AFTER_LOG ≤ n }
         requires there { n < log_sectors self.old }
         requires room { 0 < room_of self.old }
@@ -256,7 +256,7 @@ impl<D: Device> Log<D> {
     ///
     /// It is refused where one of the two operations failed, and the log has failed then; where it
     /// had failed before, it answers that and does no device operation.
-    pub fn write_front(&mut self, image: &[u8; 512]) -> Result<(), DeviceFault>
+    pub fn write_front(&mut self, image: &Sector) -> Result<(), DeviceFault>
         requires { staged_of self.old ≡ [] }
         ensures written { D.honest (device_of self.old)
             → OnOk result ((D.disk (device_of self.new)).seen

@@ -14,7 +14,7 @@ ghost use Rattle.vol_log.specs.declared.layout.TheConstants.{FIRST_AFTER_LOG};
 use crate::Staged;
 use crate::header::header_image;
 use crate::layout::{FIRST_IMAGE, FRONT, HEADER};
-use vol_sector::{Device, DeviceFault};
+use vol_sector::{Device, DeviceFault, Sector};
 
 /// Writes the images into the log.
 pub fn write_images<D: Device>(device: &mut D, batch: &[Staged]) -> Result<(), DeviceFault>
@@ -155,7 +155,7 @@ pub fn read_images<D: Device>(device: &mut D, batch: &mut [Staged]) -> Result<()
 }
 
 /// Writes the sector that stands before the log, and syncs.
-pub fn write_front<D: Device>(device: &mut D, image: &[u8; 512]) -> Result<(), DeviceFault>
+pub fn write_front<D: Device>(device: &mut D, image: &Sector) -> Result<(), DeviceFault>
     requires { 0 < D.size device.old }
     ensures durable { D.honest device.old
         → OnOk result (Only (D.disk device.new).seen (D.disk device.new).may_leave) }

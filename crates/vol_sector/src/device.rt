@@ -5,6 +5,7 @@ ghost use Rattle.vol_sector.specs.Disk.{Image, Disk, put, After, Wrote, Only, Le
 ghost use Rattle.vol_sector.specs.Disk.{counted, OneMore};
 ghost use Rattle.vol_sector.specs.Past.{LeavesPast, StillGoesOn};
 
+use crate::Sector;
 use thiserror::Error;
 
 /// An operation of a device failed.
@@ -45,7 +46,7 @@ pub trait Device {
         ensures { result ≡ failures self.now };
 
     /// The sector's bytes: those of its last write.
-    fn read(&mut self, n: u32) -> Result<[u8; 512], DeviceFault>
+    fn read(&mut self, n: u32) -> Result<Sector, DeviceFault>
         requires { n < size self.old }
         ensures bytes { honest self.old → IfOk result (λ bytes. bytes ≡ (disk self.old).seen n) }
         ensures seen { honest self.old → (disk self.new).seen ≡ (disk self.old).seen }
@@ -59,7 +60,7 @@ pub trait Device {
 
     /// Writes the sector. After a failure reads give the former bytes or these, always the same
     /// until the next write there.
-    fn write(&mut self, n: u32, image: &[u8; 512]) -> Result<(), DeviceFault>
+    fn write(&mut self, n: u32, image: &Sector) -> Result<(), DeviceFault>
         requires { n < size self.old }
         ensures written { honest self.old
             → OnOk result ((disk self.new).seen ≡ put n image.now (disk self.old).seen) }

@@ -7,7 +7,7 @@ ghost use Rattle.vol_sector.specs.internal.CountingLaws.{counting_now, only_coun
 ghost use Rattle.vol_sector.specs.internal.PastLaws.{past_same, past_then};
 
 use crate::operations::Operations;
-use crate::{Device, DeviceFault};
+use crate::{Device, DeviceFault, Sector};
 
 /// A count of operations (reads, writes and syncs) that goes down to 0 and stays there.
 #[derive(Drop)]
@@ -130,7 +130,7 @@ impl<D: Device, const FAILS_AT: u64> Device for FaultyDevice<D, FAILS_AT> {
 
     // So many clauses, since a method's stand in place of its trait's: the first nine, to `goes_on`, are
     // those of any device, and the others say which operation fails and what the device inside does.
-    fn read(&mut self, n: u32) -> Result<[u8; 512], DeviceFault>
+    fn read(&mut self, n: u32) -> Result<Sector, DeviceFault>
         requires { n < D.size (device_of self.old) }
         ensures bytes { D.honest (device_of self.old)
             → IfOk result (λ bytes. bytes ≡ (faulty_disk D.disk self.old).seen n) }
@@ -166,7 +166,7 @@ impl<D: Device, const FAILS_AT: u64> Device for FaultyDevice<D, FAILS_AT> {
     }
 
     // The same groups as of `read`.
-    fn write(&mut self, n: u32, image: &[u8; 512]) -> Result<(), DeviceFault>
+    fn write(&mut self, n: u32, image: &Sector) -> Result<(), DeviceFault>
         requires { n < D.size (device_of self.old) }
         ensures written { D.honest (device_of self.old)
             → OnOk result ((faulty_disk D.disk self.new).seen

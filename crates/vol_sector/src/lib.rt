@@ -15,3 +15,6 @@ pub use faulty::{FaultyDevice, FlakyDevice, FuseDevice};
 pub use laws::{crash_leaves_what_is_picked, picks_give_what_a_crash_leaves};
 pub use memory::MemoryDevice;
 pub use record::Operation;
+
+/// The 512 bytes of a sector.
+pub type Sector = [u8; 512];

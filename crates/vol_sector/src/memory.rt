@@ -14,15 +14,15 @@ ghost use Rattle.vol_sector.specs.Record.{is_write};
 ghost use Rattle.vol_sector.specs.Crash.{written_since, written_below, picked, crashed_image};
 
 use crate::operations::Operations;
-use crate::{Device, DeviceFault, Operation};
+use crate::{Device, DeviceFault, Operation, Sector};
 use std::alloc::{AllocError, Global};
 
 /// Sectors in memory, with a record of the writes and syncs that were done. A write or sync fails
 /// exactly where the record is full, and then changes nothing; a read never fails.
 #[derive(Drop)]
 pub struct MemoryDevice {
-    first: Vec<[u8; 512]>,
-    current: Vec<[u8; 512]>,
+    first: Vec<Sector>,
+    current: Vec<Sector>,
     history: Vec<Operation>,
     limit: usize,
     operations: Operations,
@@ -52,7 +52,7 @@ impl MemoryDevice {
 
     fn from_sectors(
         alloc: Global,
-        current: Vec<[u8; 512]>,
+        current: Vec<Sector>,
         room: usize,
     ) -> Result<MemoryDevice, AllocError>
         requires { vec_len current < 2 ^ 32 }
@@ -178,7 +178,7 @@ fn take_pick(picks: &[u32], used: &mut usize) -> u32
 }
 
 /// The value that a crash leaves in the sector by this pick.
-fn choice(first: &[u8; 512], operations: &[Operation], n: u32, pick: u32) -> [u8; 512]
+fn choice(first: &Sector, operations: &[Operation], n: u32, pick: u32) -> Sector
     ensures { result ≡ picked (choices n first.now (first.now ∷ []) operations.now) pick }
 {
     let mut newest = *first;
@@ -260,7 +260,7 @@ impl Device for MemoryDevice {
         self.failures
     }
 
-    fn read(&mut self, n: u32) -> Result<[u8; 512], DeviceFault>
+    fn read(&mut self, n: u32) -> Result<Sector, DeviceFault>
         requires { n < sector_count self.old }
         ensures bytes { Unit {0} → IfOk result (λ bytes. bytes ≡ (disk_of self.old).seen n) }
         ensures seen { Unit {0} → (disk_of self.new).seen ≡ (disk_of self.old).seen }
@@ -280,7 +280,7 @@ impl Device for MemoryDevice {
 
     // So many clauses, since a method's stand in place of its trait's: the first nine, to `goes_on`, are
     // those of any device, and the others say when the record is full and what is recorded.
-    fn write(&mut self, n: u32, image: &[u8; 512]) -> Result<(), DeviceFault>
+    fn write(&mut self, n: u32, image: &Sector) -> Result<(), DeviceFault>
         requires { n < sector_count self.old }
         ensures written { Unit {0}
             → OnOk result ((disk_of self.new).seen ≡ put n image.now (disk_of self.old).seen) }

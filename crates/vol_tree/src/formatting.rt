@@ -17,7 +17,7 @@ use crate::superblock::{Superblock, has_ranges, write_superblock};
 use vol_dirs::slot_sector;
 use vol_inode::{Entry, Kind, Serial, Version, write_entry};
 use vol_log::{FIRST_AFTER_LOG, HEADER};
-use vol_sector::{Device, DeviceFault, Refused, VolumeFault};
+use vol_sector::{Device, DeviceFault, Refused, Sector, VolumeFault};
 
 impl<D: Device> Volume<D> {
     /// Makes the first sectors of a device an empty volume, of version 1, with these numbers of
@@ -144,7 +144,7 @@ fn lay_out<D: Device>(device: &mut D, numbers: &Superblock) -> Result<(), Device
 }
 
 /// Writes the first sector, and syncs.
-fn write_first<D: Device>(device: &mut D, image: &[u8; 512]) -> Result<(), DeviceFault>
+fn write_first<D: Device>(device: &mut D, image: &Sector) -> Result<(), DeviceFault>
     requires { 0 < D.size device.old }
     ensures durable { D.honest device.old
         → OnOk result (Only (D.disk device.new).seen (D.disk device.new).may_leave) }
@@ -206,7 +206,7 @@ fn write_slots<D: Device>(device: &mut D, slots: u32) -> Result<(), DeviceFault>
 }
 
 /// The sector of a slot of a new volume.
-fn fresh_slot(s: u32) -> [u8; 512]
+fn fresh_slot(s: u32) -> Sector
     ensures { result ≡ fresh_slot s }
 {
     if s == 0 {

@@ -12,7 +12,7 @@ use crate::layout::SUPERBLOCK;
 use byteorder::{ByteOrder, LittleEndian};
 use vol_inode::{Version, put_bytes, put_number};
 use vol_log::FIRST_AFTER_LOG;
-use vol_sector::{Damage, Rule, VolumeFault};
+use vol_sector::{Damage, Rule, Sector, VolumeFault};
 
 /// The bytes that a volume begins with.
 const MAGIC: [u8; 8] = *b"WASMVOLU";
@@ -50,7 +50,7 @@ fn is_of_older_size(numbers: &Superblock) -> bool
 ///
 /// It is refused, in this order, as `NotAVolume` where it begins otherwise, as `Version` where the
 /// version is none that is known, and as `Damaged`.
-pub(crate) fn read_superblock(image: &[u8; 512]) -> Result<Superblock, VolumeFault>
+pub(crate) fn read_superblock(image: &Sector) -> Result<Superblock, VolumeFault>
     ensures right { IfOk result (λ v. HasRanges v × (image.now ≡ superblock v)) }
     ensures every { (v : Superblock) → HasRanges v → image.now ≡ superblock v → result ≡ Ok v }
     ensures not_a_volume { IsErrOf result VolumeFault.NotAVolume ↔ (take 8 image.now ≢ magic) }
@@ -84,7 +84,7 @@ pub(crate) fn read_superblock(image: &[u8; 512]) -> Result<Superblock, VolumeFau
 }
 
 /// The first sector of a volume with these numbers.
-pub(crate) fn write_superblock(numbers: &Superblock) -> [u8; 512]
+pub(crate) fn write_superblock(numbers: &Superblock) -> Sector
     ensures { result ≡ superblock numbers.now }
 {
     let mut image = [0; 512];
