@@ -16,11 +16,11 @@ ghost use Rattle.sandbox_telling.specs.Sources.{own_of, sink_contents};
 ghost use Rattle.sandbox_runs.specs.Status.{export_status, file_status};
 ghost use Rattle.sandbox_telling.specs.Streams.{AppendsSome};
 
-use sandbox_refusals::refusals::{tell_of_outcome, tell_of_refusal};
 use sandbox_args::Run;
 use sandbox_device::{Hindrance, RamDevice};
 use sandbox_places::places::Places;
 use sandbox_places::possession::is_silent;
+use sandbox_refusals::refusals::{tell_of_outcome, tell_of_refusal};
 use sandbox_report::{End, Fault, Summary, VolumeEnd};
 use sandbox_runs::ending::Failed;
 use sandbox_runs::program;

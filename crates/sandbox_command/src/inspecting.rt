@@ -7,8 +7,8 @@ ghost use Rattle.sandbox_runs.specs.Flushing.{Answered};
 ghost use Rattle.sandbox_runs.specs.Inspecting.{Inspects, refused_status, survey_status};
 ghost use Rattle.sandbox_telling.specs.Streams.{AppendsSome};
 
-use sandbox_refusals::serving::Served;
 use sandbox_inspect::survey;
+use sandbox_refusals::serving::Served;
 use sandbox_runs::program::{Executed, FAULT, left_with, out_of_memory, refuse_file};
 use sandbox_telling::streams::Streams;
 use std::alloc::Global;

@@ -15,11 +15,11 @@ ghost use Rattle.sandbox_telling.specs.Streams.{AppendsSome};
 
 use crate::closing::{refuse, unread};
 use crate::opening::{memory_of, read_files};
-use sandbox_refusals::refusals::{tell_of_line, tell_of_refusal};
 use sandbox_args::Run;
 use sandbox_core::{SessionFault, load_with};
 use sandbox_device::RamDevice;
 use sandbox_places::places::Places;
+use sandbox_refusals::refusals::{tell_of_line, tell_of_refusal};
 use sandbox_report::{End, Fault, Summary};
 use sandbox_runs::program::{load_status, refuse_file, run_valid, session_status};
 use sandbox_telling::explaining::{tell_of_fault, tell_words};
