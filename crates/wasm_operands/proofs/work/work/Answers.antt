@@ -142,7 +142,9 @@ pub returns-in_default-binary_top : goal.returns-in_default-binary_top
 returns-in_default-binary_top c = put c.args.most c.args.limit c.args.values.now c.binary_top.new.values c.args.memory.now _ 2 c.requires.spare c.in-Binary.is c.requires.ready (omega arith) (λ r. r.0) (c.in_default-binary_top.ensures.given, refl) c.in_default-binary_top.ensures.given.2.0 c.binary_top.ensures.room
 
 pub returns-else-not-load_top : goal.returns-else-not-load_top
-returns-else-not-load_top c = put c.args.most c.args.limit c.args.values.now c.load_top.new.values c.args.memory.now c.load_top.new.memory 1 c.requires.spare c.in-Load.is c.requires.ready (omega arith) (λ r. r.0) (c.if-not-load_top.ensures.inside, c.load_top.ensures.same) c.if-not-load_top.ensures.inside.2 c.load_top.ensures.room
+returns-else-not-load_top c =
+    let done = put c.args.most c.args.limit c.args.values.now c.load_top.new.values c.args.memory.now _ 1 c.requires.spare c.in-Load.is c.requires.ready (omega arith) (λ r. r.0) (c.if-not-load_top.ensures.inside, refl) c.if-not-load_top.ensures.inside.2 c.load_top.ensures.room in
+    subst (λ (m : List ℕ). Done c.args.most c.args.limit c.args.instruction.now c.args.values.now c.args.memory.now c.load_top.new.values m) (sym c.load_top.ensures.same) done
 
 pub returns-else-not-copy_top : goal.returns-else-not-copy_top
 returns-else-not-copy_top c = done c.args.most c.args.limit c.args.values.now c.copy_top.new.values c.args.memory.now c.copy_top.new.memory c.requires.spare c.in-MemoryCopy.is c.if-not-copy_top.ensures.inside (taken_off _ _ 3 c.if-not-copy_top.ensures.inside.3) c.copy_top.ensures.room
