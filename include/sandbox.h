@@ -74,7 +74,7 @@
 extern "C" {
 #endif
 
-#define SANDBOX_VERSION_NUMBER 9017 /* 0.9.17 */
+#define SANDBOX_VERSION_NUMBER 9018 /* 0.9.18 */
 #define SANDBOX_STACK 65536 /* of a thread; 24 KB were measured, whatever the guest recurses */
 
 typedef struct sandbox_session sandbox_session; /* opaque */

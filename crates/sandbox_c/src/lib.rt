@@ -34,7 +34,7 @@ use vol_sector::Sector;
 /// The version of the archive.
 #[unsafe(no_mangle)]
 pub extern "C" fn sandbox_version() -> u32
-    ensures { result ≡ 9017 }
+    ensures { result ≡ 9018 }
 {
     sandbox_host::VERSION
 }
