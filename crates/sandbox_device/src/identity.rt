@@ -1,6 +1,6 @@
 //! Which file of the system is open, whatever it is called.
 
-ghost use Rattle.std.specs.Prelude.{◌⊎◌, MatchResult, OnErr};
+ghost use Rattle.std.specs.Prelude.{◌⊎◌, MatchResult, OnErr, codes};
 ghost use Rattle.sandbox_device.specs.FileEvidence.{WasRefused};
 ghost use Rattle.sandbox_device.specs.Named.{AreOfStreams, HasIdentity, HasLost, NamesIdentity};
 
@@ -51,6 +51,13 @@ impl Identity {
         ensures { NamesIdentity path.now result }
     {
         at(files, path)
+    }
+
+    /// The regular file that is open as standard error; none where it is none, or `/proc` isn't there.
+    pub fn of_errors<R: Files>(files: &R) -> Option<Identity>
+        ensures { NamesIdentity (codes "/proc/self/fd/2") result }
+    {
+        at(files, "/proc/self/fd/2")
     }
 
     /// The regular files that are open as the standard streams. It asks `/proc`, which alone tells it without opening one: where
