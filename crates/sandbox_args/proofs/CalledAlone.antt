@@ -123,8 +123,8 @@ module _ (s : Shape) (names : Names) (n : Text) (rest : List Text) (named : opti
   pub walk_fails : walk_fault s names (walk_from nothing_held) (n ∷ rest) ≡ or_else (or_else (other_fault s (Some n) n nothing_held) []) []
   unfolding walk_fault
   walk_fails = ap₂ or_else
-    (ap (λ o. let met = subcommand_or_other s.rules o idle 1 n nothing_held in or_else (other_fault s o n nothing_held) (step_fault s 1 met.0 met.1)) named)
-    (ap (λ w. walk_fault s names w rest) begun ∙ stopped_fault s names (walk_from nothing_held) (n, []) rest)
+      (ap (λ o. let met = subcommand_or_other s.rules o idle 1 n nothing_held in or_else (other_fault s o n nothing_held) (step_fault s 1 met.0 met.1)) named)
+      (ap (λ w. walk_fault s names w rest) begun ∙ stopped_fault s names (walk_from nothing_held) (n, []) rest)
 
 -- how a parse may fail, by its walk and by the command that it entered
 abbrev whole_fault : Shape → Walk → Kinds → Bool → Kinds → Kinds
@@ -149,9 +149,9 @@ module _ (s : Shape) (xs : List Shape) (n : Text) (rest : List Text) (sub : Shap
   fails =
       let names = names_of (app s xs) in
       ap₂ (λ (w : Walk) (k : Kinds). whole_fault s w k (is_some (entered (app s xs) w.stopped)) (entered_fault (app s xs) w.stopped))
-        (halts s names n rest named) (walk_fails s names n rest named)
+      (halts s names n rest named) (walk_fails s names n rest named)
       ∙ ap (λ (o : Option Shape). whole_fault s (halt s names n rest named) (or_else (or_else (other_fault s (Some n) n nothing_held) []) [])
-        (is_some (option_map (λ (t : Shape). rows_at t rest) o)) (option_map_or (λ (t : Shape). level_fault t [] nothing_held rest false []) o [])) found
+      (is_some (option_map (λ (t : Shape). rows_at t rest) o)) (option_map_or (λ (t : Shape). level_fault t [] nothing_held rest false []) o [])) found
 
 -- ---- what the program answers
 

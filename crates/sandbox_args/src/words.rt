@@ -174,10 +174,7 @@ fn commands_for(words: &[String]) -> &'static [Subcommand]
 }
 
 /// The program with the commands of these rows and `faults`, of which one has to be there.
-fn command<'a>(
-    alloc: Global,
-    rows: &'static [Subcommand],
-) -> Result<Command<'a>, AllocError>
+fn command<'a>(alloc: Global, rows: &'static [Subcommand]) -> Result<Command<'a>, AllocError>
     ensures { IfOk result (λ c. (app_of c ≡ program_with (map app_for rows.now))
         × ((fields_of c).has_globals ≡ false)) }
 {

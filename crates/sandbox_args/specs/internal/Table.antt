@@ -6,7 +6,7 @@ use Rattle.clap.specs.declared.builder.action.ArgAction.TheVariants.{Set, Append
 use Rattle.clap.specs.Faults.{fault_of, is_simple_and_free}
 use Rattle.clap.specs.Simple.{label_of, on_top}
 use Rattle.clap.specs.Walk.{answers_to}
-use Rattle.clap.specs.Words.{App, Rule, app_of, is_simple, new_app, subcommand_of, with_subcommand}
+use Rattle.clap.specs.Words.{App, Rule, app_of, new_app, subcommand_of, with_subcommand}
 use Rattle.clap.specs.declared.builder.command.Command.{Command}
 use Rattle.clap.specs.declared.builder.command.Command.TheViews.{out-Command as fields_of}
 use Rattle.sandbox_args.specs.declared.table.ArgumentKind.TheVariants as takes
