@@ -1,6 +1,7 @@
 use Rattle.std.proofs.Common.{refl}
 use Rattle.fed_session.specs.Feeding.{around}
-use Rattle.fed_session.proofs.Acting.{does_let_go, if_ok}
+use Rattle.fed_session.proofs.Acting.{does_let_go}
+use Rattle.fed_session.proofs.Branches.{if_ok}
 use Rattle.fed_session.proofs.feeding.FedInstance.abandon.Goals as goal
 
 pub returns-clause-abandoned : goal.returns-clause-abandoned

@@ -1,6 +1,7 @@
 use Rattle.std.proofs.Common.{refl, inl, inr}
 use Rattle.fed_session.specs.Feeding.{around}
-use Rattle.fed_session.proofs.Acting.{does_answer, if_ok}
+use Rattle.fed_session.proofs.Acting.{does_answer}
+use Rattle.fed_session.proofs.Branches.{if_ok}
 use Rattle.fed_session.proofs.feeding.FedInstance.answer_all.Goals as goal
 
 pub returns-clause-answered : goal.returns-clause-answered

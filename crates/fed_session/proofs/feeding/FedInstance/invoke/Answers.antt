@@ -1,6 +1,7 @@
 use Rattle.std.proofs.Common.{refl}
 use Rattle.fed_session.specs.Feeding.{around}
-use Rattle.fed_session.proofs.Acting.{does_invoke, if_ok}
+use Rattle.fed_session.proofs.Acting.{does_invoke}
+use Rattle.fed_session.proofs.Branches.{if_ok}
 use Rattle.fed_session.proofs.feeding.FedInstance.invoke.Goals as goal
 
 pub returns-clause-invoked : goal.returns-clause-invoked

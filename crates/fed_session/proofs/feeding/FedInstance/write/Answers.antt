@@ -1,6 +1,7 @@
 use Rattle.std.proofs.Common.{refl}
 use Rattle.fed_session.specs.Feeding.{around}
-use Rattle.fed_session.proofs.Acting.{does_write, if_ok}
+use Rattle.fed_session.proofs.Acting.{does_write}
+use Rattle.fed_session.proofs.Branches.{if_ok}
 use Rattle.fed_session.proofs.feeding.FedInstance.write.Goals as goal
 
 pub returns-clause-written : goal.returns-clause-written
