@@ -179,7 +179,9 @@ where
     {
         let wanted = self.instance.wanted_input()?;
         let input = self.instance.input();
-        if input.has_ended() || wanted <= input.held() as u64 {
+        let ended = input.has_ended();
+        let held = input.held() as u64;
+        if ended || wanted <= held {
             return None;
         }
         Some(wanted)
