@@ -40,6 +40,12 @@ module _ {D W1 W2 : Type 0} where
   abbrev pub fed_state : Bool → InstanceState D Fed W1 W2 → FedState D W1 W2
   fed_state goes_on s = record { instance = s; goes_on = goes_on }
 
+  -- a call that is refused changes nothing
+  pub nothing_done : {A E : Type 0} (goes_on : Bool) (s u : InstanceState D Fed W1 W2) (P Q : E → Type 0) (r : Result A E) → ((e : E) → P e → Q e) → IfErr r (λ e. (u ≡ s) × P e)
+      → IfErr r (λ e. (fed_state goes_on u ≡ fed_state goes_on s) × Q e)
+  nothing_done goes_on s u P Q (Ok x) f k = tt
+  nothing_done goes_on s u P Q (Err e) f k = (ap (fed_state goes_on) k.0, f e k.1)
+
   -- the input is another one in the end
   pub twice : (s t u : InstanceState D Fed W1 W2) (f g : Fed) → t ≡ with_input s f → u ≡ with_input t g → u ≡ with_input s g
   twice s t u f g first then_ = then_ ∙ ap (λ (z : InstanceState D Fed W1 W2). with_input z g) first

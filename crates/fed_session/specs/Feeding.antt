@@ -3,13 +3,16 @@ use Rattle.std.specs.Prelude.{◌≡◌, ◌≢◌, ◌⊎◌, ◌<◌, ◌≤�
 use Rattle.std.specs.declared.io.Write.{Ghosts as Writer}
 use Rattle.vol_sector.specs.declared.device.Device.{Ghosts}
 use Rattle.wasm_syntax.specs.declared.module.ExportKind.TheVariants as exports
+use Rattle.wasm_syntax.specs.declared.module.FuncType.{FuncType}
 use Rattle.wasm_syntax.specs.declared.module.Module.{Module}
+use Rattle.wasm_store.specs.declared.call.HostCall.TheVariants.{FdRead}
 use Rattle.wasm_steps.specs.declared.pause.Pause.TheVariants.{Spent}
 use Rattle.wasm_places.specs.declared.invocable.Event.{Event}
 use Rattle.wasm_operands.specs.Snapshots.{Snapshot, StandsFor}
 use Rattle.wasm_store.specs.declared.fault.InstanceFault.TheVariants.{Memory as NoMemory}
 use Rattle.wasm_store.specs.Allocating.{NotAllocated}
 use Rattle.wasm_interp.specs.Invocations as machine
+use Rattle.wasm_interp.specs.Invocations.{IsAskedFor}
 use Rattle.wasm_interp.specs.Machine.{Represents}
 use Rattle.wasi_bodies.specs.host.Settings.{settings_fit}
 use Rattle.wasi_bodies.specs.host.Worlds.{StreamCalls}
@@ -81,6 +84,10 @@ pub record FedState (D W1 W2 : Type 0) : Type 0 where
 abbrev pub RepresentsWhole : Bool → StandsFor
 RepresentsWhole goes_on = StandsForWhole (deferred_at goes_on) Represents
 
+-- an instance of the module can be opened, with at most this many pages
+abbrev pub IsOpenable : Bool → Module → ℕ → Type 0
+IsOpenable goes_on m pages = (s : Snapshot) × machine.OpensBy (RepresentsWhole goes_on) links pages m s
+
 module _ {D W1 W2 : Type 0} where
   abbrev pub used_by : FedState D W1 W2 → ℕ
   used_by s = s.instance.machine.used
@@ -102,10 +109,6 @@ module _ {D W1 W2 : Type 0} where
   abbrev pub Opens : Bool → Module → HostParts D Fed W1 W2 → InstanceState D Fed W1 W2 → Type 0
   Opens goes_on m parts s = OpensBy (RepresentsWhole goes_on) None None m parts s
 
-  -- an instance of the module can be opened, with at most this many pages
-  abbrev pub IsOpenable : Bool → Module → ℕ → Type 0
-  IsOpenable goes_on m pages = (s : Snapshot) × machine.OpensBy (RepresentsWhole goes_on) links pages m s
-
   -- Why none is opened: as for any instance (`IsRefused` of plugin_session), by the links that its machine has.
   abbrev pub IsRefused : Bool → (D → Type 0) → SessionFault → Module → HostParts D Fed W1 W2 → Type 0
   IsRefused goes_on honest faults.Setting m parts = settings_fit parts.settings ≡ false
@@ -121,9 +124,13 @@ module _ {D W1 W2 : Type 0} where
     pub too_few : length s.host.input.reader.bytes < count
     pub goes_on : s.host.input.reader.ended ≡ false
 
-  -- an answer is refused as that of any instance is, or the guest waits for input
-  abbrev pub RefusesAnswerOf : InstanceState D Fed W1 W2 → List ℕ → Misuse → Type 0
-  RefusesAnswerOf s results e = (e ≡ NotAsked) ⊎ RefusesAnswer s results e
+  -- the guest stands before a read that waits: it is the host's to answer, and not the embedder's
+  abbrev pub Waits : FedState D W1 W2 → Type 0
+  Waits s = (x : ℕ) × (f : FuncType) × (arguments : List ℕ) × IsAskedFor s.instance.machine x f arguments × (deferred_at s.goes_on s.instance.machine.valid x ≡ Some FdRead)
+
+  -- an answer is refused as that of any instance is, or because the guest waits
+  abbrev pub RefusesAnswerOf : FedState D W1 W2 → List ℕ → Misuse → Type 0
+  RefusesAnswerOf s results e = ((e ≡ NotAsked) × Waits s) ⊎ RefusesAnswer s.instance results e
 
 -- what an event tells: one that starves has merely used its units
 abbrev pub told_act : FedEvent → Snapshot → Act

@@ -11,7 +11,7 @@ ghost use Rattle.plugin_session.specs.Refusals.{RefusesCall, RefusesWrite, not_g
 ghost use Rattle.plugin_session.specs.Instance.{limited_to, session_of};
 ghost use Rattle.fed_input.specs.Feeding.{IsNotFed};
 ghost use Rattle.fed_session.specs.Waiting.{deferred_at};
-ghost use Rattle.fed_session.specs.Feeding.{Answers, Does, Ends, Feeds, Goes, Invokes, IsRefused, Opens, RefusesAnswerOf, Starves, around, used_by};
+ghost use Rattle.fed_session.specs.Feeding.{Answers, Does, Ends, Feeds, Goes, Invokes, IsRefused, Opens, RefusesAnswerOf, Starves, Waits, around, used_by};
 
 use crate::linking::is_deferred;
 use crate::plugin::FedPlugin;
@@ -155,10 +155,7 @@ where
 
     /// Whether the guest stands before a read that waits.
     fn waits(&self) -> bool
-        ensures yes { OnTrue result ((x : ℕ) × (f : FuncTypeValue) × (arguments : List ℕ)
-            × IsAskedFor self.now.instance.machine x f arguments
-            × (deferred_at self.now.goes_on self.now.instance.machine.valid x
-            ≡ Some HostCall.FdRead)) }
+        ensures yes { OnTrue result (Waits self.now) }
         ensures no { OnFalse result ((x : ℕ) (f : FuncTypeValue) (arguments : List ℕ)
             → IsAskedFor self.now.instance.machine x f arguments
             → deferred_at self.now.goes_on self.now.instance.machine.valid x ≡ None) }
@@ -259,7 +256,7 @@ where
             (around D.Device W1.Write W2.Write W1.took W1.refused W2.took W2.refused) self.old
             self.new results.now) }
         ensures refused { IfErr result (λ e. (self.new ≡ self.old)
-            × RefusesAnswerOf self.old.instance results.now e) }
+            × RefusesAnswerOf self.old results.now e) }
     {
         if self.waits() {
             return Err(Misuse::NotAsked);
