@@ -118,10 +118,10 @@ module _ (Stands : StandsFor) (tells : TellsAll Stands) {D R W1 W2 : Type 0} (on
       let (u, v) = pause_of m s.host t.host s.machine t.machine Spent did in
       let (d, now, (run, same, plain)) = v.run i c st in
       (d, now, turns.goes n (paused Spent) run (refl, refl, plain) (takes_at (paused Spent) n s t i c d st now takes))
-  pause_turn m i s t c n (Ended (Exited code)) st did takes clear =
-      let (u, v) = pause_of m s.host t.host s.machine t.machine (Ended (Exited code)) did in
+  pause_turn m i s t c n (Ended (Exited status)) st did takes clear =
+      let (u, v) = pause_of m s.host t.host s.machine t.machine (Ended (Exited status)) did in
       let (d, now, (run, end)) = v.run i c st in
-      (d, now, turns.goes n (paused (Ended (Exited code))) run (refl, refl, clear i d now) (takes_at (paused (Ended (Exited code))) n s t i c d st now takes))
+      (d, now, turns.goes n (paused (Ended (Exited status))) run (refl, refl, clear i d now) (takes_at (paused (Ended (Exited status))) n s t i c d st now takes))
   pause_turn m i s t c n (Ended (Trapped trap)) st did takes clear =
       let (u, v) = pause_of m s.host t.host s.machine t.machine (Ended (Trapped trap)) did in
       let (d, now, (run, end)) = v.run i c st in

@@ -92,7 +92,7 @@ module _ (i : Instance) where
 
 module _ (H : Type 0) (Calls : CallsOf H) (i : Instance) where
   step_not_awaiting : {n : ℕ} {h h' : H} {c d : Configuration} {ev : Event} → Step H Calls i n h c ev h' d → Awaits i (code_of c) → ⊥
-  step_not_awaiting (plain_step rule) w = not_plain i _ w (rewrites rule).0
+  step_not_awaiting (plain_step {c = c} rule) w = not_plain i c w (rewrites rule).0
   step_not_awaiting (free_step rule) w = free_not_awaiting i rule w
   step_not_awaiting (host_answers args vs callee is count call) w = no_import i _ _ _ _ _ callee w.2
   step_not_awaiting (host_exits args vs callee is count call) w = no_import i _ _ _ _ _ callee w.2
@@ -106,6 +106,7 @@ module _ (H : Type 0) (Calls : CallsOf H) (i : Instance) where
   asks_steps x h s n f _ _ (asking.in_frame {g = g} {c = c} {c' = c'} a) = in_frame (asks_steps x h s (suc n) g c c' a)
 
   asks_refuses_not : (x : ℕ) (h : H) (s : Store) (n : ℕ) (f : List Val) (c c' : Code) → (a : Asks i x s c c') → RefusesMemory (asks_steps x h s n f c c' a) → ⊥
+  unfolding asks_steps
   asks_refuses_not x h s n f _ _ asking.by_call r = r
   asks_refuses_not x h s n f _ _ (asking.by_table element callee same) r = r
   asks_refuses_not x h s n f _ _ (asking.in_label {c = c} {c' = c'} a) r = asks_refuses_not x h s n f c c' a r

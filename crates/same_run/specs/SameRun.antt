@@ -24,7 +24,7 @@ module _ {D R W1 W2 D' R' W1' W2' : Type 0} (on : Devices D R W1 W2) (on' : Devi
   abbrev pub SameRun : Type 0
   SameRun = (i : Instance) (c : Configuration) (fuel fuel' : ℕ) (h last : HostState D R W1 W2)
       (h' last' : HostState D' R' W1' W2') (outcome outcome' : Outcome) (used used' : ℕ)
-      → IsHonest on h → IsHonest on' h' → ShowAlike h h' → fuel ≡ fuel'
+      → IsHonest on h → IsHonest on' h' → ShowAlike on on' h h' → fuel ≡ fuel'
       → (run : RunsWithin (Calls on) i h c fuel last outcome used)
       → (run' : RunsWithin (Calls on') i h' c fuel' last' outcome' used')
       → used ≤ fuel → used' ≤ fuel' → AreServed on on' run run' → RunAlike on on' run run'
@@ -46,7 +46,7 @@ module _ {D R W1 W2 D' R' W1' W2' : Type 0} (on : Devices D R W1 W2) (on' : Devi
   SameReport = (m : Module) (seed seed' : Option ℕ) (terminals terminals' : Option Terminals) (parts : HostParts D R W1 W2) (parts' : HostParts D' R' W1' W2')
       (s : SessionState D R W1 W2) (s' : SessionState D' R' W1' W2') (fuel fuel' : ℕ)
       (report : Report D R W1 W2) (report' : Report D' R' W1' W2')
-      → IsValid m → AreAlike parts parts' → seed ≡ seed' → terminals ≡ terminals' → fuel ≡ fuel'
+      → IsValid m → AreAlike on on' parts parts' → seed ≡ seed' → terminals ≡ terminals' → fuel ≡ fuel'
       → OpensWith seed terminals m parts s → OpensWith seed' terminals' m parts' s' → Shares on.device parts s → Shares on'.device parts' s'
       → on.device.honest parts.volume.device → on'.device.honest parts'.volume.device
       → (reports : Reports on s fuel report) → (reports' : Reports on' s' fuel' report') → TellTheSame reports reports'
