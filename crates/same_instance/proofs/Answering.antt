@@ -1,5 +1,5 @@
 -- What an embedder does while nothing goes on leads from one configuration to one alone.
-use Rattle.std.proofs.Common.{◌≡◌, ℕ, List, [], ◌∷◌, ◌++◌, length, drop, Some, slice_get, refl, sym, ◌∙◌, ap, subst}
+use Rattle.std.proofs.Common.{◌≡◌, ℕ, List, [], ◌++◌, length, drop, Some, slice_get, refl, sym, ◌∙◌, ap, subst}
 use Rattle.std.specs.Prelude.{Contains}
 use Rattle.std.proofs.Math.Seq.{drop-append_seam}
 use Rattle.std.proofs.lemmas.Option.{same_Some}
@@ -7,20 +7,18 @@ use Rattle.wasm_syntax.specs.declared.module.ExportKind.TheVariants as exports
 use Rattle.wasm_syntax.specs.declared.module.Export.{Export}
 use Rattle.wasm_syntax.specs.declared.module.FuncType.{FuncType}
 use Rattle.wasm_syntax.specs.declared.module.Module.{Module}
-use Rattle.wasm_syntax.specs.Nested.{Instructions}
 use Rattle.wasm_valid.specs.Validity.{IsValid}
-use Rattle.wasm_store.specs.Instances.{Callee, outside, signature_of}
-use Rattle.wasm_steps.specs.Configuration.{Val, numbers, Instance, Store, Code, code, Configuration, at, code_of, store_of}
+use Rattle.wasm_store.specs.Instances.{outside, signature_of}
+use Rattle.wasm_steps.specs.Configuration.{Val, numbers, Instance, Code, code, Configuration, at, code_of, store_of}
 use Rattle.wasm_steps.specs.Steps.{tick}
 use Rattle.plugin_steps.specs.Serving.{Exchange, ServeStep}
 use Rattle.plugin_steps.specs.Serving as serving
-use Rattle.plugin_steps.specs.Asking.{Asks}
 use Rattle.wasm_interp.specs.Invocations.{AnswersAt, invocation_over, values_of}
 use Rattle.plugin_core.specs.Handling.{Act, abandoned, answered, invoked, wrote}
 use Rattle.same_run.proofs.Branching.{kept_of}
 use Rattle.same_run.proofs.Moving.{in_a_label, in_a_frame}
 use Rattle.same_run.proofs.OneStart.{one_place}
-use Rattle.same_instance.specs.Turns.{Action, go, answer, write, invoke, abandon, ChangesBy, EntersAt}
+use Rattle.same_instance.specs.Turns.{Action, go, answer, write, invoke, abandon, ChangesBy}
 use Rattle.same_instance.proofs.Halting.{asks_once}
 
 -- ---- exports

@@ -1,18 +1,15 @@
 -- A valid module has one instance by allocation, and begins in one way.
 use Rattle.std.proofs.Common.{◌≡◌, ℕ, suc, ◌*◌, List, [], ◌∷◌, ◌++◌, Option, Some, None, slice_get, replicate, codes, refl, sym, ◌∙◌, ap}
-use Rattle.std.specs.Option.{option_to_list}
 use Rattle.std.proofs.lemmas.Option.{same_Some}
 use Rattle.wasm_syntax.specs.declared.module.FuncType.{FuncType}
 use Rattle.wasm_syntax.specs.declared.module.Import.{Import}
 use Rattle.wasm_syntax.specs.declared.module.ImportKind.TheVariants as imports
 use Rattle.wasm_syntax.specs.declared.module.Module.{Module}
 use Rattle.wasm_valid.specs.Validity.{IsValid}
-use Rattle.wasm_store.specs.declared.linked.Linked.{Linked}
 use Rattle.wasm_store.specs.Values.{Val}
 use Rattle.wasm_store.specs.Instances.{Callee, callee_of, Instance, Store}
 use Rattle.wasm_store.specs.Instantiation.{minimum, with_elements, with_data}
-use Rattle.wasm_store.specs.Allocation.{AllLinks, IsLinkedTo, AreLinkedTo, Allocates, HasInitializer}
-use Rattle.wasm_steps.specs.Configuration.{Configuration, first_configuration}
+use Rattle.wasm_store.specs.Allocation.{AllLinks, AreLinkedTo, Allocates, HasInitializer}
 use Rattle.same_run.proofs.OneStart.{globals_once, own_once}
 use Rattle.same_instance.proofs.Answering.{exported_once}
 

@@ -1,5 +1,5 @@
 -- Where an instance halts: from one configuration silent steps lead to one halt alone.
-use Rattle.std.proofs.Common.{◌≡◌, ◌⊎◌, ℕ, suc, ◌+◌, ◌<◌, ◌≤◌, Bool, false, List, [], ◌∷◌, ◌++◌, Option, Some, slice_get, refl, sym, ◌∙◌, ap, subst, inl, inr, arith}
+use Rattle.std.proofs.Common.{◌≡◌, ℕ, suc, ◌+◌, ◌≤◌, Bool, false, List, [], ◌++◌, Option, Some, slice_get, refl, sym, ◌∙◌, ap, subst, inl, inr, arith}
 use Rattle.std.proofs.lemmas.Option.{same_Some}
 use Rattle.wasm_syntax.specs.Nested.{done}
 use Rattle.wasm_syntax.specs.Nested as nested
@@ -7,7 +7,6 @@ use Rattle.wasm_syntax.specs.declared.module.FuncType.{FuncType}
 use Rattle.wasm_store.specs.declared.call.HostCall.{HostCall}
 use Rattle.wasm_store.specs.declared.call.Errno.{Errno}
 use Rattle.wasm_store.specs.Instances.{Callee, Function, imported, own, outside}
-use Rattle.wasm_steps.specs.declared.pause.Outcome.{Outcome}
 use Rattle.wasm_steps.specs.declared.pause.Outcome.TheVariants.{Exited, Trapped, OutOfFuel, OutOfMemory}
 use Rattle.wasm_steps.specs.declared.pause.Pause.TheVariants.{Called, Spent, Ended}
 use Rattle.wasm_steps.specs.Configuration.{Val, numbers, Instance, Store, Code, code, label, frame, stopped, trapped, exited, Configuration, at, code_of, store_of, used_by, NextIsPlain}
@@ -16,12 +15,12 @@ use Rattle.wasm_steps.specs.Steps as steps
 use Rattle.wasm_steps.proofs.Units.{rewrites}
 use Rattle.plugin_steps.specs.Asking.{Asks}
 use Rattle.plugin_steps.specs.Asking as asking
-use Rattle.plugin_core.specs.Handling.{Act, abandoned, answered, asked, invoked, paused, returned, wrote}
-use Rattle.same_run.specs.Growth.{RefusesGrowth, RefusesMemory, WasRefusedMemory}
+use Rattle.plugin_core.specs.Handling.{Act, abandoned, asked, paused, returned}
+use Rattle.same_run.specs.Growth.{RefusesMemory, WasRefusedMemory}
 use Rattle.same_run.specs.Failures.{FailuresStay}
 use Rattle.same_run.proofs.Moving.{AnswersAlike, next_alike}
 use Rattle.same_run.proofs.Running.{IsDone, rises_by_one, run_rises, runs_alike, reach_sound, step_not_done, step_sound, takes_its_unit}
-use Rattle.same_instance.specs.Turns.{HaltsAs, IsEnd, IsRefusal, TakesUnits}
+use Rattle.same_instance.specs.Turns.{HaltsAs, IsRefusal, TakesUnits}
 
 -- ---- the embedder is awaited
 

@@ -1,17 +1,14 @@
 -- Two instances with the same supplies, with which the same is done.
-use Rattle.std.proofs.Common.{◌≡◌, ℕ, List, Option, refl, sym, ◌∙◌, ap, subst, ◌++◌}
+use Rattle.std.proofs.Common.{◌≡◌, ℕ, List, Option, sym, ◌∙◌, subst, ◌++◌}
 use Rattle.std.specs.Option.{option_to_list}
 use Rattle.wasm_syntax.specs.declared.module.Module.{Module}
-use Rattle.wasm_valid.specs.Validity.{IsValid}
-use Rattle.wasm_store.specs.Instances.{Instance, Store}
+use Rattle.wasm_store.specs.Instances.{Instance}
 use Rattle.wasm_store.specs.Allocation.{Allocates}
-use Rattle.wasm_steps.specs.Configuration.{Configuration, first_configuration, numbers, store_of}
+use Rattle.wasm_steps.specs.Configuration.{Configuration, first_configuration}
 use Rattle.wasm_operands.specs.Snapshots.{StandsFor}
 use Rattle.wasi_calls.specs.declared.host.wasi_host.HostParts.{HostParts}
 use Rattle.wasi_bodies.specs.declared.streams.Terminals.{Terminals}
 use Rattle.sandbox_core.specs.Devices.{Devices}
-use Rattle.plugin_core.specs.declared.stage.Stage.{Stage}
-use Rattle.plugin_core.specs.Handling.{Act}
 use Rattle.plugin_session.specs.States.{InstanceState, OpensBy, links, session_of}
 use Rattle.plugin_session.specs.Headline.{History, acts_of}
 use Rattle.same_run.proofs.Sameness.{HostBegins, hosts_alike}

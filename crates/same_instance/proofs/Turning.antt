@@ -1,5 +1,5 @@
 -- Turns from the same configuration, over hosts that are the same, are the same.
-use Rattle.std.proofs.Common.{◌≡◌, ℕ, Bool, false, List, [], ◌∷◌, refl, sym, ◌∙◌, ap, subst, inl, inr}
+use Rattle.std.proofs.Common.{◌≡◌, Bool, false, List, ◌∷◌, refl, sym, subst, inl, inr}
 use Rattle.wasm_syntax.specs.declared.module.Module.{Module}
 use Rattle.wasm_valid.specs.Validity.{IsValid}
 use Rattle.wasm_steps.specs.Configuration.{Instance, Configuration}

@@ -1,5 +1,5 @@
 -- Turns over a host are turns over worlds, which are refused memory only where the first are.
-use Rattle.std.proofs.Common.{◌≡◌, ◌⊎◌, ℕ, List, [], refl, sym, ◌∙◌, ap, subst, inl, inr}
+use Rattle.std.proofs.Common.{◌≡◌, List, [], refl, sym, ap, subst}
 use Rattle.wasm_syntax.specs.declared.module.Module.{Module}
 use Rattle.wasm_steps.specs.declared.pause.Pause.TheVariants.{Called}
 use Rattle.wasm_steps.specs.Configuration.{Instance, Configuration}
@@ -9,7 +9,7 @@ use Rattle.wasi_bodies.specs.Calls as world
 use Rattle.wasi_bodies.specs.host.Worlds.{HostState, StreamBytes, MayFollow, before_moving, after_moving, world_of}
 use Rattle.sandbox_core.specs.Devices.{Devices, Calls}
 use Rattle.plugin_core.specs.Handling.{Act, paused}
-use Rattle.same_run.proofs.Worlds.{H, Moves, nothing, same_output, both, beside_second, before_both, after_both, RunsOver, either, follows_first, moves_on, reach_honest, reach_moves, rest, step_moves}
+use Rattle.same_run.proofs.Worlds.{Moves, nothing, same_output, both, beside_second, before_both, after_both, RunsOver, either, follows_first, moves_on, reach_honest, reach_moves, rest, step_moves}
 use Rattle.same_instance.specs.Turns.{Action, HaltsAs, Turn, Turns, RefusesMemory, WereRefusedMemory, rests, takes}
 use Rattle.same_instance.specs.Turns as turns
 
