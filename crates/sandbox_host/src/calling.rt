@@ -1,19 +1,20 @@
 //! What is called of an instance.
 
-ghost use Rattle.std.specs.Prelude.{◌≡◌, ◌≢◌, IfSome, IsSomeAnd, MatchResult, is_none, true};
+ghost use Rattle.std.specs.Prelude.{◌≡◌, ◌≢◌, IfNone, IfSome, IsSomeAnd, MatchResult, is_none, reverse, true};
+ghost use Rattle.std.specs.Bool.{OnFalse, OnTrue};
+ghost use Rattle.wasm_syntax.specs.declared.module.FuncType.{FuncType as FuncTypeValue};
+ghost use Rattle.wasm_interp.specs.Invoking.{IsAskedFor, IsAsking};
 ghost use Rattle.plugin_core.specs.Handling as acts;
-ghost use Rattle.plugin_session.specs.Instance.{Does};
-ghost use Rattle.sandbox_host.specs.Host.{known};
 ghost use Rattle.sandbox_host.specs.Numbers.{misuse_number};
 ghost use Rattle.sandbox_host.specs.Sessions.{bytes_of};
-ghost use Rattle.sandbox_host.specs.Instances.{Answered, Answers, Invokes, IsHandedOver, NoAnswer, NoCall, NoGoing, NoLettingGo, Went, living};
+ghost use Rattle.sandbox_host.specs.Instances.{Answered, Answers, Does, HandsOver, HandsOverFed, HandsOverPlain, Invokes, IsHandedOver, NoAnswer, NoCall, NoGoing, NoLettingGo, Went, living};
 
 use crate::handle::Handle;
 use crate::held::HandleContent;
-use crate::instance::HostInstance;
-use crate::numbers::{MISUSE, OK, Told, misuse_number, told_event};
+use crate::instance::{FeedableInstance, HostInstance, PlainInstance};
+use crate::numbers::{MISUSE, OK, Told, misuse_number, told_fed_event};
 use crate::showing::show;
-use plugin_session::Misuse;
+use plugin_session::{AskedCall, Misuse, Stage};
 use std::alloc::Global;
 use std::str;
 
@@ -29,7 +30,7 @@ pub(crate) fn number_of(answer: Result<(), Misuse>) -> u32
 }
 
 /// Is about to enter the function that is exported by this name.
-fn enter(instance: &mut HostInstance<'_>, name: &[u8], arguments: &[u64]) -> u32
+fn enter(instance: &mut HostInstance, name: &[u8], arguments: &[u64]) -> u32
     ensures { Answered result instance.old instance.new
         (Invokes instance.old instance.new name.now arguments.now)
         (NoCall instance.old name.now arguments.now) }
@@ -63,7 +64,7 @@ pub fn invoke(alloc: Global, instance: &mut Handle, name: &[u8], arguments: &[u6
 }
 
 /// Lets an instance go on for at most this many units, and not past 2^64 - 1 in all.
-fn go_on(instance: &mut HostInstance<'_>, units: u64, told: &mut Told) -> u32
+fn go_on(instance: &mut HostInstance, units: u64, told: &mut Told) -> u32
     ensures went { Answered result instance.old instance.new
         (Went units instance.old instance.new told.new) (NoGoing instance.old) }
     ensures refused { result ≢ 0 → told.new ≡ told.old }
@@ -71,7 +72,7 @@ fn go_on(instance: &mut HostInstance<'_>, units: u64, told: &mut Told) -> u32
     let most = units.min(u64::MAX - instance.used());
     match instance.go(most) {
         Ok(event) => {
-            *told = told_event(event, instance.used());
+            *told = told_fed_event(event, instance.used());
             OK
         }
         Err(misuse) => misuse_number(misuse),
@@ -101,7 +102,7 @@ pub fn go(alloc: Global, instance: &mut Handle, units: u64, told: &mut Told) -> 
 }
 
 /// Answers with these results.
-fn give(instance: &mut HostInstance<'_>, results: &[u64]) -> u32
+fn give(instance: &mut HostInstance, results: &[u64]) -> u32
     ensures { Answered result instance.old instance.new
         (Answers instance.old instance.new results.now) (NoAnswer instance.old results.now) }
 {
@@ -129,9 +130,9 @@ pub fn answer(alloc: Global, instance: &mut Handle, results: &[u64]) -> u32
 }
 
 /// Lets what is at work in an instance go.
-fn let_go(instance: &mut HostInstance<'_>) -> u32
+fn let_go(instance: &mut HostInstance) -> u32
     ensures { Answered result instance.old instance.new
-        (Does known instance.old acts.abandoned instance.new) (NoLettingGo instance.old) }
+        (Does instance.old acts.abandoned instance.new) (NoLettingGo instance.old) }
 {
     number_of(instance.abandon())
 }
@@ -142,7 +143,7 @@ pub fn abandon(alloc: Global, instance: &mut Handle) -> u32
         → (result ≡ MISUSE) × (instance.new.held ≡ instance.old.held) }
     ensures abandoned { IfSome (living instance.old.held)
         (λ old. IsSomeAnd (living instance.new.held)
-        (λ new. Answered result old new (Does known old acts.abandoned new) (NoLettingGo old))) }
+        (λ new. Answered result old new (Does old acts.abandoned new) (NoLettingGo old))) }
     ensures bytes { bytes_of instance.new.held ≡ bytes_of instance.old.held }
 {
     let Some(mut held) = instance.take(alloc) else {
@@ -156,25 +157,73 @@ pub fn abandon(alloc: Global, instance: &mut Handle) -> u32
     answer
 }
 
-/// Copies what an instance has to hand over: where a function of the host is called its arguments, the first one first; else the
-/// result of what has returned last, if it has one. Says how many these are.
-fn show_values(instance: &HostInstance<'_>, room: &mut [u64]) -> usize
-    ensures { IsHandedOver instance.now room.old room.new result }
+/// Copies what an instance whose input was there has to hand over.
+fn show_plain(plain: &PlainInstance<'_>, room: &mut [u64]) -> usize
+    ensures { IsHandedOver (HandsOverPlain plain.now) room.old room.new result }
 {
-    if let Some(call) = instance.asked() {
+    if let Some(call) = plain.asked() {
         show(call.arguments, room);
         return call.arguments.len();
     }
-    let result = instance.result();
+    let result = plain.result();
     show(result.as_slice(), room);
     result.as_slice().len()
+}
+
+/// Whether a function of the host is called at this stage.
+fn asks(stage: Stage) -> bool
+    ensures yes { OnTrue result (acts.Asks stage) }
+    ensures no { OnFalse result (acts.Asks stage → ⊥) }
+{
+    match stage {
+        Stage::Asked | Stage::AskedOpening => true,
+        Stage::Opening | Stage::Running | Stage::Ready | Stage::Stopped | Stage::Over => false,
+    }
+}
+
+/// The call of a function of the host, of an instance whose input may go on: where its guest waits for input there is none.
+fn asked_of<'i>(fed: &'i FeedableInstance<'_>) -> Option<AskedCall<'i>>
+    ensures asked { IfSome result (λ k. acts.Asks fed.now.instance.stage × (f : FuncTypeValue)
+        × IsAskedFor fed.now.instance.machine k.import f (reverse k.arguments.now)) }
+    ensures not { IfNone result (acts.Asks fed.now.instance.stage
+        → IsAsking fed.now.instance.machine → ⊥) }
+{
+    let instance = fed.instance();
+    if !asks(instance.stage()) {
+        return None;
+    }
+    instance.asked()
+}
+
+/// The same of one whose input may go on.
+fn show_fed(fed: &FeedableInstance<'_>, room: &mut [u64]) -> usize
+    ensures { IsHandedOver (HandsOverFed fed.now) room.old room.new result }
+{
+    if let Some(call) = asked_of(fed) {
+        show(call.arguments, room);
+        return call.arguments.len();
+    }
+    let result = fed.instance().result();
+    show(result.as_slice(), room);
+    result.as_slice().len()
+}
+
+/// Copies what an instance has to hand over: where a function of the host is called its arguments, the first one first; else the
+/// result of what has returned last, if it has one. Says how many these are.
+fn show_values(instance: &HostInstance, room: &mut [u64]) -> usize
+    ensures { IsHandedOver (HandsOver instance.now) room.old room.new result }
+{
+    match instance {
+        HostInstance::Plain(plain) => show_plain(plain, room),
+        HostInstance::Fed(fed) => show_fed(fed, room),
+    }
 }
 
 /// Copies the arguments of the host's function that is called, or the result of what has returned, as many as there is room for,
 /// and says how many there are.
 pub fn values(alloc: Global, instance: &mut Handle, room: &mut [u64]) -> usize
     ensures shown { IfSome (living instance.old.held)
-        (λ s. IsHandedOver s room.old room.new result) }
+        (λ s. IsHandedOver (HandsOver s) room.old room.new result) }
     ensures none { is_none (living instance.old.held) ≡ true → (result ≡ 0)
         × (room.new ≡ room.old) }
     ensures kept { instance.new.held ≡ instance.old.held }
