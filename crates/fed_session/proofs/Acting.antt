@@ -1,7 +1,5 @@
 -- What is done with the machine is done with a machine of the whole instance.
-use Rattle.std.proofs.Common.{◌≡◌, ℕ, suc, ◌+◌, ◌-◌, ◌<◌, List, [], ◌∷◌, length, take, drop, reverse, Option, Some, None, Bool, true, false, refl, sym, ap, subst, ◌∙◌, arith, ◌≤◌, inl, inr, Result, Ok, Err}
-use Rattle.std.specs.Prelude.{IfOk}
-use Rattle.std.specs.Bool.{OnFalse, OnTrue}
+use Rattle.std.proofs.Common.{◌≡◌, ℕ, suc, ◌+◌, ◌-◌, ◌<◌, List, [], ◌∷◌, length, take, drop, reverse, Option, Some, None, Bool, true, false, refl, sym, ap, subst, ◌∙◌, arith, ◌≤◌, inl, inr}
 use Rattle.std.proofs.Math.Nat.{eq-or-lt_of_le}
 use Rattle.wasm_syntax.specs.declared.module.FuncType.{FuncType}
 use Rattle.wasm_syntax.specs.declared.module.Module.{Module}
@@ -32,7 +30,7 @@ use Rattle.deferred_calls.proofs.Machines.{machines_defer}
 use Rattle.fed_input.specs.Feeding.{Fed}
 use Rattle.plugin_session.specs.States.{DoesBy, InstanceState}
 use Rattle.plugin_session.specs.Deferring.{GivesErrno, GoesTo, Grants}
-use Rattle.plugin_session.proofs.Doing.{may_go_on, rises}
+use Rattle.plugin_session.proofs.Doing.{may_go_on, progresses, rises}
 use Rattle.plugin_session.proofs.Granting.{settled}
 use Rattle.fed_session.specs.Waiting.{deferred_at}
 use Rattle.fed_session.specs.Feeding.{Around, FedState, Goes, RepresentsWhole, Starves, fed_devices}
@@ -220,10 +218,11 @@ module _ {D W1 W2 : Type 0} (a : Around D W1 W2) (goes_on : Bool) where
       let one : new.machine.used ≡ suc asking.machine.used = granted.answers.used ∙ ap (λ (z : Snapshot). suc z.used) granted.offers.left.is in
       (omega (arith, rises.0, one), omega (arith, left, one))
 
--- with one of two answers
-pub if_ok : {A E : Type 0} (P Q : A → Type 0) (r : Result A E) → ((x : A) → P x → Q x) → IfOk r P → IfOk r Q
-if_ok P Q (Ok x) f p = f x p
-if_ok P Q (Err e) f p = tt
+  -- ...and that a read takes one
+  pub took_grant : (old asking new : S) (units x : ℕ) (call : HostCall) (e : Errno) → GoesTo (fed_devices a) old asking units (Asked x) → Grants (fed_devices a) asking new call e → old.machine.used < new.machine.used
+  took_grant old asking new units x call e k granted =
+      let one : new.machine.used ≡ suc asking.machine.used = granted.answers.used ∙ ap (λ (z : Snapshot). suc z.used) granted.offers.left.is in
+      omega (arith, (k.asked x refl).units_rise.0, one)
 
 -- ---- what waits
 
@@ -261,6 +260,7 @@ module _ {D W1 W2 : Type 0} (a : Around D W1 W2) (goes_on : Bool) where
   goes_to_event old new units e none k = record {
     does = (does_go a goes_on old new units e none k, refl);
     within = rises (HostState D Fed W1 W2) (Calls (fed_devices a)) old.host new.host old.machine new.machine units e k.returned k.asked k.paused;
+    progress = inr (progresses (HostState D Fed W1 W2) (Calls (fed_devices a)) old.host new.host old.machine new.machine units e k.paused);
     starves = λ count is. cc;
   }
 
@@ -269,6 +269,7 @@ module _ {D W1 W2 : Type 0} (a : Around D W1 W2) (goes_on : Bool) where
       subst (λ (z : T). Goes a (fed_state old) (fed_state z) units (events.Event (Asked x))) (sym is) (record {
         does = (does_ask a goes_on old asking units x k, refl);
         within = (k.asked x refl).units_rise;
+        progress = inr tt;
         starves = λ count is. cc;
       })
 
@@ -276,6 +277,7 @@ module _ {D W1 W2 : Type 0} (a : Around D W1 W2) (goes_on : Bool) where
   goes_to_spent old new units x k all = record {
     does = (does_wait a goes_on old new units x k, refl);
     within = all;
+    progress = inr tt;
     starves = λ count is. cc;
   }
 
@@ -291,6 +293,7 @@ module _ {D W1 W2 : Type 0} (a : Around D W1 W2) (goes_on : Bool) where
       subst (λ (z : T). Goes a (fed_state old) (fed_state z) units (events.Starved count)) (sym is) (record {
         does = (does_wait a goes_on old asking units x k, refl);
         within = (risen.0, below risen.1 left);
+        progress = tt;
         starves = λ other same. subst (λ (n : ℕ). Starves asking n) (ap (count_of count) same) starves;
       })
 
@@ -302,14 +305,6 @@ module _ {D W1 W2 : Type 0} (a : Around D W1 W2) (goes_on : Bool) where
       record {
         does = (does_grant a goes_on old asking new units x FdRead e k less waits granted, refl);
         within = rises_grant a goes_on old asking new units x FdRead e k less granted;
+        progress = inl (took_grant a goes_on old asking new units x FdRead e k granted);
         starves = λ count is. cc;
       }
-
--- by whether it holds
-pub on_true : (b : Bool) (P Q : Type 0) → (P → Q) → OnTrue b P → OnTrue b Q
-on_true true P Q f p = f p
-on_true false P Q f p = tt
-
-pub on_false : (b : Bool) (P Q : Type 0) → (P → Q) → OnFalse b P → OnFalse b Q
-on_false true P Q f p = tt
-on_false false P Q f p = f p

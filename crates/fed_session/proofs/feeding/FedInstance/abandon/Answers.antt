@@ -1,9 +1,15 @@
 use Rattle.std.proofs.Common.{refl}
 use Rattle.fed_session.specs.Feeding.{around}
-use Rattle.fed_session.proofs.Acting.{does_let_go, if_ok}
+use Rattle.fed_session.proofs.Acting.{does_let_go}
+use Rattle.fed_session.proofs.Branches.{if_ok}
+use Rattle.fed_session.proofs.Pieces.{nothing_done}
 use Rattle.fed_session.proofs.feeding.FedInstance.abandon.Goals as goal
 
 pub returns-clause-abandoned : goal.returns-clause-abandoned
 returns-clause-abandoned g c =
     let a = around g.D.Device g.W1.Write g.W2.Write g.W1.Outlet.took g.W1.Outlet.refused g.W2.Outlet.took g.W2.Outlet.refused in
     rw (← c.self.view_is) (if_ok _ _ c.abandon.result (λ u k. (does_let_go a c.self.inside.goes_on _ _ k, refl)) c.abandon.ensures.abandoned)
+
+pub returns-clause-refused : goal.returns-clause-refused
+returns-clause-refused g c =
+    rw (← c.self.view_is) (nothing_done c.self.inside.goes_on c.self.inside.instance c.abandon.new.self _ _ c.abandon.result (λ e k. k.1) c.abandon.ensures.refused)

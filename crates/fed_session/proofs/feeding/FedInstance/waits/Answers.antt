@@ -4,7 +4,8 @@ use Rattle.wasm_syntax.specs.declared.module.Module.{Module}
 use Rattle.wasm_store.specs.declared.call.HostCall.TheVariants.{FdRead}
 use Rattle.wasm_interp.specs.Invoking.{IsAskedFor}
 use Rattle.fed_session.specs.Waiting.{deferred_at}
-use Rattle.fed_session.proofs.Acting.{never_waits, on_false, on_true}
+use Rattle.fed_session.proofs.Acting.{never_waits}
+use Rattle.fed_session.proofs.Branches.{on_false, on_true}
 use Rattle.fed_session.proofs.Waiting.{none_waits}
 use Rattle.fed_session.proofs.feeding.FedInstance.waits.Goals as goal
 
