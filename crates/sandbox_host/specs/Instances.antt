@@ -28,7 +28,7 @@ use Rattle.fed_input.specs.declared.fed.NotFed.TheVariants.{Ended}
 use Rattle.fed_session.specs.declared.feeding.FedEvent.{FedEvent}
 use Rattle.fed_session.specs.declared.feeding.FedEvent.TheVariants as events
 use Rattle.fed_session.specs.Feeding as fed
-use Rattle.fed_session.specs.Waiting.{NotReady}
+use Rattle.fed_session.specs.Waiting.{FedReady, NotReady}
 use Rattle.sandbox_host.specs.declared.numbers.Told.{Told}
 use Rattle.sandbox_host.specs.declared.numbers.Why.{Why}
 use Rattle.sandbox_host.specs.declared.supplies.SessionLimits.{SessionLimits}
@@ -200,10 +200,13 @@ pub record NoPlain (m : Module) (supplies : Supplies) (origin : Origin) (number 
   pub tells : number ≡ session_number fault
 
 -- the same of one whose input may go on
-pub record NoFed (supplies : Supplies) (origin : Origin) (number : ℕ) : Type 0 where
+pub record NoFed (goes_on : Bool) (m : Module) (supplies : Supplies) (origin : Origin) (number : ℕ) : Type 0 where
   pub volume : HostVolume
   pub is_volume : IsVolume origin volume
+  pub out : Bytes
+  pub err : Bytes
   pub fault : SessionFault
+  pub refuses : fed.IsRefused goes_on IsHonest fault m (given (settings_of supplies) volume (first_input supplies) out err)
   pub no_device : fault ≢ Device
   pub tells : number ≡ session_number fault
 
@@ -216,12 +219,12 @@ NotBegunBy refused ready supplies origin number =
 abbrev pub NotBegunPlain : Ready → Supplies → Origin → ℕ → Type 0
 NotBegunPlain ready supplies origin number = NotBegunBy (NoPlain ready.valid supplies origin) ready supplies origin number
 
-abbrev pub NotBegunFed : Ready → Supplies → Origin → ℕ → Type 0
-NotBegunFed ready supplies origin number = NotBegunBy (NoFed supplies origin) ready supplies origin number
+abbrev pub NotBegunFed : FedReady → Supplies → Origin → ℕ → Type 0
+NotBegunFed p supplies origin number = NotBegunBy (NoFed p.goes_on p.ready.valid supplies origin) p.ready supplies origin number
 
 abbrev pub NotBegunInstance : HostPlugin → Supplies → Origin → ℕ → Type 0
 NotBegunInstance (plugins.Plain ready) supplies origin number = NotBegunPlain ready supplies origin number
-NotBegunInstance (plugins.Fed p) supplies origin number = NotBegunFed p.ready supplies origin number
+NotBegunInstance (plugins.Fed p) supplies origin number = NotBegunFed p supplies origin number
 
 -- ---- what is done with one
 
@@ -252,7 +255,7 @@ NoLettingGo s e = not_let_go_at (stage_at s) ≡ Some e
 -- why an answer isn't taken, and why bytes aren't written
 abbrev pub NoAnswer : Living → List ℕ → Misuse → Type 0
 NoAnswer (instances.Plain s) results e = RefusesAnswer s results e
-NoAnswer (instances.Fed s) results e = fed.RefusesAnswerOf s.instance results e
+NoAnswer (instances.Fed s) results e = fed.RefusesAnswerOf s results e
 
 abbrev pub NoWrite : Living → ℕ → List ℕ → Misuse → Type 0
 NoWrite (instances.Plain s) address bytes e = RefusesWrite s address (length bytes) e

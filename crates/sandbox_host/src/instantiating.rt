@@ -76,7 +76,7 @@ fn begin_fed<'a>(
 ) -> Result<FeedableInstance<'a>, u32>
     ensures begins { IfOk result (BeginsFed plugin.now.goes_on plugin.now.ready.valid supplies.now
         origin.entry) }
-    ensures refused { IfErr result (NotBegunFed plugin.now.ready supplies.now origin.entry) }
+    ensures refused { IfErr result (NotBegunFed plugin.now supplies.now origin.entry) }
     ensures some { IfErr result (λ number. number ≢ 0) }
 {
     if !supplies.limits.is_known() {

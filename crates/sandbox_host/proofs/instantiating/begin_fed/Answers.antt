@@ -6,8 +6,8 @@ use Rattle.sandbox_core.proofs.Limiting.{shares_limited}
 use Rattle.plugin_session.specs.Instance.{session_of}
 use Rattle.sandbox_device.specs.declared.recorded_device.RecordedDevice.{RecordedDevice}
 use Rattle.fed_input.specs.Feeding.{Fed}
-use Rattle.fed_session.specs.Feeding.{Opens}
-use Rattle.sandbox_host.specs.Host.{Bytes, known}
+use Rattle.fed_session.specs.Feeding.{IsRefused, Opens}
+use Rattle.sandbox_host.specs.Host.{Bytes, IsHonest, known}
 use Rattle.sandbox_host.specs.Instances.{first_input}
 use Rattle.sandbox_host.specs.Kinds.{FedLiving}
 use Rattle.sandbox_host.specs.Supplies.{settings_of}
@@ -49,10 +49,18 @@ returns-in-Ok-new-clause-begins c =
 
 pub returns-in-Err-new-clause-refused : goal.returns-in-Err-new-clause-refused
 returns-in-Err-new-clause-refused c =
+    let goes_on = c.args.plugin.now.goes_on in
+    let valid = c.args.plugin.now.ready.valid in
+    let fault = c.in-Err-new.field-0.fault in
+    let parts : Settings → Fed → HostParts RecordedDevice Fed Bytes Bytes = (λ s f. given s c.in-Ok.volume f c.new-out.result c.new-err.result) in
     inr (inl (inr (record {
       volume = c.in-Ok.volume;
       is_volume = c.in-Ok.ensures.opens;
+      out = c.new-out.result;
+      err = c.new-err.result;
       fault = c.in-Err-new.field-0.fault;
+      refuses = subst (λ (f : Fed). IsRefused goes_on IsHonest fault valid (parts (settings_of c.args.supplies.now) f)) c.in-Ok-first_input.ensures
+          (subst (λ (s : Settings). IsRefused goes_on IsHonest fault valid (parts s c.in-Ok-first_input.input)) c.settings-settings.ensures c.in-Err-new.ensures.refused);
       no_device = no_device c.args.origin c.in-Ok.volume c.in-Err-new.field-0.parts.volume c.in-Err-new.field-0.fault c.in-Ok.ensures.opens c.in-Err-new.ensures.hands_back.volume;
       tells = c.session_number.ensures.number;
     })))
