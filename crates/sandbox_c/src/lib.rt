@@ -20,7 +20,7 @@ ghost use Rattle.sandbox_host.specs.Texts.{text_of};
 ghost use Rattle.sandbox_host.specs.declared.volumes.Origin.TheVariants.{Fresh};
 ghost use Rattle.sandbox_host.specs.Sessions.{has_plugin};
 ghost use Rattle.sandbox_host.specs.Kinds.{goes_on_at, machine_at, ready_at};
-ghost use Rattle.sandbox_host.specs.Instances.{Answered, Answers, BeginsInstance, Does, EndsInput, FinishesInstance, HandsOver, Invokes, IsFed, IsHandedOver, IsNamed, IsRead, NoAnswer, NoCall, NoGoing, NoLettingGo, NoWrite, NotBegunInstance, NotPluggedWith, Went, left, living, memory, plugin_of};
+ghost use Rattle.sandbox_host.specs.Instances.{Answered, Answers, BeginsInstance, Does, EndsInput, FinishesInstance, Invokes, IsFed, IsHandedOver, IsNamed, IsRead, NoAnswer, NoCall, NoGoing, NoLettingGo, NoWrite, NotBegunInstance, NotPluggedWith, Went, left, living, memory, plugin_of};
 ghost use Rattle.plugin_core.specs.Handling as acts;
 ghost use Rattle.wasm_store.specs.Bytes.{written};
 
@@ -587,7 +587,7 @@ pub extern "C" fn sandbox_go(
 #[unsafe(no_mangle)]
 pub extern "C" fn sandbox_values(alloc: Global, instance: &mut Handle, room: &mut [u64]) -> usize
     ensures shown { IfSome (living instance.old.held)
-        (λ s. IsHandedOver (HandsOver s) room.old room.new result) }
+        (λ s. IsHandedOver s room.old room.new result) }
     ensures none { is_none (living instance.old.held) ≡ true → (result ≡ 0)
         × (room.new ≡ room.old) }
     ensures kept { instance.new.held ≡ instance.old.held }

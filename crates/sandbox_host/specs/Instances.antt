@@ -10,13 +10,14 @@ use Rattle.wasm_syntax.specs.declared.profile.Profile.{Profile}
 use Rattle.wasm_store.specs.declared.fault.InstanceFault.{InstanceFault}
 use Rattle.wasm_store.specs.Allocating.{NotAllocated}
 use Rattle.wasm_interp.specs.Invoking.{IsAskedFor, IsAsking, results_of}
+use Rattle.wasm_interp.specs.Machine.{Snapshot}
 use Rattle.wasm_interp.specs.Shared.{Ready}
 use Rattle.sandbox_core.specs.Session.{given}
 use Rattle.sandbox_core.specs.Session.{Shares as SharesBy}
 use Rattle.sandbox_core.specs.declared.fault.SessionFault.{SessionFault}
 use Rattle.sandbox_core.specs.declared.fault.SessionFault.TheVariants.{Device}
 use Rattle.sandbox_device.specs.declared.recorded_device.RecordedDevice.{RecordedDevice}
-use Rattle.plugin_core.specs.Handling.{Act, Asks}
+use Rattle.plugin_core.specs.Handling.{Act}
 use Rattle.plugin_session.specs.declared.handling.Misuse.{Misuse}
 use Rattle.plugin_session.specs.declared.handling.Misuse.TheVariants.{NoFunction}
 use Rattle.plugin_session.specs.Refusals.{RefusesAnswer, RefusesCall, RefusesWrite, not_gone_on_at, not_let_go_at}
@@ -314,23 +315,15 @@ EndsInput (instances.Plain s) t = t ≡ instances.Plain s
 EndsInput (instances.Fed s) (instances.Fed t) = fed.Ends s.instance t.instance × (t.goes_on ≡ s.goes_on)
 EndsInput (instances.Fed s) (instances.Plain t) = ⊥
 
--- What there is to hand over: the arguments of the call that the host is asked for; where it isn't asked, the result of what has
--- returned last. A guest that waits for input asks no host.
-abbrev pub HandsOverPlain : PlainLiving → List ℕ → Type 0
-HandsOverPlain s items = ((x : ℕ) × (f : FuncType) × IsAskedFor s.machine x f (reverse items)) ⊎ ((IsAsking s.machine → ⊥) × (items ≡ option_to_list (slice_get (results_of s.machine) 0)))
-
-abbrev pub HandsOverFed : FedLiving → List ℕ → Type 0
-HandsOverFed s items = (Asks s.instance.stage × (x : ℕ) × (f : FuncType) × IsAskedFor s.instance.machine x f (reverse items))
-    ⊎ ((Asks s.instance.stage → IsAsking s.instance.machine → ⊥) × (items ≡ option_to_list (slice_get (results_of s.instance.machine) 0)))
-
-abbrev pub HandsOver : Living → List ℕ → Type 0
-HandsOver (instances.Plain s) items = HandsOverPlain s items
-HandsOver (instances.Fed s) items = HandsOverFed s items
+-- What there is to hand over: the arguments of the call that waits for an answer, the host's or that of a read which starves; where none
+-- does, the result of what has returned last.
+abbrev pub HandsOver : Snapshot → List ℕ → Type 0
+HandsOver s items = ((x : ℕ) × (f : FuncType) × IsAskedFor s x f (reverse items)) ⊎ ((IsAsking s → ⊥) × (items ≡ option_to_list (slice_get (results_of s) 0)))
 
 -- it is in the room, as far as there is room for it
-pub record IsHandedOver (hands : List ℕ → Type 0) (before after : List ℕ) (count : ℕ) : Type 0 where
+pub record IsHandedOver (s : Living) (before after : List ℕ) (count : ℕ) : Type 0 where
   pub items : List ℕ
-  pub hands_over : hands items
+  pub hands_over : HandsOver (machine_at s) items
   pub count_is : count ≡ length items
   pub shown : IsShown items before after
 

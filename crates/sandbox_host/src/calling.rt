@@ -1,20 +1,17 @@
 //! What is called of an instance.
 
-ghost use Rattle.std.specs.Prelude.{◌≡◌, ◌≢◌, IfNone, IfSome, IsSomeAnd, MatchResult, is_none, reverse, true};
-ghost use Rattle.std.specs.Bool.{OnFalse, OnTrue};
-ghost use Rattle.wasm_syntax.specs.declared.module.FuncType.{FuncType as FuncTypeValue};
-ghost use Rattle.wasm_interp.specs.Invoking.{IsAskedFor, IsAsking};
+ghost use Rattle.std.specs.Prelude.{◌≡◌, ◌≢◌, IfSome, IsSomeAnd, MatchResult, is_none, true};
 ghost use Rattle.plugin_core.specs.Handling as acts;
 ghost use Rattle.sandbox_host.specs.Numbers.{misuse_number};
 ghost use Rattle.sandbox_host.specs.Sessions.{bytes_of};
-ghost use Rattle.sandbox_host.specs.Instances.{Answered, Answers, Does, HandsOver, HandsOverFed, HandsOverPlain, Invokes, IsHandedOver, NoAnswer, NoCall, NoGoing, NoLettingGo, Went, living};
+ghost use Rattle.sandbox_host.specs.Instances.{Answered, Answers, Does, Invokes, IsHandedOver, NoAnswer, NoCall, NoGoing, NoLettingGo, Went, living};
 
 use crate::handle::Handle;
 use crate::held::HandleContent;
-use crate::instance::{FeedableInstance, HostInstance, PlainInstance};
+use crate::instance::HostInstance;
 use crate::numbers::{MISUSE, OK, Told, misuse_number, told_fed_event};
 use crate::showing::show;
-use plugin_session::{AskedCall, Misuse, Stage};
+use plugin_session::Misuse;
 use std::alloc::Global;
 use std::str;
 
@@ -157,73 +154,25 @@ pub fn abandon(alloc: Global, instance: &mut Handle) -> u32
     answer
 }
 
-/// Copies what an instance whose input was there has to hand over.
-fn show_plain(plain: &PlainInstance<'_>, room: &mut [u64]) -> usize
-    ensures { IsHandedOver (HandsOverPlain plain.now) room.old room.new result }
-{
-    if let Some(call) = plain.asked() {
-        show(call.arguments, room);
-        return call.arguments.len();
-    }
-    let result = plain.result();
-    show(result.as_slice(), room);
-    result.as_slice().len()
-}
-
-/// Whether a function of the host is called at this stage.
-fn asks(stage: Stage) -> bool
-    ensures yes { OnTrue result (acts.Asks stage) }
-    ensures no { OnFalse result (acts.Asks stage → ⊥) }
-{
-    match stage {
-        Stage::Asked | Stage::AskedOpening => true,
-        Stage::Opening | Stage::Running | Stage::Ready | Stage::Stopped | Stage::Over => false,
-    }
-}
-
-/// The call of a function of the host, of an instance whose input may go on: where its guest waits for input there is none.
-fn asked_of<'i>(fed: &'i FeedableInstance<'_>) -> Option<AskedCall<'i>>
-    ensures asked { IfSome result (λ k. acts.Asks fed.now.instance.stage × (f : FuncTypeValue)
-        × IsAskedFor fed.now.instance.machine k.import f (reverse k.arguments.now)) }
-    ensures not { IfNone result (acts.Asks fed.now.instance.stage
-        → IsAsking fed.now.instance.machine → ⊥) }
-{
-    let instance = fed.instance();
-    if !asks(instance.stage()) {
-        return None;
-    }
-    instance.asked()
-}
-
-/// The same of one whose input may go on.
-fn show_fed(fed: &FeedableInstance<'_>, room: &mut [u64]) -> usize
-    ensures { IsHandedOver (HandsOverFed fed.now) room.old room.new result }
-{
-    if let Some(call) = asked_of(fed) {
-        show(call.arguments, room);
-        return call.arguments.len();
-    }
-    let result = fed.instance().result();
-    show(result.as_slice(), room);
-    result.as_slice().len()
-}
-
 /// Copies what an instance has to hand over: where a function of the host is called its arguments, the first one first; else the
 /// result of what has returned last, if it has one. Says how many these are.
 fn show_values(instance: &HostInstance, room: &mut [u64]) -> usize
-    ensures { IsHandedOver (HandsOver instance.now) room.old room.new result }
+    ensures { IsHandedOver instance.now room.old room.new result }
 {
-    match instance {
-        HostInstance::Plain(plain) => show_plain(plain, room),
-        HostInstance::Fed(fed) => show_fed(fed, room),
+    if let Some(call) = instance.asked() {
+        show(call.arguments, room);
+        return call.arguments.len();
     }
+    let result = instance.result();
+    show(result.as_slice(), room);
+    result.as_slice().len()
 }
 
 /// Copies the arguments of the host's function that is called, or the result of what has returned, as many as there is room for,
 /// and says how many there are.
 pub fn values(alloc: Global, instance: &mut Handle, room: &mut [u64]) -> usize
     ensures shown { IfSome (living instance.old.held)
-        (λ s. IsHandedOver (HandsOver s) room.old room.new result) }
+        (λ s. IsHandedOver s room.old room.new result) }
     ensures none { is_none (living instance.old.held) ≡ true → (result ≡ 0)
         × (room.new ≡ room.old) }
     ensures kept { instance.new.held ≡ instance.old.held }

@@ -1,11 +1,12 @@
 //! Instances behind a handle, and what a finished one leaves.
 
-ghost use Rattle.std.specs.Prelude.{◌≡◌, slice_get};
+ghost use Rattle.std.specs.Prelude.{◌≡◌, IfNone, IfSome, reverse, slice_get};
+ghost use Rattle.wasm_syntax.specs.declared.module.FuncType.{FuncType as FuncTypeValue};
 ghost use Rattle.sandbox_host.specs.Kinds.{device_at, err_at, machine_at, out_at, used_at, volume_at};
 
 use crate::kept::KeptOutput;
 use fed_session::FedInstance;
-use plugin_session::Instance;
+use plugin_session::{AskedCall, Instance};
 use sandbox_core::{Finished, Frame, Valid, Volume};
 use sandbox_device::RecordedDevice;
 use sandbox_inspect::ModuleBytes;
@@ -32,6 +33,7 @@ pub enum HostInstance {
 
 impl HostInstance {
     ghost use Rattle.wasm_interp.specs.Frames.{frames_of};
+    ghost use Rattle.wasm_interp.specs.Invoking.{IsAskedFor, IsAsking, results_of};
     ghost use Rattle.sandbox_host.specs.Host.{Commits};
 
     /// The module that it runs.
@@ -61,6 +63,28 @@ impl HostInstance {
         match self {
             HostInstance::Plain(plain) => plain.memory(),
             HostInstance::Fed(fed) => fed.instance().memory(),
+        }
+    }
+
+    /// The call that waits for an answer, with its arguments.
+    pub(crate) fn asked(&self) -> Option<AskedCall<'_>>
+        ensures asked { IfSome result (λ k. (f : FuncTypeValue)
+            × IsAskedFor (machine_at self.now) k.import f (reverse k.arguments.now)) }
+        ensures not { IfNone result (IsAsking (machine_at self.now) → ⊥) }
+    {
+        match self {
+            HostInstance::Plain(plain) => plain.asked(),
+            HostInstance::Fed(fed) => fed.instance().asked(),
+        }
+    }
+
+    /// The result of the function that has returned last, if it has one.
+    pub(crate) fn result(&self) -> Option<u64>
+        ensures { result ≡ slice_get (results_of (machine_at self.now)) 0 }
+    {
+        match self {
+            HostInstance::Plain(plain) => plain.result(),
+            HostInstance::Fed(fed) => fed.instance().result(),
         }
     }
 
