@@ -4,7 +4,7 @@ use Rattle.std.specs.Prelude.{option_and_then}
 use Rattle.std.specs.List.{list_all}
 use Rattle.std.specs.Char.{digit_value}
 use Rattle.std.specs.Str.Parse.{AllDigits, IsNumeral, ParsesUnsigned, digits_value, without_leading_plus}
-use Rattle.clap.specs.Words.{AddsArg, AddsSubcommand, App, ReadsOne, Rule, app_of, is_simple, rule_of, with_rule, with_subcommand}
+use Rattle.clap.specs.Words.{AddsArg, AddsSubcommand, App, ReadsOne, Rule, app_of, rule_of, with_rule, with_subcommand}
 use Rattle.clap.specs.Faults.{is_simple_and_free}
 use Rattle.clap.specs.declared.builder.arg.Arg.{Arg}
 use Rattle.clap.specs.declared.builder.command.Command.{Command}
@@ -107,14 +107,6 @@ program_made first made faults new top leaf apps (is, local) table last added =
     (one.0 ∙ ap (λ (a : App). with_subcommand a leaf.top) (table.shape ∙ ap (λ (a : App). with_apps a apps) is), one.1 ∙ (table.globals ∙ local))
 
 -- the program's command is one of which clap's model says all
-pub program_is_simple : is_simple program ≡ true
-unfolding program table_apps run_rules clap_on_literals
-program_is_simple = refl
-
 pub program_is_free : is_simple_and_free program ≡ true
 unfolding program table_apps run_rules clap_on_literals
 program_is_free = refl
-
-pub subcommand_is_required : program.top.subcommand_required ≡ true
-unfolding program table_apps
-subcommand_is_required = refl

@@ -1,8 +1,10 @@
 //! The program's commands, with their arguments, in the order of the help.
 
-ghost use Rattle.std.specs.Prelude.{◌≡◌, map};
+ghost use Rattle.std.specs.Prelude.{◌≡◌, IfSome, Some, find, map};
+ghost use Rattle.std.specs.Option.{option_copied};
+ghost use Rattle.std.specs.Str.{bytes_eq};
 ghost use Rattle.sandbox_args.specs.CommandLine.{table_apps};
-ghost use Rattle.sandbox_args.specs.internal.Table.{app_for, rule_for, rules_for};
+ghost use Rattle.sandbox_args.specs.internal.Table.{app_for, app_named, rule_for, rules_for};
 
 /// What an argument takes.
 #[derive(Clone, Copy)]
@@ -353,6 +355,21 @@ pub(crate) fn commands() -> &'static [Subcommand]
     ensures { map app_for result.now ≡ table_apps }
 {
     &COMMANDS
+}
+
+/// The first of these rows that has this name.
+fn row_in(rows: &'static [Subcommand], name: &str) -> Option<&'static Subcommand>
+    ensures { option_copied result ≡ find (λ row. bytes_eq row.name.now name.now) rows.now }
+{
+    rows.iter().find(|row| row.name == name)
+}
+
+/// The row of the command of this name; none where it is none of these.
+pub(crate) fn row_of(name: &str) -> Option<&'static Subcommand>
+    ensures { IfSome result (λ row. (row.now.name.now ≡ name.now)
+        × (app_named name.now table_apps ≡ Some (app_for row.now))) }
+{
+    row_in(commands(), name)
 }
 
 /// All commands but `faults`.

@@ -11,15 +11,16 @@ ghost use Rattle.sandbox_args.specs.CommandLine.{AsksChange, AsksFor, AsksRun, A
 ghost use Rattle.sandbox_args.specs.CommandLine.{change_names, other_names, task_names};
 ghost use Rattle.sandbox_args.specs.CommandLine.{IsFlagged, text_in, texts_of, word_of};
 ghost use Rattle.sandbox_args.specs.CommandLine.{faults_app, program};
-ghost use Rattle.sandbox_args.specs.internal.Table.{AddsArguments, AddsSubcommands, action_for, app_for, rule_for};
+ghost use Rattle.sandbox_args.specs.internal.Table.{AddsArguments, AddsSubcommands, AnswersAsAll, action_for, app_for, program_with, rule_for};
 ghost use Rattle.sandbox_args.specs.internal.Given.{AsksRunOf};
 
 use crate::faults::MEANINGS;
 use crate::request::{Change, GuestLimits, Invocation, ListForm, NO_TERMINALS, Run, Task};
-use crate::table::{Argument, ArgumentKind, Subcommand, commands, rows};
+use crate::table::{Argument, ArgumentKind, Subcommand, commands, row_of, rows};
 use clap::{Arg, ArgAction, ArgMatches, Command, Error};
 use meanings::VERSION;
 use std::alloc::{AllocError, Global};
+use std::slice;
 
 /// What help ends with.
 const STATUSES: &str = "\
@@ -158,16 +159,31 @@ fn faults_command<'a>(alloc: Global) -> Command<'a>
         .arg_required_else_help(true)
 }
 
-/// The program, of whose commands one has to be there.
-fn command<'a>(alloc: Global) -> Result<Command<'a>, AllocError>
-    ensures { IfOk result (λ c. (app_of c ≡ program) × ((fields_of c).has_globals ≡ false)) }
+/// The commands that clap is told of for these words: the one that the first word behind the program's name calls, alone, since no
+/// other has a part in what it is asked for; else all. (Making an argument takes some 2,000 instructions, and the commands have 63.)
+fn commands_for(words: &[String]) -> &'static [Subcommand]
+    ensures { AnswersAsAll (map app_for result.now) (map string_bytes words.now) }
+{
+    let Some(word) = words.get(1) else {
+        return commands();
+    };
+    match row_of(word.as_str()) {
+        Some(row) => slice::from_ref(row),
+        None => commands(),
+    }
+}
+
+/// The program with the commands of these rows and `faults`, of which one has to be there.
+fn command<'a>(alloc: Global, rows: &'static [Subcommand]) -> Result<Command<'a>, AllocError>
+    ensures { IfOk result (λ c. (app_of c ≡ program_with (map app_for rows.now))
+        × ((fields_of c).has_globals ≡ false)) }
 {
     let program = Command::new(alloc, "sandbox")
         .about("Runs command-line WebAssembly programs with exact fuel, and keeps volumes of files")
         .after_help(STATUSES)
         .version(VERSION)
         .subcommand_required(true);
-    with_subcommands(alloc, program, commands())?.subcommand(faults_command(alloc))
+    with_subcommands(alloc, program, rows)?.subcommand(faults_command(alloc))
 }
 
 /// The text of an argument, or the empty one.
@@ -397,7 +413,7 @@ pub fn invocation<'a>(alloc: Global, words: &'a [String]) -> Result<Invocation<'
         (λ entered. AsksFor entered.0 entered.1 i)) }
     ensures fails { FailsBy (fault_of program (map string_bytes words.entry.now)) result }
 {
-    let matches = command(alloc)?.try_get_matches_from(words)?;
+    let matches = command(alloc, commands_for(words))?.try_get_matches_from(words)?;
     let answer = entered(alloc, &matches);
     drop(matches);
     Ok(answer?)

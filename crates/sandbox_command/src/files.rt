@@ -13,6 +13,7 @@ ghost use Rattle.sandbox_runs.specs.Status.{file_status};
 use crate::inspecting::inspect;
 use crate::list_of_tests::run_list;
 use crate::opening::MODULE_READ;
+use crate::refused_line::refuse_line;
 use crate::runs::{end_refused, run_alone};
 use sandbox_args::{GivenTerminals, Invocation, invocation};
 use sandbox_places::clashing::clashes;
@@ -68,7 +69,7 @@ pub fn exit_code<R: Inlet + Drop, W1: Outlet + Drop, W2: Outlet + Drop>(
             invocation.note_terminals(terminals(rt));
             ExitCode::from(perform(rt, &invocation, input, out, err))
         }
-        Err(refused) => ExitCode::from(program::refuse_command_line(&mut err, &refused)),
+        Err(refused) => ExitCode::from(refuse_line(rt.alloc(), &mut err, words.as_slice(), &refused)),
     }
 }
 

@@ -9,6 +9,7 @@ mod inspecting;
 pub mod laws;
 mod list_of_tests;
 mod opening;
+mod refused_line;
 mod runs;
 
 pub use files::{exit_code, perform, perform_in};

@@ -1,10 +1,11 @@
 -- Which file of the system stands under a name. No contract says what the system does, so `was_opened` and its like show it of any file;
--- but only the proofs of what asks the system cite them (`open_apart`, `behind_links`, `write_contents`), and all others see relations of
+-- but only the proofs of what asks the system cite them (`open_named`, `behind_links`, `write_contents`, `Identity::of`), and all others see relations of
 -- which they know nothing: who says that a file is that of a name has opened it under that name.
-use Rattle.std.specs.Prelude.{◌≡◌, ◌⊎◌, ◌≤ℤ◌, ℕ, List, Option, Some, None, IfSome, pos, string_bytes}
+use Rattle.std.specs.Prelude.{◌≡◌, ◌⊎◌, ◌≤ℤ◌, ℕ, List, [], ◌∷◌, Option, Some, None, IfSome, codes, pos, string_bytes}
 use Rattle.std.specs.Coded.{×_prop, Unit-prop}
 use Rattle.std.specs.Fd.{file_raw_fd}
 use Rattle.std.specs.declared.fs.File.{File}
+use Rattle.sandbox_device.specs.declared.identity.Identity.{Identity}
 use Rattle.sandbox_device.specs.FileEvidence.{WasRefused}
 use Rattle.sandbox_device.specs.declared.replacing.Replacement.{Replacement}
 use Rattle.sandbox_device.specs.Replaced.{WasNotReplaced, WasReplaced}
@@ -36,6 +37,27 @@ HasLost path file = Unit {0}
 pub has_lost : (path : List ℕ) (file : File) → HasLost path file
 unfolding HasLost
 has_lost path file = tt
+
+-- it was found to be this regular file, or none
+pub HasIdentity : File → Option Identity → Type 0
+HasIdentity file it = Unit {0}
+
+pub has_identity : (file : File) (it : Option Identity) → HasIdentity file it
+unfolding HasIdentity
+has_identity file it = tt
+
+-- when the system was asked, this name led to this regular file, or to none
+pub NamesIdentity : List ℕ → Option Identity → Type 0
+NamesIdentity path it = Unit {0}
+
+pub names_identity : (path : List ℕ) (it : Option Identity) → NamesIdentity path it
+unfolding NamesIdentity
+names_identity path it = tt
+
+-- the regular files that are open as the standard streams: the input, the output and the errors
+abbrev pub AreOfStreams : List (Option Identity) → Type 0
+AreOfStreams found = (input : _) × (output : _) × (errors : _) × (found ≡ input ∷ output ∷ errors ∷ [])
+    × NamesIdentity (codes "/proc/self/fd/0") input × NamesIdentity (codes "/proc/self/fd/1") output × NamesIdentity (codes "/proc/self/fd/2") errors
 
 -- No file of this name stands apart: none was opened, or it has the number of a standard stream.
 abbrev pub IsNotOpened : List ℕ → Type 0
@@ -101,6 +123,11 @@ IsThere path None file = WasOpened path file
 -- The file of this name got these bytes: it was replaced by them, or they were written over it.
 abbrev pub IsGiven : (R : Type 0) → (path : List ℕ) → Option File → (bytes : List ℕ) → Type 0
 IsGiven R path old bytes = WasReplaced R path bytes ⊎ ((file : File) × IsThere path old file × WasOverwritten file bytes)
+
+-- What is there was found to be this regular file, or none.
+abbrev pub HasIdentityThere : Option File → Option Identity → Type 0
+HasIdentityThere (Some file) it = HasIdentity file it
+HasIdentityThere None it = it ≡ None
 
 -- The system doesn't tell of the file that is there.
 abbrev pub IsUntold : Option File → Type 0

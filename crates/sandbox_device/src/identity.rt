@@ -1,8 +1,8 @@
 //! Which file of the system is open, whatever it is called.
 
-ghost use Rattle.std.specs.Prelude.{◌⊎◌, OnErr};
+ghost use Rattle.std.specs.Prelude.{◌⊎◌, MatchResult, OnErr, codes};
 ghost use Rattle.sandbox_device.specs.FileEvidence.{WasRefused};
-ghost use Rattle.sandbox_device.specs.Named.{HasLost};
+ghost use Rattle.sandbox_device.specs.Named.{AreOfStreams, HasIdentity, HasLost, NamesIdentity};
 
 use std::fs::{File, Metadata};
 use std::io;
@@ -29,7 +29,9 @@ fn regular(found: &Metadata) -> Option<Identity> {
 }
 
 /// The regular file that a path leads to.
-fn at<R: Files>(files: &R, path: &str) -> Option<Identity> {
+fn at<R: Files>(files: &R, path: &str) -> Option<Identity>
+    ensures { NamesIdentity path.now result }
+{
     match files.metadata(path) {
         Ok(found) => regular(&found),
         Err(_) => None,
@@ -39,19 +41,30 @@ fn at<R: Files>(files: &R, path: &str) -> Option<Identity> {
 impl Identity {
     /// Which regular file this is; none where it is none. It fails where the system doesn't tell.
     pub fn of(file: &File) -> io::Result<Option<Identity>>
-        ensures { OnErr result (WasRefused file.now file.now) }
+        ensures { MatchResult result (HasIdentity file.now) (λ _. WasRefused file.now file.now) }
     {
         Ok(regular(&file.metadata()?))
     }
 
     /// The regular file of this name, behind all links; none where it is none, or none is there.
-    pub fn of_path<R: Files>(files: &R, path: &str) -> Option<Identity> {
+    pub fn of_path<R: Files>(files: &R, path: &str) -> Option<Identity>
+        ensures { NamesIdentity path.now result }
+    {
         at(files, path)
+    }
+
+    /// The regular file that is open as standard error; none where it is none, or `/proc` isn't there.
+    pub fn of_errors<R: Files>(files: &R) -> Option<Identity>
+        ensures { NamesIdentity (codes "/proc/self/fd/2") result }
+    {
+        at(files, "/proc/self/fd/2")
     }
 
     /// The regular files that are open as the standard streams. It asks `/proc`, which alone tells it without opening one: where
     /// there is none, none is known.
-    pub fn of_streams<R: Files>(files: &R) -> [Option<Identity>; 3] {
+    pub fn of_streams<R: Files>(files: &R) -> [Option<Identity>; 3]
+        ensures { AreOfStreams result }
+    {
         [
             at(files, "/proc/self/fd/0"),
             at(files, "/proc/self/fd/1"),

@@ -5,7 +5,7 @@ ghost use Rattle.std.specs.Fs.{asks_truncate};
 ghost use Rattle.std.specs.Io.{WritesAtMost};
 ghost use Rattle.std.specs.Io.KnownBytes.{Keeps, WriteAppends};
 ghost use Rattle.sandbox_device.specs.FileEvidence.{WasRefused};
-ghost use Rattle.sandbox_device.specs.Named.{IsHindered, IsNotOpened, WasNotOpened, WasOpened};
+ghost use Rattle.sandbox_device.specs.Named.{HasIdentity, IsHindered, IsNotOpened, WasNotOpened, WasOpened};
 ghost use Rattle.sandbox_device.specs.Opening.{StandsApart};
 ghost use Rattle.sandbox_device.specs.Written.{CutsOnce, Flushes, Puts, Refuses, RefusesCut, WasCut, WasFlushed, WasPut};
 
@@ -193,7 +193,8 @@ impl FileOutput {
 
     /// Which file it is, if it is a regular one.
     pub fn identity(&self) -> io::Result<Option<Identity>>
-        ensures { OnErr result (WasRefused self.now.on.file self.now.on.file) }
+        ensures { MatchResult result (HasIdentity self.now.on.file)
+            (λ _. WasRefused self.now.on.file self.now.on.file) }
     {
         self.on.file.which()
     }

@@ -7,7 +7,7 @@ ghost use Rattle.sandbox_device.specs.declared.replacing.ReplacingWay.TheVariant
 ghost use Rattle.sandbox_device.specs.Opening.{StandsApart};
 ghost use Rattle.sandbox_device.specs.Contents.{bytes_of};
 ghost use Rattle.sandbox_device.specs.FileEvidence.{WasRefused};
-ghost use Rattle.sandbox_device.specs.Named.{HasNoPlaceBeside, IsForName, IsGiven, IsHindered, IsNotGiven, IsNotOpened, IsNotToBeReplaced, IsThere, IsUntold, LeadsTo, WasNotFollowed, WasNotOverwritten, WasOpened, WasOverwritten};
+ghost use Rattle.sandbox_device.specs.Named.{HasIdentityThere, HasNoPlaceBeside, IsForName, IsGiven, IsHindered, IsNotGiven, IsNotOpened, IsNotToBeReplaced, IsThere, IsUntold, LeadsTo, NamesIdentity, WasNotFollowed, WasNotOverwritten, WasOpened, WasOverwritten};
 ghost use Rattle.sandbox_device.specs.Replaced.{WasNotReplaced, WasReplaced};
 
 use crate::beside::{Beside, replace};
@@ -433,7 +433,7 @@ impl Replacement {
 
     /// Which file is there, if it is a regular one.
     pub fn identity(&self) -> io::Result<Option<Identity>>
-        ensures { OnErr result (IsUntold self.now.old) }
+        ensures { MatchResult result (HasIdentityThere self.now.old) (λ _. IsUntold self.now.old) }
     {
         match &self.old {
             Some(file) => Identity::of(file),
@@ -442,7 +442,9 @@ impl Replacement {
     }
 
     /// Which file is there by now.
-    pub fn identity_now<R: Files>(&self, rt: &R) -> Option<Identity> {
+    pub fn identity_now<R: Files>(&self, rt: &R) -> Option<Identity>
+        ensures { NamesIdentity (string_bytes self.now.path) result }
+    {
         Identity::of_path(rt, self.path.as_str())
     }
 

@@ -1,8 +1,9 @@
 //! A file that is written from its beginning, by the calls that an output makes of it.
 
-ghost use Rattle.std.specs.Prelude.{ℕ, List, MatchResult, OnErr, take};
+ghost use Rattle.std.specs.Prelude.{ℕ, List, MatchResult, OnErr, Option, take};
 ghost use Rattle.std.specs.Io.{WritesAtMost};
 ghost use Rattle.sandbox_device.specs.FileEvidence.{WasRefused};
+ghost use Rattle.sandbox_device.specs.declared.identity.Identity.{Identity as IdentityValue};
 
 use crate::identity::{Identity, is_regular};
 use std::fs::{File, TryLockError};
@@ -17,6 +18,9 @@ use std::io::{ErrorKind, Write};
 pub trait WrittenFile {
     /// The file was locked, if it has a lock.
     ghost locked: { Self → Type 0 };
+
+    /// It was found to be this regular file, or none.
+    ghost identified: { Self → Option IdentityValue → Type 0 };
 
     /// Between these states it was cut to nothing, if it has a length.
     ghost cut: { Self → Self → Type 0 };
@@ -36,7 +40,7 @@ pub trait WrittenFile {
 
     /// Which file it is, if it is a regular one.
     fn which(&self) -> io::Result<Option<Identity>>
-        ensures { OnErr result (refused self.now self.now) };
+        ensures { MatchResult result (λ it. identified self.now it) (λ _. refused self.now self.now) };
 
     /// Cuts it to nothing. What has no length, as a pipe or a terminal, stays as it is.
     fn cut_to_nothing(&mut self) -> io::Result<()>
@@ -55,9 +59,12 @@ pub trait WrittenFile {
 
 impl WrittenFile for File {
     ghost use Rattle.sandbox_device.specs.FileEvidence.{WasRefused};
+    ghost use Rattle.sandbox_device.specs.Named.{HasIdentity};
     ghost use Rattle.sandbox_device.specs.Written.{WasCut, WasFlushed, WasLockedToWrite, WasPut};
 
     ghost locked = { WasLockedToWrite };
+
+    ghost identified = { HasIdentity };
 
     ghost cut = { WasCut };
 

@@ -1,7 +1,7 @@
 -- Instances whose exported functions a host in C calls: what a handle has of a module for them, of one that isn't finished, and of one
 -- that is; and what each call makes of it. What the calls of an instance do is said by `plugin_session`, and by `fed_session` of one
 -- whose input may go on.
-use Rattle.std.specs.Prelude.{◌≡◌, ◌≢◌, ◌⊎◌, ◌-◌, ◌^◌, ◌<◌, ◌≤◌, ◌+◌, ℕ, false, true, List, [], length, reverse, take, drop, min, max, slice_get, Option, Some, None, Result, IfSome, IsUtf8, option_map, ◌==◌, if◌then◌else◌}
+use Rattle.std.specs.Prelude.{◌≡◌, ◌≢◌, ◌⊎◌, ◌-◌, ◌^◌, ◌<◌, ◌≤◌, ◌+◌, ℕ, Bool, false, true, List, [], length, reverse, take, drop, min, max, slice_get, Option, Some, None, Result, IfSome, IsUtf8, option_map, ◌==◌, if◌then◌else◌}
 use Rattle.std.specs.Option.{option_to_list}
 use Rattle.vol_sector.specs.declared.fault.Refused.{Refused}
 use Rattle.wasm_syntax.specs.declared.module.FuncType.{FuncType}

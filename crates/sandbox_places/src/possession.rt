@@ -39,8 +39,8 @@ pub fn is_silent(error: &io::Error) -> bool {
 
 /// Refuses a file that the command's own lines would go into, whatever else is wrong with it.
 pub fn refuse_errors(rt: &HostRuntime, path: &str) -> io::Result<()> {
-    let it = Identity::of_path(rt, path);
-    if it.is_some() && it == Identity::of_streams(rt)[2] {
+    let errors = Identity::of_errors(rt);
+    if errors.is_some() && errors == Identity::of_path(rt, path) {
         return Err(io::Error::from(ErrorKind::Deadlock));
     }
     Ok(())

@@ -1,6 +1,6 @@
 //! Streams that are read whole.
 
-ghost use Rattle.std.specs.Prelude.{◌≡◌, ◌≤◌, ◌++◌, ◌⊎◌, ℕ, List, IfErr, IfOk, OnErr, length, take};
+ghost use Rattle.std.specs.Prelude.{◌≡◌, ◌<◌, ◌≤◌, ◌++◌, ◌⊎◌, ℕ, List, IfErr, IfOk, OnErr, length, take};
 ghost use Rattle.std.specs.IoError.{error_kind};
 ghost use Rattle.std.specs.declared.io.ErrorKind.TheVariants.{OutOfMemory};
 ghost use Rattle.sandbox_places.specs.Reading.{IsStopped, IsUnread};
@@ -11,8 +11,19 @@ use std::io;
 use std::io::ErrorKind;
 use stream_answers::Inlet;
 
-/// Bytes that are read at once, in memory of the heap.
+/// The most bytes that are read at once, in memory of the heap.
 const PIECE: usize = 16_384;
+
+/// How many bytes of a stream are read at once of which so many are expected: these and one more, so that a short file's piece is
+/// short. A stream of which nothing is known, as a pipe, has none expected.
+fn piece_len(expected: usize) -> usize
+    ensures { (0 < result) × (result ≤ 16384) }
+{
+    match expected {
+        0 => PIECE,
+        _ => expected.min(PIECE - 1) + 1,
+    }
+}
 
 /// Reads once, and again where that is interrupted: how many bytes of the piece came, none only at the end.
 fn read_piece<R: Inlet>(input: &mut R, piece: &mut [u8]) -> io::Result<usize>
@@ -61,10 +72,11 @@ pub fn read_whole<R: Inlet>(
     ensures refused { IfErr result (IsUnread R.gave R.refused input.old input.new) }
 {
     let mut bytes = Vec::with_capacity(alloc, expected)?;
-    let mut piece = vec![in alloc; 0; PIECE]?;
+    let at_once = piece_len(expected);
+    let mut piece = vec![in alloc; 0; at_once]?;
     let mut left = most;
     while left > 0 {
-        let room = left.min(PIECE as u64) as usize;
+        let room = left.min(at_once as u64) as usize;
         let count = read_more(input, &mut piece[..room], &mut bytes)?;
         if count == 0 {
             return Ok(bytes);

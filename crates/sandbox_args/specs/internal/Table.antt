@@ -1,9 +1,12 @@
 -- What the kit's model of clap says of the rows of the tables in `crates/sandbox_args/src/table.rt`. `rule_for` and
 -- `app_for` map a row to the model, and `AddsArguments` and `AddsSubcommands` say what rows add to a command.
-use Rattle.std.specs.Prelude.{◌≡◌, List, [], ◌∷◌, codes}
+use Rattle.std.specs.Prelude.{◌≡◌, List, [], ◌∷◌, Option, codes, find, true}
 use Rattle.clap.specs.declared.builder.action.ArgAction.{ArgAction}
 use Rattle.clap.specs.declared.builder.action.ArgAction.TheVariants.{Set, Append, SetTrue}
-use Rattle.clap.specs.Words.{App, Rule, app_of}
+use Rattle.clap.specs.Faults.{fault_of, is_simple_and_free}
+use Rattle.clap.specs.Simple.{label_of, on_top}
+use Rattle.clap.specs.Walk.{answers_to}
+use Rattle.clap.specs.Words.{App, Rule, app_of, new_app, subcommand_of, with_subcommand}
 use Rattle.clap.specs.declared.builder.command.Command.{Command}
 use Rattle.clap.specs.declared.builder.command.Command.TheViews.{out-Command as fields_of}
 use Rattle.sandbox_args.specs.declared.table.ArgumentKind.TheVariants as takes
@@ -13,7 +16,7 @@ use Rattle.sandbox_args.specs.declared.table.Arguments.TheVariants as rows
 use Rattle.sandbox_args.specs.declared.table.Arguments.{Arguments}
 use Rattle.sandbox_args.specs.declared.table.Subcommand.{Subcommand}
 use Rattle.sandbox_args.specs.Request.{Text}
-use Rattle.sandbox_args.specs.CommandLine.{app_with, flag_rule, number_rule, number_word_rule, run_rules, short_flag_rule, text_rule, texts_rule, u32_numbers, u64_numbers, with_apps, with_rules, word_rule, words_rule}
+use Rattle.sandbox_args.specs.CommandLine.{app_with, faults_app, flag_rule, number_rule, number_word_rule, program, run_rules, short_flag_rule, text_rule, texts_rule, u32_numbers, u64_numbers, with_apps, with_rules, word_rule, words_rule}
 
 -- the argument of this name that takes this
 abbrev pub rule_that : Text → ArgumentKind → Rule
@@ -67,3 +70,17 @@ pub record AddsArguments (old : Command) (rules : List Rule) (new : Command) : T
 pub record AddsSubcommands (old : Command) (apps : List App) (new : Command) : Type 0 where
   pub shape : app_of new ≡ with_apps (app_of old) apps
   pub globals : (fields_of new).has_globals ≡ (fields_of old).has_globals
+
+-- the first of these commands that a word names
+abbrev pub app_named : Text → List App → Option App
+app_named name apps = find (λ a. answers_to name (label_of a.top)) apps
+
+-- the program with these commands, and `faults`
+abbrev pub program_with : List App → App
+program_with apps = with_subcommand (with_apps (on_top (λ s. record s { subcommand_required = true; has_version = true }) (new_app (codes "sandbox"))) apps) faults_app.top
+
+-- with these commands alone the program answers these words as with all
+pub record AnswersAsAll (apps : List App) (words : List Text) : Type 0 where
+  pub free : is_simple_and_free (program_with apps) ≡ true
+  pub subcommand : subcommand_of (program_with apps) words ≡ subcommand_of program words
+  pub fault : fault_of (program_with apps) words ≡ fault_of program words

@@ -1,6 +1,5 @@
 use Rattle.std.proofs.Common.{ℕ, List, Option, Some, None, IsSomeAnd, inl, inr, map, string_bytes, sym, subst, Global}
 use Rattle.std.specs.IoError.{error_kind}
-use Rattle.clap.specs.Values.{kind_of}
 use Rattle.clap.specs.Words.{Row, subcommand_of}
 use Rattle.sandbox_args.specs.declared.request.Invocation.{Invocation}
 use Rattle.sandbox_args.specs.CommandLine.{AsksFor, program}
@@ -39,4 +38,4 @@ returns-in-Ok-invocation-clause-tells g c =
 pub returns-in-Err-invocation-clause-tells : goal.returns-in-Err-invocation-clause-tells
 returns-in-Err-invocation-clause-tells g c =
     subst (λ (status : ℕ). IsAnswered g.R.Read g.W1.Write g.W2.Write (flushing FileFlushed FileRefused g.W1.Outlet.flushed g.W1.Outlet.refuses g.W2.Outlet.flushed g.W2.Outlet.refuses) (calling WasGiven HasRefused FileTook FileRefused g.R.Inlet.gave g.R.Inlet.refused g.W1.Outlet.took g.W1.Outlet.refused g.W2.Outlet.took g.W2.Outlet.refused) (record { input = c.args.input; out = c.args.out; err = c.args.err }) status) (sym c.from-in-Err-invocation.ensures)
-    (inr (inl (kind_of c.in-Err-invocation.refused, c.refuse_command_line.ensures)))
+    (inr (inl c.refuse_line.ensures.status))
