@@ -42,7 +42,7 @@ link_in l (Some k) = k
 
 -- one that is the embedder's by both
 embedders : (may may' : Bool) (n : ℕ) (l : Linked) → (may ≡ true → may' ≡ true) → (if may then Some (Embedder n) else None) ≡ Some l → (if may' then Some (Embedder n) else None) ≡ Some (whole_link None l)
-unfolding is_some
+unfolding is_some link_in
 embedders false may' n l safe e = absurd (true≢false (sym (ap is_some e)))
 embedders true may' n l safe e =
     subst (λ (z : Bool). (if z then Some (Embedder n) else None) ≡ Some (whole_link None l)) (sym (safe refl)) (subst (λ (z : Linked). Some (Embedder n) ≡ Some (whole_link None z)) (ap (link_in l) e) refl)
@@ -275,6 +275,10 @@ answered_next m k here before = record {
     | inr less ↦ before.each j less
   ];
 }
+
+-- past the last one
+pub ended : (imports : List Import) (k n : ℕ) → n ≡ length imports → n ≤ k → length imports ≤ k
+ended imports k n all past = omega (arith, all, past)
 
 pub all_answered : (m : Module) (k : ℕ) → length m.imports ≤ k → AnsweredBefore m k → AreAnswered m
 all_answered m k all before n u = before.each n (omega (arith, all, slice_get_within m.imports n u.is_type.import u.is_type.is_import)) u

@@ -1,4 +1,7 @@
-use Rattle.std.proofs.Common.{refl}
+use Rattle.std.proofs.Common.{◌≡◌, Some, refl}
+use Rattle.plugin_core.specs.Handling.{IsOpen}
+use Rattle.plugin_session.specs.Refusals.{not_let_go_at}
+use Rattle.plugin_session.specs.declared.handling.Misuse.{Misuse}
 use Rattle.fed_session.specs.Feeding.{around}
 use Rattle.fed_session.proofs.Acting.{does_let_go}
 use Rattle.fed_session.proofs.Branches.{if_ok}
@@ -12,4 +15,5 @@ returns-clause-abandoned g c =
 
 pub returns-clause-refused : goal.returns-clause-refused
 returns-clause-refused g c =
-    rw (← c.self.view_is) (nothing_done c.self.inside.goes_on c.self.inside.instance c.abandon.new.self _ _ c.abandon.result (λ e k. k.1) c.abandon.ensures.refused)
+    rw (← c.self.view_is) (nothing_done c.self.inside.goes_on c.self.inside.instance c.abandon.new.self (λ (e : Misuse). (IsOpen c.self.inside.instance.stage → ⊥) × (not_let_go_at c.self.inside.instance.stage ≡ Some e))
+    (λ (e : Misuse). not_let_go_at c.self.inside.instance.stage ≡ Some e) c.abandon.result (λ e k. k.1) c.abandon.ensures.refused)

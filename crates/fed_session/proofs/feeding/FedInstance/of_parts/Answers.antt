@@ -6,6 +6,7 @@ use Rattle.sandbox_core.proofs.Refusing.{hands_back}
 use Rattle.plugin_session.specs.States.{links}
 use Rattle.fed_session.specs.Waiting.{FedReady, parts_at}
 use Rattle.fed_session.specs.Feeding.{IsRefused, RepresentsWhole}
+use Rattle.fed_session.proofs.Opening.{same_opened}
 use Rattle.fed_session.proofs.Refusing.{by_instance, by_preopen}
 use Rattle.fed_session.proofs.feeding.FedInstance.of_parts.Goals as goal
 
@@ -14,7 +15,7 @@ returns-in-Ok-preopen-clause-opens g c =
     let p = c.args.plugin.now in
     let made = c.in-Ok.ensures.made in
     let kept = c.preopen.ensures.streams in (
-      record {
+      same_opened p.goes_on p.ready.valid c.args.parts _ _ c.of.ensures (record {
         fits = made.fits;
         opens = subst (λ (pages : ℕ). OpensBy (RepresentsWhole p.goes_on) links pages p.ready.valid c.in-Ok-open.machine) (sym c.requires) c.in-Ok-open.ensures.opens;
         input = kept.input ∙ made.input;
@@ -24,7 +25,7 @@ returns-in-Ok-preopen-clause-opens g c =
         supply = kept.generator ∙ made.generator;
         interactive = kept.interactive ∙ made.interactive;
         stage = refl;
-      },
+      }),
       ap (λ (r : FedReady). r.goes_on) c.plugin.view_is,
     )
 
