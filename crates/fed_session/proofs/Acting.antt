@@ -265,14 +265,22 @@ module _ {D W1 W2 : Type 0} (a : Around D W1 W2) (goes_on : Bool) where
     starves = λ count is. cc;
   }
 
-  pub goes_to_ask : (old asking new : T) (units x : ℕ) → GoesTo (fed_devices a) old asking units (Asked x) → new ≡ record asking { stage = asked_at asking.stage } → Goes a (fed_state old) (fed_state new) units (events.Event (Asked x))
-  goes_to_ask old asking new units x k is =
+  went_to_ask : (old asking new : T) (units x : ℕ) → GoesTo (fed_devices a) old asking units (Asked x) → new ≡ record asking { stage = asked_at asking.stage } → Goes a (fed_state old) (fed_state new) units (events.Event (Asked x))
+  went_to_ask old asking new units x k is =
       subst (λ (z : T). Goes a (fed_state old) (fed_state z) units (events.Event (Asked x))) (sym is) (record {
         does = (does_ask a goes_on old asking units x k, refl);
         within = (k.asked x refl).units_rise;
         progress = inr tt;
         starves = λ count is. cc;
       })
+
+  pub goes_to_ask : (old asking new : T) (units x : ℕ) (e : Event) → e ≡ Asked x → GoesTo (fed_devices a) old asking units e → new ≡ record asking { stage = asked_at asking.stage } → Goes a (fed_state old) (fed_state new) units (events.Event e)
+  goes_to_ask old asking new units x e same k is =
+      subst (λ (z : Event). GoesTo (fed_devices a) old asking units z → Goes a (fed_state old) (fed_state new) units (events.Event z)) (sym same) (λ j. went_to_ask old asking new units x j is) k
+
+  -- it asks for this
+  pub asked_here : (old new : T) (units x : ℕ) (e : Event) → e ≡ Asked x → GoesTo (fed_devices a) old new units e → GoesTo (fed_devices a) old new units (Asked x)
+  asked_here old new units x e same k = subst (λ (z : Event). GoesTo (fed_devices a) old new units z) same k
 
   pub goes_to_spent : (old new : T) (units x : ℕ) → GoesTo (fed_devices a) old new units (Asked x) → new.machine.used ≡ old.machine.used + units → Goes a (fed_state old) (fed_state new) units (events.Event (Paused Spent))
   goes_to_spent old new units x k all = record {

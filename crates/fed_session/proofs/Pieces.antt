@@ -46,6 +46,15 @@ module _ {D W1 W2 : Type 0} where
   nothing_done goes_on s u P Q (Ok x) f k = tt
   nothing_done goes_on s u P Q (Err e) f k = (ap (fed_state goes_on) k.0, f e k.1)
 
+  pub nothing_let_go : {A E : Type 0} (goes_on : Bool) (s u : InstanceState D Fed W1 W2) (O : Type 0) (Q : E → Type 0) (r : Result A E) → IfErr r (λ e. (u ≡ s) × O × Q e)
+      → IfErr r (λ e. (fed_state goes_on u ≡ fed_state goes_on s) × Q e)
+  nothing_let_go goes_on s u O Q (Ok x) k = tt
+  nothing_let_go goes_on s u O Q (Err e) k = (ap (fed_state goes_on) k.0, k.2)
+
+  -- whether the guest has seen the end doesn't hang on the reader
+  pub seen_before : (s t : InstanceState D Fed W1 W2) (f : Fed) (P : Type 0) → t ≡ with_input s f → (s.host.input.ended ≡ true → P) → t.host.input.ended ≡ true → P
+  seen_before s t f P is h e = h (sym (ap (λ (z : InstanceState D Fed W1 W2). z.host.input.ended) is) ∙ e)
+
   -- the input is another one in the end
   pub twice : (s t u : InstanceState D Fed W1 W2) (f g : Fed) → t ≡ with_input s f → u ≡ with_input t g → u ≡ with_input s g
   twice s t u f g first then_ = then_ ∙ ap (λ (z : InstanceState D Fed W1 W2). with_input z g) first

@@ -1,4 +1,4 @@
-use Rattle.fed_session.proofs.Waiting.{all_answered, answered_first, answered_next}
+use Rattle.fed_session.proofs.Waiting.{all_answered, answered_first, answered_next, ended}
 use Rattle.fed_session.proofs.linking.are_answered.Goals as goal
 
 pub loop-index-init : goal.loop-index-init

@@ -5,7 +5,7 @@ use Rattle.plugin_session.specs.declared.handling.Misuse.{Misuse}
 use Rattle.fed_session.specs.Feeding.{around}
 use Rattle.fed_session.proofs.Acting.{does_let_go}
 use Rattle.fed_session.proofs.Branches.{if_ok}
-use Rattle.fed_session.proofs.Pieces.{nothing_done}
+use Rattle.fed_session.proofs.Pieces.{nothing_let_go}
 use Rattle.fed_session.proofs.feeding.FedInstance.abandon.Goals as goal
 
 pub returns-clause-abandoned : goal.returns-clause-abandoned
@@ -15,5 +15,5 @@ returns-clause-abandoned g c =
 
 pub returns-clause-refused : goal.returns-clause-refused
 returns-clause-refused g c =
-    rw (← c.self.view_is) (nothing_done c.self.inside.goes_on c.self.inside.instance c.abandon.new.self (λ (e : Misuse). (IsOpen c.self.inside.instance.stage → ⊥) × (not_let_go_at c.self.inside.instance.stage ≡ Some e))
-    (λ (e : Misuse). not_let_go_at c.self.inside.instance.stage ≡ Some e) c.abandon.result (λ e k. k.1) c.abandon.ensures.refused)
+    rw (← c.self.view_is) (nothing_let_go c.self.inside.goes_on c.self.inside.instance c.abandon.new.self (IsOpen c.self.inside.instance.stage → ⊥) (λ (e : Misuse). not_let_go_at c.self.inside.instance.stage ≡ Some e)
+    c.abandon.result c.abandon.ensures.refused)

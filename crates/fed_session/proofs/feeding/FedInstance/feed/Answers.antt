@@ -1,5 +1,6 @@
-use Rattle.std.proofs.Common.{◌≡◌, refl, ap}
-use Rattle.fed_session.proofs.Pieces.{feeds, feeds_nothing, nothing_left, still_at_end, twice}
+use Rattle.std.proofs.Common.{◌≡◌, [], refl}
+use Rattle.fed_input.specs.Feeding.{left_of}
+use Rattle.fed_session.proofs.Pieces.{feeds, feeds_nothing, nothing_left, seen_before, still_at_end, twice}
 use Rattle.fed_session.proofs.feeding.FedInstance.feed.Goals as goal
 
 pub replace_input-input-requires : goal.replace_input-input-requires
@@ -8,7 +9,8 @@ replace_input-input-requires g c = λ seen. nothing_left c.new-nothing.result c.
 pub replace_input-nothing-requires : goal.replace_input-nothing-requires
 replace_input-nothing-requires g c =
     let s = c.self.inside.instance in
-    still_at_end c.feed-answer.result c.replace_input-input.result c.feed-answer.new.self c.args.bytes.now s.host.input.ended c.replace_input-input.ensures.end c.feed-answer.ensures.fed c.feed-answer.ensures.refused
+    seen_before s c.replace_input-input.new.self c.end.new.self (left_of c.feed-answer.new.self ≡ []) c.replace_input-input.ensures.replaced
+    (still_at_end c.feed-answer.result c.replace_input-input.result c.feed-answer.new.self c.args.bytes.now s.host.input.ended c.replace_input-input.ensures.end c.feed-answer.ensures.fed c.feed-answer.ensures.refused)
 
 pub returns-clause-fed : goal.returns-clause-fed
 returns-clause-fed g c =
