@@ -38,11 +38,11 @@ returns-in-Ok-new-clause-begins c =
           ∙ (ap (λ (n : ℕ). max c.most_values.result n) made.opens.0.opens.room ∙ ap (λ (n : ℕ). max n 4097) c.most_values.ensures);
       opens = subst (λ (t : FedLiving). Opens goes_on valid last t.instance) (sym c.limit_values.ensures)
           (fed_opens_limited goes_on valid last new.instance _
-          (subst (λ (f : Fed). Opens goes_on valid (parts (settings_of c.args.supplies.now) f) new.instance) c.in-Ok-first_input.ensures
+          (subst (λ (f : Fed). Opens goes_on valid (parts (settings_of c.args.supplies.now) f) new.instance) c.in-Ok-first_input.ensures.first
           (subst (λ (s : Settings). Opens goes_on valid (parts s c.in-Ok-first_input.input) new.instance) c.settings-settings.ensures made.opens.0)));
       shares = subst (λ (t : FedLiving). Shares known.device last (session_of t.instance)) (sym c.limit_values.ensures)
           (shares_limited known.device last (session_of new.instance) _
-          (subst (λ (f : Fed). Shares known.device (parts (settings_of c.args.supplies.now) f) (session_of new.instance)) c.in-Ok-first_input.ensures
+          (subst (λ (f : Fed). Shares known.device (parts (settings_of c.args.supplies.now) f) (session_of new.instance)) c.in-Ok-first_input.ensures.first
           (subst (λ (s : Settings). Shares known.device (parts s c.in-Ok-first_input.input) (session_of new.instance)) c.settings-settings.ensures made.shares)));
       goes_on_is = ap (λ (t : FedLiving). t.goes_on) c.limit_values.ensures ∙ made.opens.1;
     }
@@ -59,7 +59,7 @@ returns-in-Err-new-clause-refused c =
       out = c.new-out.result;
       err = c.new-err.result;
       fault = c.in-Err-new.field-0.fault;
-      refuses = subst (λ (f : Fed). IsRefused goes_on IsHonest fault valid (parts (settings_of c.args.supplies.now) f)) c.in-Ok-first_input.ensures
+      refuses = subst (λ (f : Fed). IsRefused goes_on IsHonest fault valid (parts (settings_of c.args.supplies.now) f)) c.in-Ok-first_input.ensures.first
           (subst (λ (s : Settings). IsRefused goes_on IsHonest fault valid (parts s c.in-Ok-first_input.input)) c.settings-settings.ensures c.in-Err-new.ensures.refused);
       no_device = no_device c.args.origin c.in-Ok.volume c.in-Err-new.field-0.parts.volume c.in-Err-new.field-0.fault c.in-Ok.ensures.opens c.in-Err-new.ensures.hands_back.volume;
       tells = c.session_number.ensures.number;
