@@ -7,10 +7,12 @@ use stream_answers::{Inlet, Outlet};
 use vol_sector::Device;
 use wasm_interp::SnapshotMeaning;
 
-/// The same module, supplies, volume and actions of whoever embeds an instance (it lets it go on, answers, writes, invokes, lets go) give
-/// the same life of it, unless the host failed: memory, a stream or the device. All that is told is the same, and the memory, table, globals,
-/// units, tree and bytes after it, by whichever relation machines stand for configurations. So a recording of the actions is one of the
-/// instance: what its host's functions did is told by what they answered and wrote.
+/// The same module, supplies, volume and actions of whoever embeds an instance (it lets it go on, answers, writes, invokes, lets
+/// go) give the same life of it, unless the host failed: memory, a stream or the device. All that is told is the same, and the
+/// memory, table, globals, units, tree and bytes after it, by whichever relation machines stand for configurations. So a
+/// recording of the actions is one of the instance: what its host's functions did is told by what they answered and wrote.
+/// Premises are what no clause of `go` says: it asks only for functions of the embedder, with the unit of the call left, and what
+/// it tells to have exited has called `proc_exit` (`IsToldOf`).
 pub fn same_instance<
     M: SnapshotMeaning,
     D: Device,

@@ -1,5 +1,5 @@
-//! The same module, supplies, volume and actions give the same life of an instance, unless the host failed: memory, a stream or the
-//! device.
+//! The same module, supplies, volume and actions give the same life of an instance, unless the host failed: memory, a stream or
+//! the device.
 #![tactic(auto)]
 
 mod laws;
