@@ -30,7 +30,7 @@
  * WHAT IS ALLOWED WHEN
  *     after                                    sandbox_go   sandbox_invoke   sandbox_answer   sandbox_memory_write   sandbox_abandon
  *     sandbox_instance_open, sandbox_invoke,
- *       sandbox_answer, CALLED, SPENT          yes          AT_WORK          NOT_ASKED        AT_WORK                yes
+ *       sandbox_answer, CALLED, SPENT, STARVED yes          AT_WORK          NOT_ASKED        AT_WORK                yes
  *     ASKED                                    ASKED_FIRST  ASKED_FIRST      yes              yes                    yes
  *     RETURNED, sandbox_abandon                IDLE         yes              NOT_ASKED        yes                    yes
  *     TRAPPED, NO_MEMORY                       IDLE         yes              NOT_ASKED        STOPPED                yes
@@ -41,6 +41,16 @@
  *   globals and table are as the call left them; whether the guest's own data still make sense then only its author knows: to be
  *   sure, close the instance and open another one. sandbox_abandon lets go what is at work, as a trap would; during the opening the
  *   instance is over.
+ *
+ * INPUT THAT GOES ON
+ *   Instances of a plugin that sandbox_plugin_load_fed has loaded read what is handed over while they run: supplies.input is what is
+ *   there at the opening, and is copied; sandbox_feed hands over more, and sandbox_feed_end says that no more come. A guest that asks
+ *   for more bytes than are there stops before that read, and sandbox_go tells SANDBOX_STARVED: told.code is how many bytes it asks for
+ *   (2^32 - 1 where that is more). Feed it, or end its input, and call sandbox_go again; called at once, with a unit at least, it tells
+ *   the same again and uses none. After STARVED all stands as after SPENT. However the input is cut, the run is the run with all of it in
+ *   supplies.input: the same steps, units, answers and bytes. Only that run is never told STARVED.
+ *   A read is never shortened to what is there: a guest that reads in blocks waits for a whole block or for the end, as at a file. What is
+ *   handed over is kept until the guest has read all that is there, in at most twice as many bytes.
  *
  * FUEL
  *   sandbox_go takes at most `units`, and told.used is what the instance has used since it was opened, to the instruction. An answer
@@ -58,7 +68,8 @@ typedef struct sandbox_plugin sandbox_plugin; /* an owner of a module that is re
 
 enum { /* sandbox_told.kind, of an instance alone */
     SANDBOX_RETURNED = 6, /* what was invoked has returned, or the opening has */
-    SANDBOX_ASKED = 7     /* a function of the host is called: told.call is the index of the import among all imports */
+    SANDBOX_ASKED = 7,    /* a function of the host is called: told.call is the index of the import among all imports */
+    SANDBOX_STARVED = 8   /* the guest asks for told.code bytes of its input, fewer are there, and more may come */
 };
 enum { /* answers: mistakes of the caller, after which nothing has changed */
     SANDBOX_IDLE = 102,        /* nothing runs: invoke a function first */
@@ -69,7 +80,8 @@ enum { /* answers: mistakes of the caller, after which nothing has changed */
     SANDBOX_OVER = 107,        /* nothing is entered any more: a function called proc_exit, or the opening didn't return */
     SANDBOX_NO_FUNCTION = 108, /* the module exports no function of its own by this name, or one of more than 16 parameters */
     SANDBOX_MISTYPED = 109,    /* another number of values, or one that isn't of its type (one of 32 bits is below 2^32) */
-    SANDBOX_PAST_END = 110     /* past the end of memory */
+    SANDBOX_PAST_END = 110,    /* past the end of memory */
+    SANDBOX_ENDED = 111        /* sandbox_feed: it was said that no more bytes come, or all were there at the opening */
 };
 
 /* ---- modules */
@@ -82,6 +94,10 @@ enum { /* answers: mistakes of the caller, after which nothing has changed */
  * fault; 15 for the limits; 13, 20, 21, 22 or OUT_OF_MEMORY as of a session. */
 uint32_t sandbox_plugin_load(sandbox_plugin **plugin, const uint8_t *bytes, size_t length, const sandbox_limits *limits, uint32_t floats,
                              sandbox_why *why);
+
+/* The same, for instances whose input goes on. An import of a module without a name is 13 here. */
+uint32_t sandbox_plugin_load_fed(sandbox_plugin **plugin, const uint8_t *bytes, size_t length, const sandbox_limits *limits,
+                                 uint32_t floats, sandbox_why *why);
 
 /* Makes *other, NULL before, a further owner of the same module, for another thread. MISUSE or OUT_OF_MEMORY. */
 uint32_t sandbox_plugin_share(sandbox_plugin **other, sandbox_plugin **plugin);
@@ -117,6 +133,13 @@ size_t sandbox_values(sandbox_session **instance, uint64_t *room, size_t length)
 uint32_t sandbox_answer(sandbox_session **instance, const uint64_t *results, size_t count);
 
 uint32_t sandbox_abandon(sandbox_session **instance);
+
+/* Hands over bytes of the input, which are copied, at any time before sandbox_instance_finish: ENDED, or OUT_OF_MEMORY, and none of them
+ * is there then. MISUSE where there is no instance. Of a plugin that sandbox_plugin_load has loaded all input is there at the opening. */
+uint32_t sandbox_feed(sandbox_session **instance, const uint8_t *bytes, size_t length);
+
+/* Says that no more bytes of the input come; once more, or of such a plugin, it changes nothing. MISUSE where there is no instance. */
+uint32_t sandbox_feed_end(sandbox_session **instance);
 
 /* How many bytes memory has; 0 where there is no instance. */
 size_t sandbox_memory_size(sandbox_session **instance);

@@ -73,6 +73,57 @@ def grows_while_asked():
         tell(raised(sandbox.Refused, it.read, 196605, 4).number == 110, "and nothing past its end")
 
 
+def reads_what_comes():
+    """`read` of one byte after another from descriptor 0, and of the place behind: by wasi's fd_read, whose numbers are handed on."""
+    def number(value):
+        return value.to_bytes(4, "little")
+
+    def read(instance, length):
+        instance.write(16, number(1024) + number(length))
+        return instance.call("read", 0, 16, 1, 512), int.from_bytes(instance.read(512, 4), "little")
+
+    wasi, four = b"wasi_snapshot_preview1", b"\x60" + vector([b"\x7f"] * 4) + vector([b"\x7f"])
+    body = sized(vector([]) + b"".join(b"\x20" + u(n) for n in range(4)) + b"\x10\0\x0b")
+    brought = u(len(wasi)) + wasi + u(7) + b"fd_read" + b"\0\0"
+    parts = [(1, vector([four])), (2, vector([brought])), (3, vector([u(0)])), (5, vector([b"\0\1"])), (7, vector([u(4) + b"read" + b"\0\1"])), (10, vector([body]))]
+    guest = MAGIC + b"".join(section(kind, it) for kind, it in parts)
+    asked, pieces = [], [b"ab", b"c", b"", b"never"]
+
+    def more(wanted):
+        asked.append(wanted)
+        return pieces.pop(0)
+
+    with plugins.Plugin(guest, pages=1, fed=True).instance(feed=more, input=b"x") as it:
+        tell(read(it, 1) == (0, 1) and not asked, "what is there is read at once")
+        tell(read(it, 3) == (0, 3) and it.read(1024, 3) == b"abc" and asked == [3, 3], f"a read waits for all it asks for {asked}")
+        tell(read(it, 7) == (0, 0) and asked == [3, 3, 7], "and at the end for nothing")
+        tell(read(it, 7) == (0, 0) and len(asked) == 3, "the end stays")
+        tell(raised(sandbox.Refused, it.feed, b"d").number == plugins.ENDED, "nothing comes behind the end")
+        it.end_input()
+
+    def angry(wanted):
+        raise LookupError(f"not {wanted}")
+
+    with plugins.Plugin(guest, pages=1, fed=True).instance(feed=angry) as it:
+        tell(str(raised(LookupError, read, it, 5)) == "not 5", "what `feed` raises goes on")
+        it.feed(b"12345678")
+        tell(read(it, 5) == (0, 5), "and the instance can be called again")
+        it.write(16, number(65535) + number(9))
+        tell(it.call("read", 0, 16, 1, 512) != 0 and it.call("read", 9, 16, 1, 512) != 0, "a read that a check refuses doesn't wait")
+    with plugins.Plugin(guest, pages=1, fed=True).instance() as it:
+        ended = raised(plugins.Ended, read, it, 5)
+        tell(ended and (ended.told.kind, ended.told.code) == (plugins.STARVED, 5), "without `feed` it ends a call")
+
+    def busy(wanted):
+        tell(raised(plugins.Busy, it.call, "read", 0, 16, 1, 512), "a call from `feed` is Busy")
+        return b""
+
+    with plugins.Plugin(guest, pages=1, fed=True).instance(feed=busy) as it:
+        tell(read(it, 5) == (0, 0), "an input of nothing")
+    with plugins.Plugin(guest, pages=1).instance(feed=angry, input=b"xyz") as it:
+        tell(read(it, 9) == (0, 3) and raised(sandbox.Refused, it.feed, b"d").number == plugins.ENDED, "of a plugin that isn't fed all is there")
+
+
 def traps_at_once():
     ended = raised(plugins.Ended, opened, module({b"_initialize": TRAP, b"run": RETURN}))
     tell(ended and ended.told.kind == sandbox.TRAPPED, "a trap in _initialize is told")
@@ -117,6 +168,7 @@ def returns_after_abandon():
 
 asks_without_end()
 grows_while_asked()
+reads_what_comes()
 traps_at_once()
 has_strange_names()
 imports_many(1_000 if "--quick" in sys.argv else 100_000)

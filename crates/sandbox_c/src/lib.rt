@@ -19,10 +19,9 @@ ghost use Rattle.sandbox_host.specs.Whole.{Ran, IsUnformatted};
 ghost use Rattle.sandbox_host.specs.Texts.{text_of};
 ghost use Rattle.sandbox_host.specs.declared.volumes.Origin.TheVariants.{Fresh};
 ghost use Rattle.sandbox_host.specs.Sessions.{has_plugin};
-ghost use Rattle.sandbox_host.specs.Host.{known};
-ghost use Rattle.sandbox_host.specs.Instances.{Answered, Answers, BeginsInstance, FinishesInstance, Invokes, IsHandedOver, IsNamed, IsRead, NoAnswer, NoCall, NoGoing, NoLettingGo, NoWrite, NotBegunInstance, NotPluggedWith, Went, left, living, memory, plugin_of};
+ghost use Rattle.sandbox_host.specs.Kinds.{goes_on_at, machine_at, ready_at};
+ghost use Rattle.sandbox_host.specs.Instances.{Answered, Answers, BeginsInstance, Does, EndsInput, FinishesInstance, Invokes, IsFed, IsHandedOver, IsNamed, IsRead, NoAnswer, NoCall, NoGoing, NoLettingGo, NoWrite, NotBegunInstance, NotPluggedWith, Went, left, living, memory, plugin_of};
 ghost use Rattle.plugin_core.specs.Handling as acts;
-ghost use Rattle.plugin_session.specs.Instance.{Does};
 ghost use Rattle.wasm_store.specs.Bytes.{written};
 
 use sandbox_host::{
@@ -440,13 +439,38 @@ pub extern "C" fn sandbox_plugin_load(
         → (result ≡ 100) × (plugin.new ≡ plugin.old) × (why.new ≡ why.old) }
     ensures loaded { is_none plugin.old.held ≡ true → result ≡ 0
         → IsSomeAnd (plugin_of plugin.new.held)
-        (λ ready. IsLoadedWith (profile_of floats) bytes.now ready.valid
-        × (ready.pages ≡ most_pages limits.now)) × (why.new ≡ why.old) }
+        (λ p. IsLoadedWith (profile_of floats) bytes.now (ready_at p).valid
+        × ((ready_at p).pages ≡ most_pages limits.now) × (goes_on_at p ≡ false))
+        × (why.new ≡ why.old) }
     ensures refused { is_none plugin.old.held ≡ true → result ≢ 0 → (plugin.new.held ≡ None)
-        × NotPluggedWith (profile_of floats) bytes.now limits.now result why.old why.new }
+        × NotPluggedWith false (profile_of floats) bytes.now limits.now result why.old why.new }
     ensures bytes { result ≡ 0 → bytes_of plugin.new.held ≡ bytes.now }
 {
     sandbox_host::load_plugin(alloc, plugin, bytes, limits, floats, why)
+}
+
+/// Loads a module for instances whose input may go on.
+#[unsafe(no_mangle)]
+pub extern "C" fn sandbox_plugin_load_fed(
+    alloc: Global,
+    plugin: &mut Handle,
+    bytes: &'static [u8],
+    limits: &SessionLimits,
+    floats: u32,
+    why: &mut Why,
+) -> u32
+    ensures misuse { is_none plugin.old.held ≡ false
+        → (result ≡ 100) × (plugin.new ≡ plugin.old) × (why.new ≡ why.old) }
+    ensures loaded { is_none plugin.old.held ≡ true → result ≡ 0
+        → IsSomeAnd (plugin_of plugin.new.held)
+        (λ p. IsLoadedWith (profile_of floats) bytes.now (ready_at p).valid
+        × ((ready_at p).pages ≡ most_pages limits.now) × (goes_on_at p ≡ true))
+        × (why.new ≡ why.old) }
+    ensures refused { is_none plugin.old.held ≡ true → result ≢ 0 → (plugin.new.held ≡ None)
+        × NotPluggedWith true (profile_of floats) bytes.now limits.now result why.old why.new }
+    ensures bytes { result ≡ 0 → bytes_of plugin.new.held ≡ bytes.now }
+{
+    sandbox_host::load_plugin_fed(alloc, plugin, bytes, limits, floats, why)
 }
 
 /// Gives a second handle the same module for instances.
@@ -479,7 +503,7 @@ pub extern "C" fn sandbox_plugin_name(
     room: &mut [u8],
 ) -> usize
     ensures named { IfSome (plugin_of plugin.old.held)
-        (λ ready. IsNamed ready.valid part index room.old room.new result) }
+        (λ p. IsNamed (ready_at p).valid part index room.old room.new result) }
     ensures misuse { is_none (plugin_of plugin.old.held) ≡ true → (result ≡ 2 ^ 64 - 1)
         × (room.new ≡ room.old) }
     ensures kept { plugin.new.held ≡ plugin.old.held }
@@ -511,7 +535,7 @@ pub extern "C" fn sandbox_instance_open(
         × (instance.new.held ≡ instance.old.held) }
     ensures opened { is_none instance.old.held ≡ true → IfSome (origin_of volume.now) (λ origin.
         IfSome (plugin_of plugin.old.held) (λ ready. result ≡ 0
-        → IsSomeAnd (living instance.new.held) (BeginsInstance ready.valid supplies.now origin))) }
+        → IsSomeAnd (living instance.new.held) (BeginsInstance ready supplies.now origin))) }
     ensures refused { is_none instance.old.held ≡ true → IfSome (origin_of volume.now) (λ origin.
         IfSome (plugin_of plugin.old.held) (λ ready. result ≢ 0
         → (instance.new.held ≡ None) × NotBegunInstance ready supplies.now origin result)) }
@@ -591,7 +615,7 @@ pub extern "C" fn sandbox_abandon(alloc: Global, instance: &mut Handle) -> u32
         → (result ≡ 100) × (instance.new.held ≡ instance.old.held) }
     ensures abandoned { IfSome (living instance.old.held)
         (λ old. IsSomeAnd (living instance.new.held)
-        (λ new. Answered result old new (Does known old acts.abandoned new) (NoLettingGo old))) }
+        (λ new. Answered result old new (Does old acts.abandoned new) (NoLettingGo old))) }
     ensures bytes { bytes_of instance.new.held ≡ bytes_of instance.old.held }
 {
     sandbox_host::abandon(alloc, instance)
@@ -617,7 +641,7 @@ pub extern "C" fn sandbox_memory_read(
     ensures misuse { is_none (living instance.old.held) ≡ true → (result ≡ 100)
         × (room.new ≡ room.old) }
     ensures read { IfSome (living instance.old.held)
-        (λ s. IsRead s.machine.memory address room.old room.new result) }
+        (λ s. IsRead (machine_at s).memory address room.old room.new result) }
     ensures kept { instance.new.held ≡ instance.old.held }
 {
     sandbox_host::memory_read(alloc, instance, address, room)
@@ -635,12 +659,36 @@ pub extern "C" fn sandbox_memory_write(
         → (result ≡ 100) × (instance.new.held ≡ instance.old.held) }
     ensures written { IfSome (living instance.old.held)
         (λ old. IsSomeAnd (living instance.new.held)
-        (λ new. Answered result old new (Does known old
-        (acts.wrote (written old.machine.memory address bytes.now)) new)
+        (λ new. Answered result old new (Does old
+        (acts.wrote (written (machine_at old).memory address bytes.now)) new)
         (NoWrite old address bytes.now))) }
     ensures bytes { bytes_of instance.new.held ≡ bytes_of instance.old.held }
 {
     sandbox_host::memory_write(alloc, instance, address, bytes)
+}
+
+/// Hands over bytes of an instance's input.
+#[unsafe(no_mangle)]
+pub extern "C" fn sandbox_feed(alloc: Global, instance: &mut Handle, bytes: &[u8]) -> u32
+    ensures misuse { is_none (living instance.old.held) ≡ true
+        → (result ≡ 100) × (instance.new.held ≡ instance.old.held) }
+    ensures fed { IfSome (living instance.old.held)
+        (λ old. IsSomeAnd (living instance.new.held) (λ new. IsFed result old new bytes.now)) }
+    ensures bytes { bytes_of instance.new.held ≡ bytes_of instance.old.held }
+{
+    sandbox_host::feed(alloc, instance, bytes)
+}
+
+/// Says that no more bytes of an instance's input come.
+#[unsafe(no_mangle)]
+pub extern "C" fn sandbox_feed_end(alloc: Global, instance: &mut Handle) -> u32
+    ensures misuse { is_none (living instance.old.held) ≡ true
+        → (result ≡ 100) × (instance.new.held ≡ instance.old.held) }
+    ensures ended { IfSome (living instance.old.held)
+        (λ old. (result ≡ 0) × IsSomeAnd (living instance.new.held) (EndsInput old)) }
+    ensures bytes { bytes_of instance.new.held ≡ bytes_of instance.old.held }
+{
+    sandbox_host::feed_end(alloc, instance)
 }
 
 /// Commits an instance's calls, and ends it.

@@ -2,6 +2,7 @@ pub mod Answering
 pub mod AsBox
 pub mod Carrying
 pub mod Closed
+pub mod FedLimiting
 pub mod RecordKept
 pub mod Resuming
 pub mod Rows

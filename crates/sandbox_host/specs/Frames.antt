@@ -12,6 +12,7 @@ use Rattle.sandbox_inspect.specs.Places.{IsInstructionAt, called}
 use Rattle.sandbox_host.specs.declared.frames.FunctionFrame.{FunctionFrame}
 use Rattle.sandbox_host.specs.declared.held.HandleContent.{HandleContent}
 use Rattle.sandbox_host.specs.declared.held.HandleContent.TheVariants.{Loaded, Running, Finished, Plugin, Instance, SessionLeft, Nothing}
+use Rattle.sandbox_host.specs.Kinds.{machine_at}
 use Rattle.sandbox_host.specs.Sessions.{state_of}
 
 -- the machine of a session or an instance that isn't finished
@@ -20,7 +21,7 @@ machine_in (Loaded m bytes) = None
 machine_in (Running r) = Some (state_of r.session).machine
 machine_in (Finished e) = None
 machine_in (Plugin p bytes) = None
-machine_in (Instance l) = Some l.instance.machine
+machine_in (Instance l) = Some (machine_at l.instance)
 machine_in (SessionLeft e) = None
 machine_in Nothing = None
 

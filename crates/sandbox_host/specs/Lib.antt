@@ -6,6 +6,7 @@ pub mod Numbers
 pub mod Supplies
 pub mod HostTypes
 pub mod Host
+pub mod Kinds
 pub mod Volumes
 pub mod Begun
 pub mod Finishing

@@ -11,6 +11,10 @@ use Rattle.wasm_places.specs.declared.invocable.Event.{Event}
 use Rattle.wasm_places.specs.declared.invocable.Event.TheVariants as event
 use Rattle.plugin_session.specs.declared.handling.Misuse.{Misuse}
 use Rattle.plugin_session.specs.declared.handling.Misuse.TheVariants as misuse
+use Rattle.fed_input.specs.declared.fed.NotFed.{NotFed}
+use Rattle.fed_input.specs.declared.fed.NotFed.TheVariants as notFed
+use Rattle.fed_session.specs.declared.feeding.FedEvent.{FedEvent}
+use Rattle.fed_session.specs.declared.feeding.FedEvent.TheVariants as fedEvent
 use Rattle.sandbox_report.specs.declared.fault.Fault.{Fault}
 use Rattle.sandbox_report.specs.declared.fault.Fault.TheVariants.{Module, Volume, Instance, Setting, Preopen, Memory}
 use Rattle.sandbox_report.specs.Faults.{fault_answer, load_offset}
@@ -46,6 +50,11 @@ told_event event.Returned used = record { kind = 6; code = 0; call = 0; used = u
 told_event (event.Asked x) used = record { kind = 7; code = 0; call = min x (2 ^ 32 - 1); used = used }
 told_event (event.Paused p) used = told_pause p used
 
+-- of an instance whose input may go on: how many bytes its guest asks for, where fewer are there
+abbrev pub told_fed_event : FedEvent → ℕ → Told
+told_fed_event (fedEvent.Event e) used = told_event e used
+told_fed_event (fedEvent.Starved count) used = record { kind = 8; code = min count (2 ^ 32 - 1); call = 0; used = used }
+
 -- ---- mistakes with an instance
 
 abbrev pub misuse_number : Misuse → ℕ
@@ -58,3 +67,9 @@ misuse_number misuse.Over = 107
 misuse_number misuse.NoFunction = 108
 misuse_number misuse.Mistyped = 109
 misuse_number misuse.PastEnd = 110
+
+-- ---- input that isn't taken
+
+abbrev pub not_fed_number : NotFed → ℕ
+not_fed_number notFed.Ended = 111
+not_fed_number notFed.Memory = 40

@@ -9,6 +9,7 @@ use Rattle.sandbox_host.specs.declared.recording.VolumeOperation.{VolumeOperatio
 use Rattle.sandbox_host.specs.declared.held.HandleContent.{HandleContent}
 use Rattle.sandbox_host.specs.declared.held.HandleContent.TheVariants.{Loaded, Running, Finished, Plugin, Instance, SessionLeft, Nothing}
 pub use Rattle.sandbox_host.specs.KeptRecords.{KeepsRecord}
+use Rattle.sandbox_host.specs.Kinds.{device_at}
 use Rattle.sandbox_host.specs.Sessions.{state_of}
 
 -- the write or sync with this number, in the order in which they were done
@@ -31,7 +32,7 @@ recorded_in (Loaded m bytes) = None
 recorded_in (Running r) = recorded_on (state_of r.session).host.volume.device
 recorded_in (Finished e) = recorded_on e.device
 recorded_in (Plugin p bytes) = None
-recorded_in (Instance l) = recorded_on l.instance.host.volume.device
+recorded_in (Instance l) = recorded_on (device_at l.instance)
 recorded_in (SessionLeft e) = recorded_on e.device
 recorded_in Nothing = None
 

@@ -21,6 +21,7 @@ use Rattle.sandbox_host.specs.declared.session.HostSession.{HostSession}
 use Rattle.sandbox_host.specs.declared.session.HostSession.TheVariants.{Own, Shared}
 use Rattle.wasm_interp.specs.Shared.{Ready}
 use Rattle.sandbox_host.specs.Host.{Bytes, State}
+use Rattle.sandbox_host.specs.Kinds.{err_at, out_at}
 pub use Rattle.sandbox_host.specs.Finishing.{module_of, returned_device, commit_number, Finishes}
 use Rattle.sandbox_host.specs.Begun.{BeginsBy, PausedBy, ResumedBy}
 
@@ -158,7 +159,7 @@ output_of (Loaded m bytes) descriptor = []
 output_of (Running r) descriptor = stream (state_of r.session).host.out.writer (state_of r.session).host.err.writer descriptor
 output_of (Finished e) descriptor = stream e.out e.err descriptor
 output_of (Plugin p bytes) descriptor = []
-output_of (Instance l) descriptor = stream l.instance.host.out.writer l.instance.host.err.writer descriptor
+output_of (Instance l) descriptor = stream (out_at l.instance) (err_at l.instance) descriptor
 output_of (SessionLeft e) descriptor = stream e.out e.err descriptor
 output_of Nothing descriptor = []
 
@@ -178,7 +179,7 @@ bound_of (Loaded m bytes) descriptor = 0
 bound_of (Running r) descriptor = bound (state_of r.session).host.out.writer (state_of r.session).host.err.writer descriptor
 bound_of (Finished e) descriptor = bound e.out e.err descriptor
 bound_of (Plugin p bytes) descriptor = 0
-bound_of (Instance l) descriptor = bound l.instance.host.out.writer l.instance.host.err.writer descriptor
+bound_of (Instance l) descriptor = bound (out_at l.instance) (err_at l.instance) descriptor
 bound_of (SessionLeft e) descriptor = bound e.out e.err descriptor
 bound_of Nothing descriptor = 0
 
@@ -187,7 +188,7 @@ is_filled_of (Loaded m bytes) descriptor = false
 is_filled_of (Running r) descriptor = is_filled (state_of r.session).host.out.writer (state_of r.session).host.err.writer descriptor
 is_filled_of (Finished e) descriptor = is_filled e.out e.err descriptor
 is_filled_of (Plugin p bytes) descriptor = false
-is_filled_of (Instance l) descriptor = is_filled l.instance.host.out.writer l.instance.host.err.writer descriptor
+is_filled_of (Instance l) descriptor = is_filled (out_at l.instance) (err_at l.instance) descriptor
 is_filled_of (SessionLeft e) descriptor = is_filled e.out e.err descriptor
 is_filled_of Nothing descriptor = false
 

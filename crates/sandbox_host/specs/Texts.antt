@@ -15,6 +15,7 @@ mistakes = (101, codes "not so many functions are at work")
     ∷ (108, codes "the module exports no function of its own by this name, or one of more than 16 parameters")
     ∷ (109, codes "another number of values, or one that is not of its type")
     ∷ (110, codes "past the end of memory")
+    ∷ (111, codes "no more input is taken: its end was told, or all of it was there at the opening")
     ∷ []
 
 unfoldable pub mistake_text : ℕ → Text

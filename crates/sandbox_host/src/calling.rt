@@ -2,16 +2,14 @@
 
 ghost use Rattle.std.specs.Prelude.{◌≡◌, ◌≢◌, IfSome, IsSomeAnd, MatchResult, is_none, true};
 ghost use Rattle.plugin_core.specs.Handling as acts;
-ghost use Rattle.plugin_session.specs.Instance.{Does};
-ghost use Rattle.sandbox_host.specs.Host.{known};
 ghost use Rattle.sandbox_host.specs.Numbers.{misuse_number};
 ghost use Rattle.sandbox_host.specs.Sessions.{bytes_of};
-ghost use Rattle.sandbox_host.specs.Instances.{Answered, Answers, Invokes, IsHandedOver, NoAnswer, NoCall, NoGoing, NoLettingGo, Went, living};
+ghost use Rattle.sandbox_host.specs.Instances.{Answered, Answers, Does, Invokes, IsHandedOver, NoAnswer, NoCall, NoGoing, NoLettingGo, Went, living};
 
 use crate::handle::Handle;
 use crate::held::HandleContent;
 use crate::instance::HostInstance;
-use crate::numbers::{MISUSE, OK, Told, misuse_number, told_event};
+use crate::numbers::{MISUSE, OK, Told, misuse_number, told_fed_event};
 use crate::showing::show;
 use plugin_session::Misuse;
 use std::alloc::Global;
@@ -29,7 +27,7 @@ pub(crate) fn number_of(answer: Result<(), Misuse>) -> u32
 }
 
 /// Is about to enter the function that is exported by this name.
-fn enter(instance: &mut HostInstance<'_>, name: &[u8], arguments: &[u64]) -> u32
+fn enter(instance: &mut HostInstance, name: &[u8], arguments: &[u64]) -> u32
     ensures { Answered result instance.old instance.new
         (Invokes instance.old instance.new name.now arguments.now)
         (NoCall instance.old name.now arguments.now) }
@@ -63,7 +61,7 @@ pub fn invoke(alloc: Global, instance: &mut Handle, name: &[u8], arguments: &[u6
 }
 
 /// Lets an instance go on for at most this many units, and not past 2^64 - 1 in all.
-fn go_on(instance: &mut HostInstance<'_>, units: u64, told: &mut Told) -> u32
+fn go_on(instance: &mut HostInstance, units: u64, told: &mut Told) -> u32
     ensures went { Answered result instance.old instance.new
         (Went units instance.old instance.new told.new) (NoGoing instance.old) }
     ensures refused { result ≢ 0 → told.new ≡ told.old }
@@ -71,7 +69,7 @@ fn go_on(instance: &mut HostInstance<'_>, units: u64, told: &mut Told) -> u32
     let most = units.min(u64::MAX - instance.used());
     match instance.go(most) {
         Ok(event) => {
-            *told = told_event(event, instance.used());
+            *told = told_fed_event(event, instance.used());
             OK
         }
         Err(misuse) => misuse_number(misuse),
@@ -101,7 +99,7 @@ pub fn go(alloc: Global, instance: &mut Handle, units: u64, told: &mut Told) -> 
 }
 
 /// Answers with these results.
-fn give(instance: &mut HostInstance<'_>, results: &[u64]) -> u32
+fn give(instance: &mut HostInstance, results: &[u64]) -> u32
     ensures { Answered result instance.old instance.new
         (Answers instance.old instance.new results.now) (NoAnswer instance.old results.now) }
 {
@@ -129,9 +127,9 @@ pub fn answer(alloc: Global, instance: &mut Handle, results: &[u64]) -> u32
 }
 
 /// Lets what is at work in an instance go.
-fn let_go(instance: &mut HostInstance<'_>) -> u32
+fn let_go(instance: &mut HostInstance) -> u32
     ensures { Answered result instance.old instance.new
-        (Does known instance.old acts.abandoned instance.new) (NoLettingGo instance.old) }
+        (Does instance.old acts.abandoned instance.new) (NoLettingGo instance.old) }
 {
     number_of(instance.abandon())
 }
@@ -142,7 +140,7 @@ pub fn abandon(alloc: Global, instance: &mut Handle) -> u32
         → (result ≡ MISUSE) × (instance.new.held ≡ instance.old.held) }
     ensures abandoned { IfSome (living instance.old.held)
         (λ old. IsSomeAnd (living instance.new.held)
-        (λ new. Answered result old new (Does known old acts.abandoned new) (NoLettingGo old))) }
+        (λ new. Answered result old new (Does old acts.abandoned new) (NoLettingGo old))) }
     ensures bytes { bytes_of instance.new.held ≡ bytes_of instance.old.held }
 {
     let Some(mut held) = instance.take(alloc) else {
@@ -158,7 +156,7 @@ pub fn abandon(alloc: Global, instance: &mut Handle) -> u32
 
 /// Copies what an instance has to hand over: where a function of the host is called its arguments, the first one first; else the
 /// result of what has returned last, if it has one. Says how many these are.
-fn show_values(instance: &HostInstance<'_>, room: &mut [u64]) -> usize
+fn show_values(instance: &HostInstance, room: &mut [u64]) -> usize
     ensures { IsHandedOver instance.now room.old room.new result }
 {
     if let Some(call) = instance.asked() {

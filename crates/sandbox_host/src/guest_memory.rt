@@ -3,10 +3,9 @@
 ghost use Rattle.std.specs.Prelude.{◌≡◌, ◌≢◌, ◌+◌, ◌<◌, ◌≤◌, ◌⊎◌, IfSome, IsSomeAnd, is_none, true, length};
 ghost use Rattle.wasm_store.specs.Bytes.{written};
 ghost use Rattle.plugin_core.specs.Handling as acts;
-ghost use Rattle.plugin_session.specs.Instance.{Does};
-ghost use Rattle.sandbox_host.specs.Host.{known};
+ghost use Rattle.sandbox_host.specs.Kinds.{machine_at};
 ghost use Rattle.sandbox_host.specs.Sessions.{bytes_of};
-ghost use Rattle.sandbox_host.specs.Instances.{Answered, IsRead, NoWrite, living, memory};
+ghost use Rattle.sandbox_host.specs.Instances.{Answered, Does, IsRead, NoWrite, living, memory};
 
 use crate::calling::number_of;
 use crate::handle::Handle;
@@ -49,7 +48,7 @@ pub fn memory_read(alloc: Global, instance: &mut Handle, address: u32, room: &mu
     ensures misuse { is_none (living instance.old.held) ≡ true → (result ≡ MISUSE)
         × (room.new ≡ room.old) }
     ensures read { IfSome (living instance.old.held)
-        (λ s. IsRead s.machine.memory address room.old room.new result) }
+        (λ s. IsRead (machine_at s).memory address room.old room.new result) }
     ensures kept { instance.new.held ≡ instance.old.held }
 {
     let Some(held) = instance.take(alloc) else {
@@ -64,10 +63,10 @@ pub fn memory_read(alloc: Global, instance: &mut Handle, address: u32, room: &mu
 }
 
 /// Writes bytes into an instance's memory, where it may be written.
-fn store(instance: &mut HostInstance<'_>, address: u32, bytes: &[u8]) -> u32
+fn store(instance: &mut HostInstance, address: u32, bytes: &[u8]) -> u32
     ensures { Answered result instance.old instance.new
-        (Does known instance.old (acts.wrote
-        (written instance.old.machine.memory address bytes.now)) instance.new)
+        (Does instance.old (acts.wrote
+        (written (machine_at instance.old).memory address bytes.now)) instance.new)
         (NoWrite instance.old address bytes.now) }
 {
     number_of(instance.write(address, bytes))
@@ -79,8 +78,8 @@ pub fn memory_write(alloc: Global, instance: &mut Handle, address: u32, bytes: &
         → (result ≡ MISUSE) × (instance.new.held ≡ instance.old.held) }
     ensures written { IfSome (living instance.old.held)
         (λ old. IsSomeAnd (living instance.new.held)
-        (λ new. Answered result old new (Does known old
-        (acts.wrote (written old.machine.memory address bytes.now)) new)
+        (λ new. Answered result old new (Does old
+        (acts.wrote (written (machine_at old).memory address bytes.now)) new)
         (NoWrite old address bytes.now))) }
     ensures bytes { bytes_of instance.new.held ≡ bytes_of instance.old.held }
 {

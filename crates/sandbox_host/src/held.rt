@@ -3,12 +3,12 @@
 ghost use Rattle.std.specs.Prelude.{◌≡◌, length};
 ghost use Rattle.sandbox_host.specs.Sessions.{stream, is_filled};
 
+use crate::host_plugin::HostPlugin;
 use crate::instance::{Living, SessionLeft};
 use crate::kept::KeptOutput;
 use crate::modules::LoadedModule;
 use crate::session::HostSession;
 use crate::showing::show_sectors;
-use plugin_session::Plugin;
 use sandbox_device::RecordedDevice;
 use sandbox_inspect::ModuleBytes;
 use vol_sector::{Device, Sector};
@@ -62,7 +62,7 @@ pub enum HandleContent {
     /// A session that is finished.
     Finished(Ended),
     /// A module whose instances have their exported functions called.
-    Plugin(Plugin<'static>, ModuleBytes<'static>),
+    Plugin(HostPlugin, ModuleBytes<'static>),
     /// An instance that isn't finished.
     Instance(Living),
     /// An instance that is finished.

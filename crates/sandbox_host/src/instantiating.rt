@@ -2,32 +2,34 @@
 
 ghost use Rattle.std.specs.Prelude.{◌≡◌, ◌≢◌, ◌⊎◌, None, Some, IfOk, IfErr, IfSome, IsSomeAnd, is_none, true, false};
 ghost use Rattle.sandbox_host.specs.Sessions.{bytes_in, bytes_of};
-ghost use Rattle.sandbox_host.specs.Instances.{BeginsInstance, FinishesInstance, NotBegunInstance, left, left_in, living, living_in, plugin_of};
+ghost use Rattle.sandbox_host.specs.Instances.{BeginsFed, BeginsInstance, BeginsPlain, FinishesInstance, NotBegunFed, NotBegunInstance, NotBegunPlain, first_input, left, left_in, living, living_in, plugin_of};
 ghost use Rattle.sandbox_host.specs.Volumes.{origin_of};
 
 use crate::handle::Handle;
 use crate::held::HandleContent;
-use crate::instance::{HostInstance, Living, SessionLeft};
+use crate::host_plugin::HostPlugin;
+use crate::instance::{FeedableInstance, HostInstance, Living, PlainInstance, SessionLeft};
 use crate::kept::KeptOutput;
-use crate::numbers::{MISUSE, OK, SETTING, session_number, volume_number};
+use crate::numbers::{MISUSE, OK, OUT_OF_MEMORY, SETTING, session_number, volume_number};
 use crate::opening::keep;
 use crate::running::handed_back;
 use crate::supplies::Supplies;
 use crate::volumes::{Origin, VolumeSource, open_volume};
+use fed_session::{FedInput, FedInstance, FedPlugin, NotFed};
 use plugin_session::{Instance, Plugin};
-use sandbox_core::{Finished, RefusedParts};
+use sandbox_core::RefusedParts;
 use sandbox_inspect::ModuleBytes;
 use std::alloc::Global;
 
-/// Makes an instance, over the volume that is named: its limits have the pages that the module was made ready for.
-fn begin_instance<'a>(
+/// Makes an instance whose input is there, over the volume that is named: its limits have the pages that the module was made ready for.
+fn begin_plain<'a>(
     alloc: Global,
     plugin: &Plugin<'a>,
     supplies: &Supplies<'a>,
     origin: Origin<'_>,
-) -> Result<HostInstance<'a>, u32>
-    ensures begins { IfOk result (BeginsInstance plugin.now.valid supplies.now origin.entry) }
-    ensures refused { IfErr result (NotBegunInstance plugin.now supplies.now origin.entry) }
+) -> Result<PlainInstance<'a>, u32>
+    ensures begins { IfOk result (BeginsPlain plugin.now.valid supplies.now origin.entry) }
+    ensures refused { IfErr result (NotBegunPlain plugin.now supplies.now origin.entry) }
     ensures some { IfErr result (λ number. number ≢ 0) }
 {
     if !supplies.limits.is_known() {
@@ -56,18 +58,92 @@ fn begin_instance<'a>(
     }
 }
 
+/// The bytes that are there at the opening of an instance whose input goes on.
+fn first_input(alloc: Global, supplies: &Supplies<'_>) -> Result<FedInput, NotFed>
+    ensures first { IfOk result (λ f. f ≡ first_input supplies.now) }
+{
+    let mut input = FedInput::new(alloc);
+    input.feed(supplies.input)?;
+    Ok(input)
+}
+
+/// The same of one whose input may go on.
+fn begin_fed<'a>(
+    alloc: Global,
+    plugin: &FedPlugin<'a>,
+    supplies: &Supplies<'a>,
+    origin: Origin<'_>,
+) -> Result<FeedableInstance<'a>, u32>
+    ensures begins { IfOk result (BeginsFed plugin.now.goes_on plugin.now.ready.valid supplies.now
+        origin.entry) }
+    ensures refused { IfErr result (NotBegunFed plugin.now supplies.now origin.entry) }
+    ensures some { IfErr result (λ number. number ≢ 0) }
+{
+    if !supplies.limits.is_known() {
+        return Err(SETTING);
+    }
+    if plugin.pages() != supplies.limits.most_pages() {
+        return Err(SETTING);
+    }
+    let volume = match open_volume(alloc, origin) {
+        Ok(volume) => volume,
+        Err(fault) => return Err(volume_number(fault)),
+    };
+    let Ok(input) = first_input(alloc, supplies) else {
+        drop(volume);
+        return Err(OUT_OF_MEMORY);
+    };
+    let settings = supplies.settings();
+    let most = supplies.limits.most_output();
+    let out = KeptOutput::new(alloc, most);
+    let err = KeptOutput::new(alloc, most);
+    match FedInstance::new(alloc, plugin, settings, volume, input, out, err) {
+        Ok(mut instance) => {
+            instance.limit_values(supplies.limits.most_values() as usize);
+            Ok(instance)
+        }
+        Err(RefusedParts { parts, fault }) => {
+            drop(parts);
+            Err(session_number(fault))
+        }
+    }
+}
+
+/// Makes an instance, as its module was made ready for.
+fn begin_instance(
+    alloc: Global,
+    plugin: &HostPlugin,
+    supplies: &Supplies<'static>,
+    origin: Origin<'_>,
+) -> Result<HostInstance, u32>
+    ensures begins { IfOk result (BeginsInstance plugin.now supplies.now origin.entry) }
+    ensures refused { IfErr result (NotBegunInstance plugin.now supplies.now origin.entry) }
+    ensures some { IfErr result (λ number. number ≢ 0) }
+{
+    match plugin {
+        HostPlugin::Plain(ready) => match begin_plain(alloc, ready, supplies, origin) {
+            Ok(instance) => Ok(HostInstance::Plain(instance)),
+            Err(number) => Err(number),
+        },
+        HostPlugin::Fed(ready) => match begin_fed(alloc, ready, supplies, origin) {
+            Ok(instance) => Ok(HostInstance::Fed(instance)),
+            Err(number) => Err(number),
+        },
+    }
+}
+
 /// Makes an instance behind a closed handle.
 fn open_into(
     alloc: Global,
     handle: &mut Handle,
-    plugin: &Plugin<'static>,
+    plugin: &HostPlugin,
     bytes: &'static [u8],
     supplies: &Supplies<'static>,
     origin: Origin<'_>,
 ) -> u32
     requires { is_none handle.old.held ≡ true }
     ensures opened { result ≡ 0 → IsSomeAnd (living handle.new.held)
-        (BeginsInstance plugin.now.valid supplies.now origin.entry)
+        (BeginsInstance plugin.now supplies.now origin.entry)
         × (bytes_of handle.new.held ≡ bytes.now) }
     ensures refused { result ≢ 0 → (handle.new.held ≡ None)
         × NotBegunInstance plugin.now supplies.now origin.entry result }
@@ -99,7 +175,7 @@ pub fn open_instance(
         × (instance.new.held ≡ instance.old.held) }
     ensures opened { is_none instance.old.held ≡ true → IfSome (origin_of volume.now) (λ origin.
         IfSome (plugin_of plugin.old.held) (λ ready. result ≡ 0
-        → IsSomeAnd (living instance.new.held) (BeginsInstance ready.valid supplies.now origin))) }
+        → IsSomeAnd (living instance.new.held) (BeginsInstance ready supplies.now origin))) }
     ensures refused { is_none instance.old.held ≡ true → IfSome (origin_of volume.now) (λ origin.
         IfSome (plugin_of plugin.old.held) (λ ready. result ≢ 0
         → (instance.new.held ≡ None) × NotBegunInstance ready supplies.now origin result)) }
@@ -131,12 +207,7 @@ fn end_instance(living: Living) -> (SessionLeft, u32)
     ensures bytes { result.0.bytes ≡ living.bytes }
 {
     let Living { instance, bytes } = living;
-    let Finished {
-        volume,
-        out,
-        err,
-        ..
-    } = instance.finish();
+    let (volume, out, err) = instance.finish();
     let (device, number) = handed_back(volume);
     (
         SessionLeft {

@@ -1,12 +1,15 @@
 //! Sessions and instances behind a handle, for hosts in C and what calls C: what stands here is exported by `sandbox_c`.
 #![tactic(auto)]
 
+mod acting;
 mod calling;
 mod closing;
+mod feeding;
 mod frames;
 mod guest_memory;
 mod handle;
 mod held;
+mod host_plugin;
 mod instance;
 mod instantiating;
 mod kept;
@@ -29,17 +32,19 @@ mod whole;
 
 pub use calling::{abandon, answer, go, invoke, values};
 pub use closing::{close, close_loaded, unload};
+pub use feeding::{feed, feed_end};
 pub use frames::{FunctionFrame, NO_FRAME, frame_at, function_name};
 pub use guest_memory::{memory_read, memory_size, memory_write};
 pub use handle::Handle;
 pub use held::{Ended, HandleContent, OpenSession};
-pub use instance::{HostInstance, Living, SessionLeft};
+pub use host_plugin::HostPlugin;
+pub use instance::{FeedableInstance, HostInstance, Living, PlainInstance, SessionLeft};
 pub use instantiating::{finish_instance, open_instance};
 pub use kept::KeptOutput;
 pub use modules::LoadedModule;
-pub use numbers::{DEVICE_FAILED, GEOMETRY, MISUSE, OK, OUT_OF_MEMORY, Told, VERSION, Why};
+pub use numbers::{DEVICE_FAILED, ENDED, GEOMETRY, MISUSE, OK, OUT_OF_MEMORY, Told, VERSION, Why};
 pub use opening::{load_module, load_module_with, open, open_loaded};
-pub use plugins::{load_plugin, plugin_name, share_plugin, unload_plugin};
+pub use plugins::{load_plugin, load_plugin_fed, plugin_name, share_plugin, unload_plugin};
 pub use preparing::{prepare, prepare_with, share};
 pub use recording::{VolumeOperation, operation_at};
 pub use running::{finish, full, output, resume, volume_out};

@@ -2,8 +2,9 @@
 
 ghost use Rattle.std.specs.Prelude.{◌≡◌, ◌≢◌};
 ghost use Rattle.sandbox_host.specs.Numbers.{why_of, session_fault, session_number, volume_number};
-ghost use Rattle.sandbox_host.specs.Numbers.{call_number, misuse_number, told_end, told_event, told_pause};
+ghost use Rattle.sandbox_host.specs.Numbers.{call_number, misuse_number, not_fed_number, told_end, told_event, told_fed_event, told_pause};
 
+use fed_session::{FedEvent, NotFed};
 use plugin_session::Misuse;
 use sandbox_core::{HostCall, LoadFault, Outcome, Pause, SessionFault};
 use sandbox_report::{Fault, outcome_number, trap_number};
@@ -28,6 +29,9 @@ pub const OUT_OF_MEMORY: u32 = 40;
 /// What the call works on isn't there, or is there already, or is in another state.
 pub const MISUSE: u32 = 100;
 
+/// It was said that no more bytes of the input come.
+pub const ENDED: u32 = 111;
+
 /// The version: 1,000,000 times the major number, 1,000 times the minor one, and the patch.
 pub const VERSION: u32 = meanings::VERSION_NUMBER;
 
@@ -44,9 +48,9 @@ pub struct Why {
 #[derive(Clone, Copy, PartialEq, Eq)]
 pub struct Told {
     /// 0 its guest exited, 1 it trapped, 2 the fuel is used up, 3 memory was refused; 4 a call was answered, 5 the units are
-    /// used up; of an instance also 6 what ran has returned, 7 a function of the host is called.
+    /// used up; of an instance also 6 what ran has returned, 7 a function of the host is called, 8 its guest waits for input.
     pub kind: u32,
-    /// The guest's status, the trap, or the call's errno; else 0.
+    /// The guest's status, the trap, the call's errno, or how many bytes it waits for; else 0.
     pub code: u32,
     /// The call that was answered; of a function of the host the import; else 0.
     pub call: u32,
@@ -189,6 +193,32 @@ pub(crate) fn told_event(event: Event, used: u64) -> Told
             used,
         },
         Event::Paused(pause) => told_pause(pause, used),
+    }
+}
+
+/// What is told of why an instance came back whose input may go on.
+pub(crate) fn told_fed_event(event: FedEvent, used: u64) -> Told
+    ensures { result ≡ told_fed_event event used }
+{
+    match event {
+        FedEvent::Event(event) => told_event(event, used),
+        FedEvent::Starved(wanted) => Told {
+            kind: 8,
+            code: wanted.min(u64::from(u32::MAX)) as u32,
+            call: 0,
+            used,
+        },
+    }
+}
+
+/// The number of why bytes of the input aren't taken.
+pub(crate) fn not_fed_number(refusal: NotFed) -> u32
+    ensures number { result ≡ not_fed_number refusal }
+    ensures some { result ≢ 0 }
+{
+    match refusal {
+        NotFed::Ended => ENDED,
+        NotFed::Memory => OUT_OF_MEMORY,
     }
 }
 

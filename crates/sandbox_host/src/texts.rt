@@ -15,7 +15,7 @@ macro_rules! table {
 }
 
 /// What a host of frames (101) and of instances (102 and on) got wrong.
-static MISTAKES: [Meaning; 10] = table! {
+static MISTAKES: [Meaning; 11] = table! {
     101 "not so many functions are at work"
     102 "nothing runs: a function has to be called first"
     103 "a function is at work"
@@ -26,6 +26,7 @@ static MISTAKES: [Meaning; 10] = table! {
     108 "the module exports no function of its own by this name, or one of more than 16 parameters"
     109 "another number of values, or one that is not of its type"
     110 "past the end of memory"
+    111 "no more input is taken: its end was told, or all of it was there at the opening"
 };
 
 /// The text of such a mistake, or an empty one.

@@ -9,6 +9,7 @@
 #include <sandbox_plugin.h>
 
 #define RECORDING_PLUGIN_HEAD "sandbox-recording 2"
+#define RECORDING_FED_HEAD "sandbox-recording 3"
 
 enum { RECORDING_VALUES = 16 };
 
@@ -19,17 +20,29 @@ static inline void recording_numbers(FILE *to, const uint64_t *numbers, size_t c
     fprintf(to, " %" PRIu64, numbers[n]);
 }
 
-/* sandbox_plugin_load, and where that answers 0, sandbox_instance_open. */
-static inline uint32_t recording_instance_open(FILE *to, sandbox_session **instance, sandbox_plugin **plugin, sandbox_bytes module, uint32_t floats,
-                                               const sandbox_supplies *given, const sandbox_volume *volume, sandbox_why *why) {
-  fprintf(to, RECORDING_PLUGIN_HEAD "\nversion %" PRIu32 "\nfloats %" PRIu32 "\n", sandbox_version(), floats);
+static inline uint32_t recording_instance_by(FILE *to, sandbox_session **instance, sandbox_plugin **plugin, sandbox_bytes module, uint32_t floats,
+                                             const sandbox_supplies *given, const sandbox_volume *volume, sandbox_why *why, int goes_on) {
+  fprintf(to, "%s\nversion %" PRIu32 "\nfloats %" PRIu32 "\n", goes_on ? RECORDING_FED_HEAD : RECORDING_PLUGIN_HEAD, sandbox_version(), floats);
   recording_given(to, module, given, volume);
-  uint32_t answer = sandbox_plugin_load(plugin, module.at, module.length, &given->limits, floats, why);
+  uint32_t answer = goes_on ? sandbox_plugin_load_fed(plugin, module.at, module.length, &given->limits, floats, why)
+                            : sandbox_plugin_load(plugin, module.at, module.length, &given->limits, floats, why);
   if (answer == SANDBOX_OK)
     answer = sandbox_instance_open(instance, plugin, given, volume);
   fprintf(to, "opened %" PRIu32 "\n", answer);
   fflush(to);
   return answer;
+}
+
+/* sandbox_plugin_load, and where that answers 0, sandbox_instance_open. */
+static inline uint32_t recording_instance_open(FILE *to, sandbox_session **instance, sandbox_plugin **plugin, sandbox_bytes module, uint32_t floats,
+                                               const sandbox_supplies *given, const sandbox_volume *volume, sandbox_why *why) {
+  return recording_instance_by(to, instance, plugin, module, floats, given, volume, why, 0);
+}
+
+/* sandbox_plugin_load_fed, and where that answers 0, sandbox_instance_open. */
+static inline uint32_t recording_instance_open_fed(FILE *to, sandbox_session **instance, sandbox_plugin **plugin, sandbox_bytes module, uint32_t floats,
+                                                   const sandbox_supplies *given, const sandbox_volume *volume, sandbox_why *why) {
+  return recording_instance_by(to, instance, plugin, module, floats, given, volume, why, 1);
 }
 
 static inline uint32_t recording_invoke(FILE *to, sandbox_session **instance, sandbox_bytes name, const uint64_t *arguments, size_t count) {
@@ -72,6 +85,22 @@ static inline uint32_t recording_write(FILE *to, sandbox_session **instance, uin
   fprintf(to, "write %" PRIu32 " %" PRIu32 " %zu\n", answer, address, bytes.length);
   fwrite(bytes.at, 1, bytes.length, to);
   fputc('\n', to);
+  fflush(to);
+  return answer;
+}
+
+static inline uint32_t recording_feed(FILE *to, sandbox_session **instance, sandbox_bytes bytes) {
+  uint32_t answer = sandbox_feed(instance, bytes.at, bytes.length);
+  fprintf(to, "feed %" PRIu32 " %zu\n", answer, bytes.length);
+  fwrite(bytes.at, 1, bytes.length, to);
+  fputc('\n', to);
+  fflush(to);
+  return answer;
+}
+
+static inline uint32_t recording_feed_end(FILE *to, sandbox_session **instance) {
+  uint32_t answer = sandbox_feed_end(instance);
+  fprintf(to, "feed_end %" PRIu32 "\n", answer);
   fflush(to);
   return answer;
 }

@@ -198,6 +198,10 @@ static void act(FILE *to, FILE *from, const char *line, sandbox_session **instan
     told->used += recording_answer(to, instance, n + 2, n[1]) == SANDBOX_OK; /* the unit of the guest's call */
   else if (numbers_of(line, "write", n) == 3)
     recording_write(to, instance, (uint32_t)n[1], bytes_from(from, n[2]));
+  else if (numbers_of(line, "feed", n) == 2)
+    recording_feed(to, instance, bytes_from(from, n[1]));
+  else if (numbers_of(line, "feed_end", n) == 1)
+    recording_feed_end(to, instance);
   else if (numbers_of(line, "abandon", n) == 1)
     recording_abandon(to, instance);
   else if (numbers_of(line, "finish", n) == 1)
@@ -251,13 +255,14 @@ static int replay(const char *path, uint64_t until) {
   sandbox_plugin *plugin = NULL;
   sandbox_why why = {0};
   int is_session = from && next_line(from, line) && !strcmp(line, RECORDING_HEAD);
-  if (!from || (!is_session && strcmp(line, RECORDING_PLUGIN_HEAD)))
+  int goes_on = from && !strcmp(line, RECORDING_FED_HEAD);
+  if (!from || (!is_session && !goes_on && strcmp(line, RECORDING_PLUGIN_HEAD)))
     damaged(path);
   uint32_t recorded = opening_from(from, &it), answer;
   complete(&it);
   if (is_session)
     answer = sandbox_open(&session, it.module.at, it.module.length, &it.given, &it.volume, &why);
-  else if (!(answer = sandbox_plugin_load(&plugin, it.module.at, it.module.length, &it.given.limits, it.floats, &why)))
+  else if (!(answer = (goes_on ? sandbox_plugin_load_fed : sandbox_plugin_load)(&plugin, it.module.at, it.module.length, &it.given.limits, it.floats, &why)))
     answer = sandbox_instance_open(&session, &plugin, &it.given, &it.volume);
   if (answer != recorded) {
     printf("recorded: opened %" PRIu32 "\nnow:      opened %" PRIu32 "\n", recorded, answer);

@@ -17,10 +17,10 @@ static uint32_t open_instance(sandbox_session **instance, sandbox_plugin **plugi
   return sandbox_instance_open(instance, plugin, &supplies, &fresh);
 }
 
-static uint32_t load_plugin(sandbox_plugin **plugin, const uint8_t *bytes, size_t length, uint32_t pages, uint32_t *offset) {
+static uint32_t load_plugin(sandbox_plugin **plugin, const uint8_t *bytes, size_t length, uint32_t pages, int fed, uint32_t *offset) {
   const sandbox_limits limits = {.pages = pages};
   sandbox_why why = {0, 0};
-  const uint32_t answer = sandbox_plugin_load(plugin, bytes, length, &limits, 0, &why);
+  const uint32_t answer = (fed ? sandbox_plugin_load_fed : sandbox_plugin_load)(plugin, bytes, length, &limits, 0, &why);
   *offset = why.offset;
   return answer;
 }
@@ -37,6 +37,9 @@ import (
 // read and write the instance's memory, and call nothing of it.
 type Function func(instance *Instance, arguments []uint64) ([]uint64, error)
 
+// Input gives what there is of a guest's input, which asks for so many bytes: one at least, or none at its end. It may wait.
+type Input func(wanted uint32) ([]byte, error)
+
 // Refused is the number of a call that was refused, as the headers name it.
 type Refused uint32
 
@@ -49,7 +52,7 @@ func (number Refused) Error() string {
 	return fmt.Sprintf("%d %s", uint32(number), C.GoStringN((*C.char)(unsafe.Pointer(&text[0])), C.int(length)))
 }
 
-// Ended says how a call ended that didn't return: by a trap, by proc_exit, without memory or without units.
+// Ended says how a call ended that didn't return: by a trap, by proc_exit, without memory, without units, or for want of input.
 type Ended struct{ Kind, Code uint32 }
 
 func (ended Ended) Error() string {
@@ -88,9 +91,18 @@ type Plugin struct {
 // Load decodes and validates a module, for instances of at most this many pages. The library reads the bytes until Close: they are copied
 // into C's memory.
 func Load(module []byte, pages uint32) (*Plugin, error) {
+	return load(module, pages, 0)
+}
+
+// LoadFed is Load for instances whose input goes on, which OpenFed opens.
+func LoadFed(module []byte, pages uint32) (*Plugin, error) {
+	return load(module, pages, 1)
+}
+
+func load(module []byte, pages uint32, fed C.int) (*Plugin, error) {
 	plugin := &Plugin{bytes: C.CBytes(module), pages: pages}
 	var offset C.uint32_t
-	err := checked(C.load_plugin(&plugin.raw, (*C.uint8_t)(plugin.bytes), C.size_t(len(module)), C.uint32_t(pages), &offset))
+	err := checked(C.load_plugin(&plugin.raw, (*C.uint8_t)(plugin.bytes), C.size_t(len(module)), C.uint32_t(pages), fed, &offset))
 	if err != nil {
 		C.free(plugin.bytes)
 		return nil, fmt.Errorf("the module: %w at byte %d", err, uint32(offset))
@@ -119,11 +131,17 @@ type Instance struct {
 	raw       *C.sandbox_session
 	used      uint64
 	functions []Function
+	input     Input
 }
 
 // Open makes an instance whose imports are these functions, by module name, a dot and name, and runs its start function and _initialize.
 func (plugin *Plugin) Open(imports map[string]Function, units uint64) (*Instance, error) {
-	instance := &Instance{}
+	return plugin.OpenFed(imports, nil, units)
+}
+
+// OpenFed is Open with an input that goes on, of a plugin that LoadFed has loaded.
+func (plugin *Plugin) OpenFed(imports map[string]Function, input Input, units uint64) (*Instance, error) {
+	instance := &Instance{input: input}
 	for index := 0; ; index++ {
 		module, there := plugin.name(C.SANDBOX_IMPORT_MODULE, index)
 		if !there {
@@ -172,6 +190,13 @@ func (instance *Instance) run(units uint64) ([]uint64, error) {
 		case C.SANDBOX_RETURNED:
 			return instance.values(), nil
 		case C.SANDBOX_CALLED:
+		case C.SANDBOX_STARVED:
+			if instance.input == nil {
+				return nil, Ended{uint32(told.kind), uint32(told.code)}
+			}
+			if err := instance.feed(uint32(told.code)); err != nil {
+				return nil, err
+			}
 		case C.SANDBOX_ASKED:
 			if err := instance.serve(int(told.call)); err != nil {
 				return nil, err
@@ -192,6 +217,29 @@ func (instance *Instance) serve(index int) error {
 		return err
 	}
 	return checked(C.sandbox_answer(&instance.raw, numbersOf(results), C.size_t(len(results))))
+}
+
+// feed hands over what there is of the input, or says that no more come.
+func (instance *Instance) feed(wanted uint32) error {
+	given, err := instance.input(wanted)
+	if err != nil {
+		return err
+	}
+	if len(given) == 0 {
+		return checked(C.sandbox_feed_end(&instance.raw))
+	}
+	return checked(C.sandbox_feed(&instance.raw, bytesOf(given), C.size_t(len(given))))
+}
+
+// Output is what the guest has written to descriptor 1 or 2 from a byte on.
+func (instance *Instance) Output(descriptor, from int) []byte {
+	length := C.sandbox_output(&instance.raw, C.uint32_t(descriptor), C.size_t(from), bytesOf(nil), 0)
+	if int(length) <= from {
+		return nil
+	}
+	room := make([]byte, int(length)-from)
+	C.sandbox_output(&instance.raw, C.uint32_t(descriptor), C.size_t(from), bytesOf(room), C.size_t(len(room)))
+	return room
 }
 
 // values are what there is to hand over: arguments, or a result.

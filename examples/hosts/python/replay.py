@@ -16,9 +16,9 @@ import sys
 import sandbox
 import sandbox_plugin
 
-HEAD, PLUGIN_HEAD = b"sandbox-recording 1", b"sandbox-recording 2"
-COUNTS = {b"version": 1, b"floats": 1, b"moment": 1, b"limits": 3, b"opened": 1, b"resume": 5, b"finish": 1, b"abandon": 1}
-WITH_BYTES = {b"module": 1, b"arg": 1, b"env": 1, b"name": 1, b"path": 1, b"random": 1, b"input": 1, b"volume": 2, b"write": 3}
+HEAD, PLUGIN_HEAD, FED_HEAD = b"sandbox-recording 1", b"sandbox-recording 2", b"sandbox-recording 3"
+COUNTS = {b"version": 1, b"floats": 1, b"moment": 1, b"limits": 3, b"opened": 1, b"resume": 5, b"finish": 1, b"abandon": 1, b"feed_end": 1}
+WITH_BYTES = {b"module": 1, b"arg": 1, b"env": 1, b"name": 1, b"path": 1, b"random": 1, b"input": 1, b"volume": 2, b"write": 3, b"feed": 2}
 COUNTED = {b"invoke": 1, b"go": 5, b"answer": 1}  # so many numbers, then how many others follow, and these
 
 
@@ -110,18 +110,18 @@ def counted(numbers):
 class RecordedInstance(sandbox_plugin.Instance):
     """An instance over a module's bytes, for which the module is loaded, whose actions are written to a file as they are done."""
 
-    def __init__(self, file, module, imports=None, fuel=10**9, floats=False, **supplies):
+    def __init__(self, file, module, imports=None, fuel=10**9, floats=False, fed=False, feed=None, **supplies):
         self._to = Recording(file)
-        self._to.line(PLUGIN_HEAD.decode())
+        self._to.line((FED_HEAD if fed else PLUGIN_HEAD).decode())
         self._to.line(f"version {sandbox.version()}")
         self._to.line(f"floats {int(floats)}")
         self._to.given(module, **supplies)
         try:
-            plugin = sandbox_plugin.Plugin(module, pages=supplies.get("pages", 0), floats=floats)
+            plugin = sandbox_plugin.Plugin(module, pages=supplies.get("pages", 0), floats=floats, fed=fed)
         except sandbox.Refused as refused:
             self._to.line(f"opened {refused.number}")
             raise
-        super().__init__(plugin, imports or {}, fuel=fuel, **supplies)
+        super().__init__(plugin, imports or {}, fuel=fuel, feed=feed, **supplies)
 
     def _open(self, module, given, over):
         answer = super()._open(module, given, over)
@@ -150,6 +150,16 @@ class RecordedInstance(sandbox_plugin.Instance):
         self._to.bytes(f"write {answer} {address}", given)
         return answer
 
+    def _feed(self, given):
+        answer = super()._feed(given)
+        self._to.bytes(f"feed {answer}", given)
+        return answer
+
+    def _feed_end(self):
+        answer = super()._feed_end()
+        self._to.line(f"feed_end {answer}")
+        return answer
+
     def _let_go(self):
         answer = super()._let_go()
         self._to.line(f"abandon {answer}")
@@ -173,7 +183,7 @@ def records(file):
     while (line := file.readline()).endswith(b"\n"):
         line = line[:-1]
         word, *numbers = line.split(b" ")
-        if line in (HEAD, PLUGIN_HEAD) or word in (b"written", b"left"):
+        if line in (HEAD, PLUGIN_HEAD, FED_HEAD) or word in (b"written", b"left"):
             yield word, [], b"", line.decode()
             continue
         if not all(it.isdigit() for it in numbers):
@@ -283,6 +293,10 @@ class Repeated(RecordedInstance):
             told.used += self._answer(numbers[2:]) == 0  # the unit of the guest's call
         elif word == b"write":
             self._write(numbers[1], text)
+        elif word == b"feed":
+            self._feed(text)
+        elif word == b"feed_end":
+            self._feed_end()
         elif word == b"abandon":
             self._let_go()
         elif word == b"finish":
@@ -317,10 +331,12 @@ def replay(path, until=2**64):
     with open(path, "rb") as file:
         following, said = records(file), io.BytesIO()
         first = next(following, None)
-        if not first or first[3] not in (HEAD.decode(), PLUGIN_HEAD.decode()):
+        if not first or first[3] not in (HEAD.decode(), PLUGIN_HEAD.decode(), FED_HEAD.decode()):
             raise Damaged(path)
         is_session = first[3] == HEAD.decode()
         module, given, answer = opening_of(following)
+        if first[3] == FED_HEAD.decode():
+            given["fed"] = True
         try:
             opened = sandbox.Module(module).session(**given) if is_session else Repeated(said, module, **given)
         except sandbox.Refused as refused:

@@ -7,6 +7,13 @@
 A function of the host gets the instance and its arguments, and gives a number or None. Arguments and results are numbers from 0 on, of
 32 or 64 bits; a float's are its bits. What it raises goes on to who called the export, and the call is let go. While it is asked, the
 instance can be read and written, and not called: that is `Busy`.
+
+    plugin = Plugin(bytes, fed=True)
+    with plugin.instance(feed=lambda wanted: socket.recv(wanted)) as instance:
+        instance.call("serve")
+
+Instances of a plugin that was loaded with `fed` have an input that goes on. A guest that reads more of it than is there waits; `feed` is told how
+many bytes it asks for, and gives some, or none at the end, as a file's `read` does. However the input is cut, the guest does the same.
 """
 import ctypes as c
 import threading
@@ -15,7 +22,8 @@ import sandbox
 from sandbox import CALLED, MOST_32, MOST_64, MOST_SIZE, Session, Told, _check, _lib, _Limits, _number, _Why
 
 Refused = sandbox.Refused
-RETURNED, ASKED = 6, 7
+RETURNED, ASKED, STARVED = 6, 7, 8
+ENDED = 111
 MOST_VALUES = MOST_FRAMES = 16
 
 _lib.sandbox_plugin_name.restype = _lib.sandbox_values.restype = _lib.sandbox_memory_size.restype = c.c_size_t
@@ -26,7 +34,7 @@ class Busy(Exception):
 
 
 class Ended(Exception):
-    """A call that didn't return: by a trap, by `proc_exit`, without memory, or without fuel. `told` says which, and `frames` has the
+    """A call that didn't return: by a trap, by `proc_exit`, without memory, without fuel, or for want of input where there is no `feed`. `told` says which, and `frames` has the
     functions that were at work then, the innermost first, 16 of them at most."""
 
     def __init__(self, told, frames):
@@ -35,15 +43,17 @@ class Ended(Exception):
 
 
 class Plugin:
-    """A valid module for any number of instances, in any threads, each with these `pages`; with `floats` it may have floating point."""
+    """A valid module for any number of instances, in any threads, each with these `pages`; with `floats` it may have floating point, and
+    with `fed` their input goes on."""
     _raw = None  # where it wasn't made
 
-    def __init__(self, given, pages=0, floats=False):
+    def __init__(self, given, pages=0, floats=False, fed=False):
         limits = _Limits(_number("pages", pages, MOST_32))
         self._bytes, self._raw, why = bytes(memoryview(given)), c.c_void_p(), _Why()
         self._pages, self._lock = limits.pages, threading.Lock()
         size, takes = c.c_size_t(len(self._bytes)), c.c_uint32(bool(floats))
-        _check(_lib.sandbox_plugin_load(c.byref(self._raw), self._bytes, size, c.byref(limits), takes, c.byref(why)), why.offset)
+        load = _lib.sandbox_plugin_load_fed if fed else _lib.sandbox_plugin_load
+        _check(load(c.byref(self._raw), self._bytes, size, c.byref(limits), takes, c.byref(why)), why.offset)
 
     def _name(self, part, index):
         length = _lib.sandbox_plugin_name(c.byref(self._raw), c.c_uint32(part), c.c_size_t(index), b"", c.c_size_t(0))
@@ -73,9 +83,10 @@ class Plugin:
         """What a function of this index is called, as `sandbox.function_name` has it."""
         return sandbox.function_name(self._bytes, function)
 
-    def instance(self, imports=None, **supplies):
-        """An instance, which is given `imports` by module name and name, and the rest as a session is."""
-        return Instance(self, imports or {}, **{"pages": self._pages, **supplies})
+    def instance(self, imports=None, feed=None, **supplies):
+        """An instance, which is given `imports` by module name and name, and the rest as a session is. Of a plugin that is `fed`, `input` is what
+        is there at the opening, and `feed(wanted)` gives more."""
+        return Instance(self, imports or {}, feed=feed, **{"pages": self._pages, **supplies})
 
     def __del__(self):
         if self._raw:
@@ -86,8 +97,9 @@ class Instance(Session):
     """An instance: its exported functions are called, one after another, over a volume that is kept over its life. Its start function
     and its `_initialize` have run when it is made, with at most `fuel` units."""
 
-    def __init__(self, plugin, imports, fuel=10**9, **supplies):
+    def __init__(self, plugin, imports, fuel=10**9, feed=None, **supplies):
         self._imports, self._names, self._at_work = dict(imports), plugin.imports(), False
+        self._more = feed
         super().__init__(plugin, **supplies)
         self._through(_number("fuel", fuel, MOST_64))
 
@@ -124,11 +136,32 @@ class Instance(Session):
     def _write(self, address, given):
         return _lib.sandbox_memory_write(c.byref(self._raw), c.c_uint32(address), given, c.c_size_t(len(given)))
 
+    def _feed(self, given):
+        return _lib.sandbox_feed(c.byref(self._raw), given, c.c_size_t(len(given)))
+
+    def _feed_end(self):
+        return _lib.sandbox_feed_end(c.byref(self._raw))
+
     def _let_go(self):
         return _lib.sandbox_abandon(c.byref(self._raw))
 
     def _finish(self):
         return _lib.sandbox_instance_finish(c.byref(self._raw))
+
+    def _take_more(self, wanted):
+        given = sandbox._bytes(self._more(wanted))
+        if given:
+            self.feed(given)
+        else:
+            self.end_input()
+
+    def feed(self, given):
+        """Hands over bytes of the input, at any time; behind its end they are refused (`ENDED`)."""
+        _check(self._feed(sandbox._bytes(given)))
+
+    def end_input(self):
+        """Says that no more bytes of the input come."""
+        _check(self._feed_end())
 
     def _through(self, fuel):
         """Goes on until what runs has returned, and gives its result."""
@@ -140,6 +173,8 @@ class Instance(Session):
                 if told.kind == ASKED:
                     self._serve(told.call)
                     self._used += 1
+                elif told.kind == STARVED and self._more is not None:
+                    self._take_more(told.code)
                 elif told.kind == RETURNED:
                     return next(iter(self._values()), None)
                 elif told.kind != CALLED:

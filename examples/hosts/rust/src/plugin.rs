@@ -29,6 +29,16 @@ impl<'a> Plugin<'a> {
         Ok(Plugin { raw, bytes: PhantomData })
     }
 
+    /// The same, for instances whose input goes on: `supplies.input` is what is there at the opening, and a guest that reads more than is
+    /// there waits, which is [`Step::Starved`].
+    pub fn load_fed(bytes: &'a [u8], limits: Limits, holds: Holds) -> Result<Plugin<'a>, Refused> {
+        let (mut raw, mut why) = (null_mut(), sys::Why::default());
+        // SAFETY: as of `load`.
+        let number = unsafe { sys::sandbox_plugin_load_fed(&mut raw, bytes.as_ptr(), bytes.len(), &limits_of(limits), holds as u32, &mut why) };
+        answered_at(number, why.offset)?;
+        Ok(Plugin { raw, bytes: PhantomData })
+    }
+
     /// The same module again, for another thread.
     pub fn share(&mut self) -> Result<Plugin<'a>, Refused> {
         let mut other = Plugin { raw: null_mut(), bytes: PhantomData };
@@ -110,6 +120,18 @@ impl<'a, 's> Instance<'a, 's> {
         answered(unsafe { sys::sandbox_abandon(&mut self.raw) })
     }
 
+    /// Hands over bytes of its input, of a module that [`Plugin::load_fed`] has loaded. Behind the end they are refused, with 111.
+    pub fn feed(&mut self, bytes: &[u8]) -> Result<(), Refused> {
+        // SAFETY: `raw` is an instance, and the bytes have their length; they are copied.
+        answered(unsafe { sys::sandbox_feed(&mut self.raw, bytes.as_ptr(), bytes.len()) })
+    }
+
+    /// Says that no more bytes of its input come.
+    pub fn end_input(&mut self) -> Result<(), Refused> {
+        // SAFETY: `raw` is an instance.
+        answered(unsafe { sys::sandbox_feed_end(&mut self.raw) })
+    }
+
     /// The functions at work, the innermost first: after a trap, or where memory was refused, those of then, until the next call or
     /// [`Instance::abandon`].
     pub fn frames(&mut self) -> Vec<Frame> {
@@ -186,6 +208,8 @@ pub enum Step<'i, 'a, 's> {
     Called { call: u32, errno: u32, rest: Call<'i, 'a, 's> },
     /// The units are used.
     Spent(Call<'i, 'a, 's>),
+    /// It reads its input and asks for so many bytes: fewer are there, and more may come. It stands before that read.
+    Starved { wanted: u32, rest: Call<'i, 'a, 's> },
     /// `proc_exit`: the instance is over.
     Exited(u32),
     /// The number is the header's. Another function can be called.
@@ -207,8 +231,19 @@ impl<'i, 'a, 's> Call<'i, 'a, 's> {
             4 => Step::Called { call: told.call, errno: told.code, rest: self },
             6 => Step::Returned(self.instance.values().first().copied()),
             7 => Step::Asked(Question { import: told.call as usize, arguments: self.instance.values(), call: self }),
+            8 => Step::Starved { wanted: told.code, rest: self },
             _ => Step::Spent(self),
         })
+    }
+
+    /// As [`Instance::feed`].
+    pub fn feed(&mut self, bytes: &[u8]) -> Result<(), Refused> {
+        self.instance.feed(bytes)
+    }
+
+    /// As [`Instance::end_input`].
+    pub fn end_input(&mut self) -> Result<(), Refused> {
+        self.instance.end_input()
     }
 
     /// The functions at work, the innermost first: where it stopped when its units were used, or at a call of WASI.
@@ -216,7 +251,7 @@ impl<'i, 'a, 's> Call<'i, 'a, 's> {
         self.instance.frames()
     }
 
-    /// Goes on until it returns or ends, or as many units are used by it; `serve` answers each function of the host.
+    /// Goes on until it returns or ends, waits for input, or as many units are used by it; `serve` answers each function of the host.
     pub fn run(self, units: u64, mut serve: impl FnMut(&mut Question<'i, 'a, 's>) -> Option<u64>) -> Result<Step<'i, 'a, 's>, Refused> {
         let end = self.instance.used.saturating_add(units);
         let mut call = self;

@@ -106,6 +106,7 @@ extern "C" {
     pub fn sandbox_close(session: *mut *mut OpaqueSession) -> u32;
     pub fn sandbox_close_loaded(session: *mut *mut OpaqueSession, module: *mut *mut OpaqueModule) -> u32;
     pub fn sandbox_plugin_load(plugin: *mut *mut OpaquePlugin, bytes: *const u8, length: usize, limits: *const Limits, floats: u32, why: *mut Why) -> u32;
+    pub fn sandbox_plugin_load_fed(plugin: *mut *mut OpaquePlugin, bytes: *const u8, length: usize, limits: *const Limits, floats: u32, why: *mut Why) -> u32;
     pub fn sandbox_plugin_share(other: *mut *mut OpaquePlugin, plugin: *mut *mut OpaquePlugin) -> u32;
     pub fn sandbox_plugin_name(plugin: *mut *mut OpaquePlugin, part: u32, index: usize, room: *mut u8, length: usize) -> usize;
     pub fn sandbox_plugin_unload(plugin: *mut *mut OpaquePlugin) -> u32;
@@ -120,6 +121,8 @@ extern "C" {
     pub fn sandbox_values(instance: *mut *mut OpaqueSession, room: *mut u64, length: usize) -> usize;
     pub fn sandbox_answer(instance: *mut *mut OpaqueSession, results: *const u64, count: usize) -> u32;
     pub fn sandbox_abandon(instance: *mut *mut OpaqueSession) -> u32;
+    pub fn sandbox_feed(instance: *mut *mut OpaqueSession, bytes: *const u8, length: usize) -> u32;
+    pub fn sandbox_feed_end(instance: *mut *mut OpaqueSession) -> u32;
     pub fn sandbox_memory_size(instance: *mut *mut OpaqueSession) -> usize;
     pub fn sandbox_memory_read(instance: *mut *mut OpaqueSession, address: u32, room: *mut u8, length: usize) -> u32;
     pub fn sandbox_memory_write(instance: *mut *mut OpaqueSession, address: u32, bytes: *const u8, length: usize) -> u32;

@@ -51,6 +51,31 @@ fn a_call_is_answered_once() {
     assert!(matches!(call.go(9), Ok(Step::Returned(Some(41)))));
 }
 
+/// `read` hands its four numbers on to fd_read.
+const READER: &[u8] = b"\0asm\x01\0\0\0\x01\x09\x01`\x04\x7f\x7f\x7f\x7f\x01\x7f\x02\x22\x01\x16wasi_snapshot_preview1\x07fd_read\0\0\
+    \x03\x02\x01\0\x05\x03\x01\0\x01\x07\x08\x01\x04read\0\x01\x0a\x0e\x01\x0c\0 \0 \x01 \x02 \x03\x10\0\x0b";
+
+#[test]
+fn a_guest_waits_for_its_input() {
+    let mut plugin = Plugin::load_fed(READER, FEW, Holds::Integers).expect("it is loaded");
+    let mut instance = opened(&mut plugin);
+    instance.write(16, &[0, 4, 0, 0, 3, 0, 0, 0]).expect("it is written");
+    instance.feed(b"a").expect("it is fed");
+    let call = instance.call("read", &[0, 16, 1, 512]).expect("it is called");
+    let Ok(Step::Starved { wanted: 3, mut rest }) = call.go(100) else { panic!("it waits") };
+    rest.feed(b"bcd").expect("it is fed");
+    let Ok(Step::Returned(Some(0))) = rest.run(100, |_| None) else { panic!("it returns") };
+    let mut room = [0; 3];
+    instance.read(1024, &mut room).expect("it is read");
+    assert_eq!(&room, b"abc");
+    let Ok(Step::Starved { mut rest, .. }) = instance.call("read", &[0, 16, 1, 512]).expect("it is called").go(100) else { panic!("it waits") };
+    rest.end_input().expect("it ends");
+    assert_eq!(rest.feed(b"e").map_err(|it| it.number), Err(111));
+    assert!(matches!(rest.run(100, |_| None), Ok(Step::Returned(Some(0)))));
+    instance.read(512, &mut room).expect("it is read");
+    assert_eq!(room[0], 1);
+}
+
 #[test]
 fn a_trap_leaves_an_instance() {
     let mut plugin = Plugin::load(GUEST, FEW, Holds::Integers).expect("it is loaded");

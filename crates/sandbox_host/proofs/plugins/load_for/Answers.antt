@@ -1,7 +1,7 @@
 use Rattle.std.proofs.Common.{◌∙◌, ap, refl, inr}
 use Rattle.sandbox_host.specs.declared.handle.Handle.{Handle}
 use Rattle.sandbox_host.proofs.Closed.{none_of}
-use Rattle.sandbox_host.proofs.plugins.load_plugin.Goals as goal
+use Rattle.sandbox_host.proofs.plugins.load_for.Goals as goal
 
 -- memory for the handle was refused
 pub returns-in-Ok-make_plugin-clause-refused : goal.returns-in-Ok-make_plugin-clause-refused
