@@ -1,7 +1,5 @@
 -- What is done with the machine is done with a machine of the whole instance.
-use Rattle.std.proofs.Common.{◌≡◌, ℕ, suc, ◌+◌, ◌-◌, ◌<◌, List, [], ◌∷◌, length, take, drop, reverse, Option, Some, None, Bool, true, false, refl, sym, ap, subst, ◌∙◌, arith, ◌≤◌, inl, inr, Result, Ok, Err}
-use Rattle.std.specs.Prelude.{IfOk}
-use Rattle.std.specs.Bool.{OnFalse, OnTrue}
+use Rattle.std.proofs.Common.{◌≡◌, ℕ, suc, ◌+◌, ◌-◌, ◌<◌, List, [], ◌∷◌, length, take, drop, reverse, Option, Some, None, Bool, true, false, refl, sym, ap, subst, ◌∙◌, arith, ◌≤◌, inl, inr}
 use Rattle.std.proofs.Math.Nat.{eq-or-lt_of_le}
 use Rattle.wasm_syntax.specs.declared.module.FuncType.{FuncType}
 use Rattle.wasm_syntax.specs.declared.module.Module.{Module}
@@ -18,6 +16,7 @@ use Rattle.wasm_operands.specs.declared.phase.Ask.{Ask}
 use Rattle.wasm_places.specs.declared.invocable.Event.{Event}
 use Rattle.wasm_places.specs.declared.invocable.Event.TheVariants.{Asked, Paused, Returned}
 use Rattle.wasm_places.specs.FunctionTypes.{IsImportType}
+use Rattle.wasm_interp.specs.Invoking.{IsAsking}
 use Rattle.wasm_interp.specs.Invocations.{AnswersBy, AsksBy, IsAskedFor, OffersBy, ReturnsBy, TellsStores}
 use Rattle.wasm_interp.specs.Promises.{PausesBy, ResumedBy}
 use Rattle.wasm_interp.proofs.PlainSteps.Refusing.{ask_once}
@@ -32,10 +31,10 @@ use Rattle.deferred_calls.proofs.Machines.{machines_defer}
 use Rattle.fed_input.specs.Feeding.{Fed}
 use Rattle.plugin_session.specs.States.{DoesBy, InstanceState}
 use Rattle.plugin_session.specs.Deferring.{GivesErrno, GoesTo, Grants}
-use Rattle.plugin_session.proofs.Doing.{may_go_on, rises}
+use Rattle.plugin_session.proofs.Doing.{may_go_on, progresses, rises}
 use Rattle.plugin_session.proofs.Granting.{settled}
 use Rattle.fed_session.specs.Waiting.{deferred_at}
-use Rattle.fed_session.specs.Feeding.{Around, FedState, Goes, RepresentsWhole, Starves, fed_devices}
+use Rattle.fed_session.specs.Feeding.{Around, FedState, Goes, RepresentsWhole, Starves, Waits, fed_devices}
 use Rattle.fed_session.specs.declared.feeding.FedEvent.{FedEvent}
 use Rattle.fed_session.specs.declared.feeding.FedEvent.TheVariants as events
 use Rattle.fed_session.proofs.Waiting.{deferred_is, function_types, waits_read}
@@ -220,10 +219,11 @@ module _ {D W1 W2 : Type 0} (a : Around D W1 W2) (goes_on : Bool) where
       let one : new.machine.used ≡ suc asking.machine.used = granted.answers.used ∙ ap (λ (z : Snapshot). suc z.used) granted.offers.left.is in
       (omega (arith, rises.0, one), omega (arith, left, one))
 
--- with one of two answers
-pub if_ok : {A E : Type 0} (P Q : A → Type 0) (r : Result A E) → ((x : A) → P x → Q x) → IfOk r P → IfOk r Q
-if_ok P Q (Ok x) f p = f x p
-if_ok P Q (Err e) f p = tt
+  -- ...and that a read takes one
+  pub took_grant : (old asking new : S) (units x : ℕ) (call : HostCall) (e : Errno) → GoesTo (fed_devices a) old asking units (Asked x) → Grants (fed_devices a) asking new call e → old.machine.used < new.machine.used
+  took_grant old asking new units x call e k granted =
+      let one : new.machine.used ≡ suc asking.machine.used = granted.answers.used ∙ ap (λ (z : Snapshot). suc z.used) granted.offers.left.is in
+      omega (arith, (k.asked x refl).units_rise.0, one)
 
 -- ---- what waits
 
@@ -261,21 +261,32 @@ module _ {D W1 W2 : Type 0} (a : Around D W1 W2) (goes_on : Bool) where
   goes_to_event old new units e none k = record {
     does = (does_go a goes_on old new units e none k, refl);
     within = rises (HostState D Fed W1 W2) (Calls (fed_devices a)) old.host new.host old.machine new.machine units e k.returned k.asked k.paused;
+    progress = inr (progresses (HostState D Fed W1 W2) (Calls (fed_devices a)) old.host new.host old.machine new.machine units e k.paused);
     starves = λ count is. cc;
   }
 
-  pub goes_to_ask : (old asking new : T) (units x : ℕ) → GoesTo (fed_devices a) old asking units (Asked x) → new ≡ record asking { stage = asked_at asking.stage } → Goes a (fed_state old) (fed_state new) units (events.Event (Asked x))
-  goes_to_ask old asking new units x k is =
+  went_to_ask : (old asking new : T) (units x : ℕ) → GoesTo (fed_devices a) old asking units (Asked x) → new ≡ record asking { stage = asked_at asking.stage } → Goes a (fed_state old) (fed_state new) units (events.Event (Asked x))
+  went_to_ask old asking new units x k is =
       subst (λ (z : T). Goes a (fed_state old) (fed_state z) units (events.Event (Asked x))) (sym is) (record {
         does = (does_ask a goes_on old asking units x k, refl);
         within = (k.asked x refl).units_rise;
+        progress = inr tt;
         starves = λ count is. cc;
       })
+
+  pub goes_to_ask : (old asking new : T) (units x : ℕ) (e : Event) → e ≡ Asked x → GoesTo (fed_devices a) old asking units e → new ≡ record asking { stage = asked_at asking.stage } → Goes a (fed_state old) (fed_state new) units (events.Event e)
+  goes_to_ask old asking new units x e same k is =
+      subst (λ (z : Event). GoesTo (fed_devices a) old asking units z → Goes a (fed_state old) (fed_state new) units (events.Event z)) (sym same) (λ j. went_to_ask old asking new units x j is) k
+
+  -- it asks for this
+  pub asked_here : (old new : T) (units x : ℕ) (e : Event) → e ≡ Asked x → GoesTo (fed_devices a) old new units e → GoesTo (fed_devices a) old new units (Asked x)
+  asked_here old new units x e same k = subst (λ (z : Event). GoesTo (fed_devices a) old new units z) same k
 
   pub goes_to_spent : (old new : T) (units x : ℕ) → GoesTo (fed_devices a) old new units (Asked x) → new.machine.used ≡ old.machine.used + units → Goes a (fed_state old) (fed_state new) units (events.Event (Paused Spent))
   goes_to_spent old new units x k all = record {
     does = (does_wait a goes_on old new units x k, refl);
     within = all;
+    progress = inr tt;
     starves = λ count is. cc;
   }
 
@@ -283,33 +294,49 @@ module _ {D W1 W2 : Type 0} (a : Around D W1 W2) (goes_on : Bool) where
   count_of n (events.Event e) = n
   count_of n (events.Starved count) = count
 
-  pub goes_to_wait : (old asking new : T) (units x count : ℕ) → GoesTo (fed_devices a) old asking units (Asked x) → (asking.machine.used ≡ old.machine.used + units → ⊥) → Starves asking count → new ≡ asking
-      → Goes a (fed_state old) (fed_state new) units (events.Starved count)
+  pub goes_to_wait : (old asking : T) (new : FedState D W1 W2) (units x count : ℕ) → GoesTo (fed_devices a) old asking units (Asked x) → (asking.machine.used ≡ old.machine.used + units → ⊥) → Starves asking count
+      → new ≡ fed_state asking → Goes a (fed_state old) new units (events.Starved count)
   unfolding count_of
   goes_to_wait old asking new units x count k left starves is =
       let risen = (k.asked x refl).units_rise in
-      subst (λ (z : T). Goes a (fed_state old) (fed_state z) units (events.Starved count)) (sym is) (record {
+      subst (λ (z : FedState D W1 W2). Goes a (fed_state old) z units (events.Starved count)) (sym is) (record {
         does = (does_wait a goes_on old asking units x k, refl);
         within = (risen.0, below risen.1 left);
+        progress = tt;
         starves = λ other same. subst (λ (n : ℕ). Starves asking n) (ap (count_of count) same) starves;
       })
 
-  pub goes_to_grant : (old asking new : T) (units x : ℕ) (e : Errno) → GoesTo (fed_devices a) old asking units (Asked x) → (asking.machine.used ≡ old.machine.used + units → ⊥)
+  went_to_grant : (old asking new : T) (units x : ℕ) (e : Errno) → GoesTo (fed_devices a) old asking units (Asked x) → (asking.machine.used ≡ old.machine.used + units → ⊥)
       → ((y : ℕ) (f : FuncType) (args : List ℕ) → IsAskedFor asking.machine y f args → deferred_at goes_on asking.machine.valid y ≡ Some FdRead)
       → Grants (fed_devices a) asking new FdRead e → Goes a (fed_state old) (fed_state new) units (events.Event (Paused (Called FdRead e)))
-  goes_to_grant old asking new units x e k left waits granted =
+  went_to_grant old asking new units x e k left waits granted =
       let less = below (k.asked x refl).units_rise.1 left in
       record {
         does = (does_grant a goes_on old asking new units x FdRead e k less waits granted, refl);
         within = rises_grant a goes_on old asking new units x FdRead e k less granted;
+        progress = inl (took_grant a goes_on old asking new units x FdRead e k granted);
         starves = λ count is. cc;
       }
 
--- by whether it holds
-pub on_true : (b : Bool) (P Q : Type 0) → (P → Q) → OnTrue b P → OnTrue b Q
-on_true true P Q f p = f p
-on_true false P Q f p = tt
+  -- the host answers where it was looked whether the guest waits, which changed nothing
+  pub goes_to_grant : (old asking : T) (here there : FedState D W1 W2) (new : T) (units x : ℕ) (e : Errno) → GoesTo (fed_devices a) old asking units (Asked x) → (asking.machine.used ≡ old.machine.used + units → ⊥)
+      → ((y : ℕ) (f : FuncType) (args : List ℕ) → IsAskedFor asking.machine y f args → deferred_at goes_on asking.machine.valid y ≡ Some FdRead)
+      → here ≡ there → there ≡ fed_state asking → Grants (fed_devices a) here.instance new FdRead e → Goes a (fed_state old) (record here { instance = new }) units (events.Event (Paused (Called FdRead e)))
+  goes_to_grant old asking here there new units x e k left waits seen kept =
+      subst (λ (z : FedState D W1 W2). Grants (fed_devices a) z.instance new FdRead e → Goes a (fed_state old) (record z { instance = new }) units (events.Event (Paused (Called FdRead e)))) (sym (seen ∙ kept))
+      (went_to_grant old asking new units x e k left waits)
 
-pub on_false : (b : Bool) (P Q : Type 0) → (P → Q) → OnFalse b P → OnFalse b Q
-on_false true P Q f p = tt
-on_false false P Q f p = f p
+-- what was asked is asked for still
+module _ {D W1 W2 : Type 0} where
+  pub still_asked : (goes_on : Bool) (s : InstanceState D Fed W1 W2) (here there : FedState D W1 W2) → here ≡ there → there ≡ record { instance = s; goes_on = goes_on } → Waits (record { instance = s; goes_on = goes_on }) → IsAsking here.instance.machine
+  still_asked goes_on s here there seen kept k = subst (λ (z : FedState D W1 W2). IsAsking z.instance.machine) (sym (seen ∙ kept)) (k.0, k.1, k.2, k.3)
+
+  pub still_typed : (goes_on : Bool) (s : InstanceState D Fed W1 W2) (here there : FedState D W1 W2) → here ≡ there → there ≡ record { instance = s; goes_on = goes_on } → Waits (record { instance = s; goes_on = goes_on }) → GivesErrno here.instance.machine
+  still_typed goes_on s here there seen kept k = subst (λ (z : FedState D W1 W2). GivesErrno z.instance.machine) (sym (seen ∙ kept)) (gives_errno goes_on s.machine k.0 k.1 k.2 k.3 k.4)
+
+  -- a guest that doesn't wait didn't before it was looked at
+  abbrev Never : FedState D W1 W2 → Type 0
+  Never s = (x : ℕ) (f : FuncType) (arguments : List ℕ) → IsAskedFor s.instance.machine x f arguments → deferred_at s.goes_on s.instance.machine.valid x ≡ None
+
+  pub never_before : (s t : FedState D W1 W2) → s ≡ t → Never t → Never s
+  never_before s t same never = subst (λ (z : FedState D W1 W2). Never z) (sym same) never

@@ -1,4 +1,7 @@
+mod Branches
 mod Waiting
+mod Opening
 mod Acting
 mod Pieces
+mod Refusing
 mod Wholes

@@ -42,7 +42,7 @@ link_in l (Some k) = k
 
 -- one that is the embedder's by both
 embedders : (may may' : Bool) (n : ℕ) (l : Linked) → (may ≡ true → may' ≡ true) → (if may then Some (Embedder n) else None) ≡ Some l → (if may' then Some (Embedder n) else None) ≡ Some (whole_link None l)
-unfolding is_some
+unfolding is_some link_in
 embedders false may' n l safe e = absurd (true≢false (sym (ap is_some e)))
 embedders true may' n l safe e =
     subst (λ (z : Bool). (if z then Some (Embedder n) else None) ≡ Some (whole_link None l)) (sym (safe refl)) (subst (λ (z : Linked). Some (Embedder n) ≡ Some (whole_link None z)) (ap (link_in l) e) refl)
@@ -111,6 +111,20 @@ are_parts goes_on m all = record {
       let may = may_embed (reserved_at goes_on) i.module_name f in
       numbered may n number o (sym (is_with o may n) ∙ e);
 }
+
+-- where nothing goes on, they are all of them
+hosts_or_embedders : (l : Linked) → l ≡ whole_link None l
+hosts_or_embedders (Host c) = refl
+hosts_or_embedders (Embedder k) = refl
+
+-- or each that is left is the embedder's, or waits
+pub parts_if : (goes_on : Bool) (m : Module) (all : Bool) → OnTrue all (AreAnswered m) → goes_on ≡ true → OnTrue all (AreParts (deferred_at goes_on) m links (parts_at goes_on))
+parts_if goes_on m true answered on = are_parts goes_on m answered
+parts_if goes_on m false answered on = tt
+
+pub not_parts_if : (goes_on : Bool) (m : Module) (all : Bool) → OnFalse all (AreAnswered m → ⊥) → goes_on ≡ true → OnFalse all ((goes_on ≡ true) × (AreAnswered m → ⊥))
+not_parts_if goes_on m true not on = tt
+not_parts_if goes_on m false not on = (on, not)
 
 -- ---- what a read gives
 
@@ -262,5 +276,22 @@ answered_next m k here before = record {
   ];
 }
 
+-- past the last one
+pub ended : (imports : List Import) (k n : ℕ) → n ≡ length imports → n ≤ k → length imports ≤ k
+ended imports k n all past = omega (arith, all, past)
+
 pub all_answered : (m : Module) (k : ℕ) → length m.imports ≤ k → AnsweredBefore m k → AreAnswered m
 all_answered m k all before n u = before.each n (omega (arith, all, slice_get_within m.imports n u.is_type.import u.is_type.is_import)) u
+
+-- ---- where nothing goes on, the machine's links are those of the whole
+
+pub all_parts : (goes_on : Bool) (m : Module) → goes_on ≡ false → AreParts (deferred_at goes_on) m links (parts_at goes_on)
+all_parts true m off = absurd (true≢false off)
+all_parts false m off = record {
+  whole = λ n f t l e. e ∙ ap Some (hosts_or_embedders l) ∙ ap (λ (z : Option HostCall). Some (whole_link z l)) (sym (none_waits m n));
+  numbered = λ n f t number e.
+      let i = t.import in
+      let o = link i.module_name i.name f in
+      let may = may_embed (reserved_at false) i.module_name f in
+      numbered may n number o (sym (is_with o may n) ∙ e);
+}

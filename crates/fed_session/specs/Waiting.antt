@@ -82,9 +82,9 @@ pub record IsUnanswered (m : Module) (n : ℕ) : Type 0 where
 abbrev pub AreAnswered : Module → Type 0
 AreAnswered m = (n : ℕ) → IsUnanswered m n → ⊥
 
--- an imported function is nobody's, or the module has no instance by these links
+-- an imported function is nobody's, where reads wait; or the module has no instance by these links
 abbrev pub NotReady : Bool → ℕ → Module → InstanceFault → Type 0
-NotReady goes_on pages m fault = ((fault ≡ faults.Import) × (AreAnswered m → ⊥)) ⊎ NotAllocated (parts_at goes_on) pages m fault
+NotReady goes_on pages m fault = ((goes_on ≡ true) × (fault ≡ faults.Import) × (AreAnswered m → ⊥)) ⊎ NotAllocated (parts_at goes_on) pages m fault
 
 -- what callers see of a module that is ready for instances, and whether their reads wait
 pub record FedReady : Type 0 where

@@ -11,9 +11,9 @@ ghost use Rattle.plugin_session.specs.Refusals.{RefusesCall, RefusesWrite, not_g
 ghost use Rattle.plugin_session.specs.Instance.{limited_to, session_of};
 ghost use Rattle.fed_input.specs.Feeding.{IsNotFed};
 ghost use Rattle.fed_session.specs.Waiting.{deferred_at};
-ghost use Rattle.fed_session.specs.Feeding.{Answers, Does, Ends, Feeds, Goes, Invokes, Opens, RefusesAnswerOf, Starves, around, used_by};
+ghost use Rattle.fed_session.specs.Feeding.{Answers, Does, Ends, Feeds, Goes, Invokes, IsRefused, Opens, RefusesAnswerOf, Starves, Waits, around, used_by};
 
-use crate::linking::{FedLinker, is_deferred};
+use crate::linking::is_deferred;
 use crate::plugin::FedPlugin;
 use fed_input::{FedInput, NotFed};
 use plugin_session::{Instance, Misuse};
@@ -61,7 +61,7 @@ where
     ghost use Rattle.sandbox_core.specs.Session.{HandsBack, Shares};
 
     /// An instance of the module, which has used nothing yet, as `Instance::new` of plugin_session makes one. The settings have the
-    /// pages that the module was prepared for.
+    /// pages that the module was prepared for. A refusal hands everything back, and comes in the same order.
     pub fn new(
         alloc: Global,
         plugin: &FedPlugin<'a>,
@@ -80,8 +80,9 @@ where
         ensures hands_back { IfErr result (λ r. HandsBack D.Device plugin.now.ready.valid
             (given settings.entry volume input out err)
             (record { valid = plugin.now.ready.valid; parts = r.parts; fault = r.fault })) }
+        ensures refused { IfErr result (λ r. IsRefused plugin.now.goes_on D.honest r.fault
+            plugin.now.ready.valid (given settings.entry volume input out err)) }
     {
-        volume.is_a_tree(); // a law for the contract
         let parts = HostParts {
             settings,
             volume,
@@ -89,6 +90,25 @@ where
             out,
             err,
         };
+        FedInstance::of_parts(alloc, plugin, parts)
+    }
+
+    /// The same, of parts that are packed.
+    pub fn of_parts(
+        alloc: Global,
+        plugin: &FedPlugin<'a>,
+        parts: HostParts<'s, 't, D, FedInput, W1, W2>,
+    ) -> Result<FedInstance<'a, 's, 't, D, W1, W2>, RefusedParts<'s, 't, D, FedInput, W1, W2>>
+        requires { parts.settings.pages ≡ plugin.now.ready.pages }
+        ensures opens { IfOk result (λ i. Opens plugin.now.goes_on plugin.now.ready.valid
+            parts.entry i.instance × (i.goes_on ≡ plugin.now.goes_on)) }
+        ensures shares { IfOk result (λ i. Shares D.Device parts.entry (session_of i.instance)) }
+        ensures hands_back { IfErr result (λ r. HandsBack D.Device plugin.now.ready.valid parts.entry
+            (record { valid = plugin.now.ready.valid; parts = r.parts; fault = r.fault })) }
+        ensures refused { IfErr result (λ r. IsRefused plugin.now.goes_on D.honest r.fault
+            plugin.now.ready.valid parts.entry) }
+    {
+        parts.volume.is_a_tree(); // a law for the contract
         let mut host = match WasiHost::new(alloc, parts) {
             Ok(host) => host,
             Err(RefusedHost { parts, fault }) => {
@@ -98,9 +118,7 @@ where
                 });
             }
         };
-        let goes_on = plugin.goes_on;
-        let linker = FedLinker { goes_on };
-        let machine = match plugin.module.open(alloc, &linker, linker.reserved()) {
+        let machine = match plugin.open(alloc) {
             Ok(machine) => machine,
             Err(fault) => {
                 return Err(RefusedParts {
@@ -112,7 +130,7 @@ where
         match host.preopen() {
             Ok(()) => Ok(FedInstance {
                 instance: Instance::of(machine, host),
-                goes_on,
+                goes_on: plugin.goes_on,
             }),
             Err(fault) => Err(RefusedParts {
                 parts: host.into_parts(),
@@ -137,10 +155,7 @@ where
 
     /// Whether the guest stands before a read that waits.
     fn waits(&self) -> bool
-        ensures yes { OnTrue result ((x : ℕ) × (f : FuncTypeValue) × (arguments : List ℕ)
-            × IsAskedFor self.now.instance.machine x f arguments
-            × (deferred_at self.now.goes_on self.now.instance.machine.valid x
-            ≡ Some HostCall.FdRead)) }
+        ensures yes { OnTrue result (Waits self.now) }
         ensures no { OnFalse result ((x : ℕ) (f : FuncTypeValue) (arguments : List ℕ)
             → IsAskedFor self.now.instance.machine x f arguments
             → deferred_at self.now.goes_on self.now.instance.machine.valid x ≡ None) }
@@ -161,7 +176,9 @@ where
     {
         let wanted = self.instance.wanted_input()?;
         let input = self.instance.input();
-        if input.has_ended() || wanted <= input.held() as u64 {
+        let ended = input.has_ended();
+        let held = input.held() as u64;
+        if ended || wanted <= held {
             return None;
         }
         Some(wanted)
@@ -239,7 +256,7 @@ where
             (around D.Device W1.Write W2.Write W1.took W1.refused W2.took W2.refused) self.old
             self.new results.now) }
         ensures refused { IfErr result (λ e. (self.new ≡ self.old)
-            × RefusesAnswerOf self.old.instance results.now e) }
+            × RefusesAnswerOf self.old results.now e) }
     {
         if self.waits() {
             return Err(Misuse::NotAsked);

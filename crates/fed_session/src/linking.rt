@@ -3,7 +3,9 @@
 ghost use Rattle.std.specs.Prelude.{◌≡◌, None, Some, true};
 ghost use Rattle.std.specs.Bool.{OnFalse, OnTrue};
 ghost use Rattle.wasm_store.specs.Allocation.{may_embed};
-ghost use Rattle.fed_session.specs.Waiting.{AreAnswered, IsUnanswered, answered_at_once, deferred_at, gives_i32, reserved_at, waiting, waits_at};
+ghost use Rattle.deferred_calls.specs.Machines.{AreParts};
+ghost use Rattle.plugin_session.specs.States.{links};
+ghost use Rattle.fed_session.specs.Waiting.{AreAnswered, IsUnanswered, answered_at_once, deferred_at, gives_i32, parts_at, reserved_at, waiting, waits_at};
 
 use wasi_calls::call_of;
 use wasm_interp::MOST_ARGUMENTS;
@@ -137,7 +139,7 @@ fn is_unanswered(guest: &Module, index: usize) -> bool
 }
 
 /// Whether each imported function is the host's or the embedder's.
-pub fn are_answered(guest: &Module) -> bool
+fn are_answered(guest: &Module) -> bool
     ensures yes { OnTrue result (AreAnswered guest.now) }
     ensures no { OnFalse result (AreAnswered guest.now → ⊥) }
 {
@@ -147,4 +149,15 @@ pub fn are_answered(guest: &Module) -> bool
         }
     }
     true
+}
+
+/// Whether the calls of a module that wait are all that the machine leaves to its embedder of the whole instance's.
+pub fn can_wait(goes_on: bool, guest: &Module) -> bool
+    ensures yes { OnTrue result (AreParts (deferred_at goes_on) guest.now links (parts_at goes_on)) }
+    ensures no { OnFalse result ((goes_on ≡ true) × (AreAnswered guest.now → ⊥)) }
+{
+    if !goes_on {
+        return true;
+    }
+    are_answered(guest)
 }

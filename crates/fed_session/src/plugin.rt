@@ -1,12 +1,16 @@
 //! Modules that are ready for instances whose input goes on.
 
 ghost use Rattle.std.specs.Prelude.{◌≡◌, IfErr, IfOk};
-ghost use Rattle.fed_session.specs.Waiting.{NotReady};
+ghost use Rattle.wasm_store.specs.Allocating.{NotAllocated};
+ghost use Rattle.wasm_interp.specs.Invocations.{OpensBy};
+ghost use Rattle.plugin_session.specs.States.{links};
+ghost use Rattle.fed_session.specs.Waiting.{NotReady, parts_at};
+ghost use Rattle.fed_session.specs.Feeding.{RepresentsWhole};
 
-use crate::linking::{FedLinker, are_answered};
+use crate::linking::{FedLinker, can_wait};
 use std::alloc::{AllocError, Global};
 use std::marker::Model;
-use wasm_interp::{PreparedPlugin, RefusedInstance};
+use wasm_interp::{InvokedMachine, PreparedPlugin, RefusedInstance};
 use wasm_store::InstanceFault;
 use wasm_valid::Valid;
 
@@ -48,7 +52,7 @@ impl<'a> FedPlugin<'a> {
         ensures refused { IfErr result (λ r. (r.valid ≡ valid.entry)
             × NotReady goes_on pages valid.entry r.fault) }
     {
-        if !are_answered(valid.module()) {
+        if !can_wait(goes_on, valid.module()) {
             return Err(RefusedInstance {
                 valid,
                 fault: InstanceFault::Import,
@@ -70,6 +74,19 @@ impl<'a> FedPlugin<'a> {
             module,
             goes_on: self.goes_on,
         })
+    }
+
+    /// Opens a machine of the module, which leaves to its embedder what waits.
+    pub(crate) fn open(&self, alloc: Global) -> Result<InvokedMachine<'a>, InstanceFault>
+        ensures opens { IfOk result (OpensBy (RepresentsWhole self.now.goes_on) links
+            self.now.ready.pages self.now.ready.valid) }
+        ensures refused { IfErr result (NotAllocated (parts_at self.now.goes_on)
+            self.now.ready.pages self.now.ready.valid) }
+    {
+        let linker = FedLinker {
+            goes_on: self.goes_on,
+        };
+        self.module.open(alloc, &linker, linker.reserved())
     }
 
     /// The module that was prepared.

@@ -179,7 +179,7 @@ linked_once links types (i ∷ is) (c ∷ cs) (d ∷ ds) (l, ls) (m, ms) = λ k.
     callee : c ≡ d
     callee = l.callee ∙ ((λ k. imported (type k) (call k)) ∙ sym m.callee)
 
-own_once : (types : List FuncType) (xs : List ℕ) (bs : List Body) (cs ds : List Callee) → AreOwn types xs bs cs → AreOwn types xs bs ds → cs ≡ ds
+pub own_once : (types : List FuncType) (xs : List ℕ) (bs : List Body) (cs ds : List Callee) → AreOwn types xs bs cs → AreOwn types xs bs ds → cs ≡ ds
 own_once types [] [] [] [] o p = refl
 own_once types (x ∷ xs) (b ∷ bs) (c ∷ cs) (d ∷ ds) (o, os) (p, ps) = λ k. callee k ∷ own_once types xs bs cs ds os ps k
   where
@@ -200,7 +200,7 @@ own_once types (x ∷ xs) (b ∷ bs) (c ∷ cs) [] o p = absurd p
 
 -- ---- globals
 
-globals_once : (gs : List GlobalEntry) (vs us : List Val) → AreFirst gs vs → AreFirst gs us → vs ≡ us
+pub globals_once : (gs : List GlobalEntry) (vs us : List Val) → AreFirst gs vs → AreFirst gs us → vs ≡ us
 globals_once [] [] [] f g = refl
 globals_once [] [] (u ∷ us) f g = absurd g
 globals_once [] (v ∷ vs) us f g = absurd f
@@ -216,7 +216,7 @@ not_later n [] k d all low is = omega (arith, low)
 not_later n (e ∷ es) zero d (first, rest) low is = first is
 not_later n (e ∷ es) (suc k) d (first, rest) low is = not_later n es k d rest (omega (arith, low)) is
 
-one_place : (es : List Export) → AreApart (map (λ (e : Export). e.name) es) → (a b : Export) → a.name ≡ b.name → (j k : ℕ) → j < length es → k < length es → get_or es j a ≡ a → get_or es k b ≡ b → a ≡ b
+pub one_place : (es : List Export) → AreApart (map (λ (e : Export). e.name) es) → (a b : Export) → a.name ≡ b.name → (j k : ℕ) → j < length es → k < length es → get_or es j a ≡ a → get_or es k b ≡ b → a ≡ b
 one_place [] apart a b same j k low below is also = absurd (omega (arith, low))
 one_place (e ∷ es) apart a b same zero zero low below is also = sym is ∙ also
 one_place (e ∷ es) apart a b same zero (suc k) low below is also =

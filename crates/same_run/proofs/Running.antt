@@ -22,6 +22,12 @@ seen_append : (ev : Event) (es fs : List (HostCall × Errno)) → seen ev (es ++
 seen_append silent es fs = refl
 seen_append (answers call e) es fs = refl
 
+-- no step is made from here
+abbrev pub IsDone : Code → Type 0
+IsDone (code vs done) = Unit {0}
+IsDone (stopped w) = Unit {0}
+IsDone other = ⊥
+
 module _ (H : Type 0) (Calls : CallsOf H) (i : Instance) where
   abbrev Run : H → Configuration → List (HostCall × Errno) → H → Configuration → Type 0
   Run = Reach H Calls i
@@ -31,7 +37,7 @@ module _ (H : Type 0) (Calls : CallsOf H) (i : Instance) where
 
   -- a failure that stays was none before
   module _ (failed : H → Bool) (stay : FailuresStay H Calls failed) where
-    step_sound : {n : ℕ} {h h' : H} {c c' : Configuration} {ev : Event} → Step H Calls i n h c ev h' c' → failed h' ≡ false → failed h ≡ false
+    pub step_sound : {n : ℕ} {h h' : H} {c c' : Configuration} {ev : Event} → Step H Calls i n h c ev h' c' → failed h' ≡ false → failed h ≡ false
     step_sound (plain_step rule) sound = sound
     step_sound (free_step rule) sound = sound
     step_sound (host_answers args vs callee is count answered) sound = stay _ _ _ _ _ _ _ _ answered sound
@@ -39,20 +45,24 @@ module _ (H : Type 0) (Calls : CallsOf H) (i : Instance) where
     step_sound (in_label step) sound = step_sound step sound
     step_sound (in_frame step) sound = step_sound step sound
 
-    reach_sound : {h h' : H} {c c' : Configuration} {es : List (HostCall × Errno)} → Run h c es h' c' → failed h' ≡ false → failed h ≡ false
+    pub reach_sound : {h h' : H} {c c' : Configuration} {es : List (HostCall × Errno)} → Run h c es h' c' → failed h' ≡ false → failed h ≡ false
     reach_sound stays sound = sound
     reach_sound (goes ev es step rest) sound = step_sound step (reach_sound rest sound)
 
-  moved : (h : H) (c d : Configuration) → c ≡ d → (es : List (HostCall × Errno)) (h' : H) (c' : Configuration) → Run h d es h' c' → Run h c es h' c'
-  moved h c d same es h' c' run = subst (λ (x : Configuration). Run h x es h' c') (sym same) run
+  -- a run that was refused no memory
+  abbrev pub Given : H → Configuration → List (HostCall × Errno) → H → Configuration → Type 0
+  Given h c es h' c' = (run : Run h c es h' c') × (WasRefusedMemory run → ⊥)
+
+  moved : (h : H) (c d : Configuration) → c ≡ d → (es : List (HostCall × Errno)) (h' : H) (c' : Configuration) → Given h d es h' c' → Given h c es h' c'
+  moved h c d same es h' c' run = subst (λ (x : Configuration). Given h x es h' c') (sym same) run
 
   module _ (Same : H → H → Type 0) (failed : H → Bool) (alike : AnswersAlike H Calls i Same failed) (stay : FailuresStay H Calls failed) where
     -- From a host that is the same as that of the end of one the other goes on.
     abbrev pub GoesOnAs : H → Configuration → List (HostCall × Errno) → H → Configuration → List (HostCall × Errno) → Type 0
-    GoesOnAs h1 c1 es1 h2 c2 es2 = (more : List (HostCall × Errno)) × (g : H) × Same h1 g × (es2 ≡ es1 ++ more) × Run g c1 more h2 c2
+    GoesOnAs h1 c1 es1 h2 c2 es2 = (more : List (HostCall × Errno)) × (g : H) × Same h1 g × (es2 ≡ es1 ++ more) × Given g c1 more h2 c2
 
     abbrev pub GoneOnAs : H → Configuration → List (HostCall × Errno) → H → Configuration → List (HostCall × Errno) → Type 0
-    GoneOnAs h1 c1 es1 h2 c2 es2 = (more : List (HostCall × Errno)) × (g : H) × Same g h2 × (es1 ≡ es2 ++ more) × Run g c2 more h1 c1
+    GoneOnAs h1 c1 es1 h2 c2 es2 = (more : List (HostCall × Errno)) × (g : H) × Same g h2 × (es1 ≡ es2 ++ more) × Given g c2 more h1 c1
 
     one_more : (ev1 ev2 : Event) (es1 es2 more : List (HostCall × Errno)) → ev1 ≡ ev2 → es2 ≡ es1 ++ more → seen ev2 es2 ≡ seen ev1 es1 ++ more
     one_more ev1 ev2 es1 es2 more same is = ap (λ (ev : Event). seen ev es2) (sym same) ∙ (ap (seen ev1) is ∙ seen_append ev1 es1 more)
@@ -61,9 +71,9 @@ module _ (H : Type 0) (Calls : CallsOf H) (i : Instance) where
         → (one : Run h c es1 h1 c1) → (other : Run g d es2 h2 c2) → (WasRefusedMemory one → ⊥) → (WasRefusedMemory other → ⊥)
         → failed h1 ≡ false → failed h2 ≡ false → GoesOnAs h1 c1 es1 h2 c2 es2 ⊎ GoneOnAs h1 c1 es1 h2 c2 es2
     runs_alike h g h1 h2 c d c1 c2 es1 es2 same_host same stays other given1 given2 sound1 sound2 =
-        inl (es2, g, same_host, refl, moved g c d same es2 h2 c2 other)
+        inl (es2, g, same_host, refl, moved g c d same es2 h2 c2 (other, given2))
     runs_alike h g h1 h2 c d c1 c2 es1 es2 same_host same (goes ev es step rest) stays given1 given2 sound1 sound2 =
-        inr (es1, h, same_host, refl, moved h d c (sym same) es1 h1 c1 (goes ev es step rest))
+        inr (es1, h, same_host, refl, moved h d c (sym same) es1 h1 c1 (goes ev es step rest, given1))
     runs_alike h g h1 h2 c d c1 c2 es1 es2 same_host same (goes {h' = x} {c' = y} ev es step rest) (goes {h' = x'} {c' = y'} ev' es' step' rest') given1 given2 sound1 sound2 =
         let first = next_alike H Calls i Same failed alike 0 h g x x' c d y y' ev ev' same_host same step step' (λ r. given1 (inl r)) (λ r. given2 (inl r))
         (reach_sound failed stay rest sound1) (reach_sound failed stay rest' sound2) in
@@ -74,7 +84,7 @@ module _ (H : Type 0) (Calls : CallsOf H) (i : Instance) where
 
   -- ---- units
 
-  takes_its_unit : {n : ℕ} {h h' : H} {c d : Configuration} {ev : Event} → Step H Calls i n h c ev h' d → TakesItsUnit c d
+  pub takes_its_unit : {n : ℕ} {h h' : H} {c d : Configuration} {ev : Event} → Step H Calls i n h c ev h' d → TakesItsUnit c d
   takes_its_unit (plain_step r) = let w = rewrites r in inl (w.0, ap suc w.1)
   takes_its_unit (free_step a) = inr (is_free a, refl)
   takes_its_unit (host_answers args vs callee is count call) = inr (λ p. p, refl)
@@ -86,22 +96,16 @@ module _ (H : Type 0) (Calls : CallsOf H) (i : Instance) where
   rises c d (inl (p, is)) = omega (arith, is)
   rises c d (inr (p, is)) = omega (arith, is)
 
-  rises_by_one : (c d : Configuration) → TakesItsUnit c d → NextIsPlain (code_of c) → used_by d ≡ suc (used_by c)
+  pub rises_by_one : (c d : Configuration) → TakesItsUnit c d → NextIsPlain (code_of c) → used_by d ≡ suc (used_by c)
   rises_by_one c d (inl (p, is)) q = is
   rises_by_one c d (inr (p, is)) q = absurd (p q)
 
-  run_rises : {h h' : H} {c c' : Configuration} {es : List (HostCall × Errno)} → Run h c es h' c' → used_by c ≤ used_by c'
+  pub run_rises : {h h' : H} {c c' : Configuration} {es : List (HostCall × Errno)} → Run h c es h' c' → used_by c ≤ used_by c'
   run_rises stays = omega arith
   run_rises (goes {c = c} {c' = d} {c'' = e} ev es step rest) =
       let first = rises c d (takes_its_unit step) in let later = run_rises rest in omega (arith, first, later)
 
   -- ---- ends
-
-  -- no step is made from here
-  abbrev IsDone : Code → Type 0
-  IsDone (code vs done) = Unit {0}
-  IsDone (stopped w) = Unit {0}
-  IsDone other = ⊥
 
   reduces_not_done : {s s' : Store} {f f' : List Val} {c c' : Code} → Reduces i s f c s' f' c' → IsDone c → ⊥
   reduces_not_done rule e = plain_not_done _ (rewrites rule).0 e
@@ -119,7 +123,7 @@ module _ (H : Type 0) (Calls : CallsOf H) (i : Instance) where
   free_not_done stops_label e = e
   free_not_done stops_frame e = e
 
-  step_not_done : {n : ℕ} {h h' : H} {c d : Configuration} {ev : Event} → Step H Calls i n h c ev h' d → IsDone (code_of c) → ⊥
+  pub step_not_done : {n : ℕ} {h h' : H} {c d : Configuration} {ev : Event} → Step H Calls i n h c ev h' d → IsDone (code_of c) → ⊥
   step_not_done (plain_step rule) e = reduces_not_done rule e
   step_not_done (free_step rule) e = free_not_done rule e
   step_not_done (host_answers args vs callee is count call) e = e
@@ -182,11 +186,11 @@ module _ (H : Type 0) (Calls : CallsOf H) (i : Instance) where
       elim (runs_alike Same failed alike stay h g h1 h2 c c one.last other.last one.answers other.answers same refl one.reach other.reach
       served1.growths served2.growths served1.nothing_failed served2.nothing_failed) [
         | inl (more, k, there, is, run) ↦
-            let none = no_more fuel k h2 one.last other.last more (stops_last fuel u1 h1 o1 one.last served1.stacks one.units one.stops) (omega (arith, other.units, within2, same_fuel)) run in
+            let none = no_more fuel k h2 one.last other.last more (stops_last fuel u1 h1 o1 one.last served1.stacks one.units one.stops) (omega (arith, other.units, within2, same_fuel)) run.0 in
             end_same (subst (λ (x : H). Same h1 x) none.0 there) none.1
             (sym (append-nil one.answers) ∙ (ap (λ (es : List (HostCall × Errno)). one.answers ++ es) (sym none.2) ∙ sym is))
         | inr (more, k, there, is, run) ↦
-            let none = no_more fuel2 k h1 other.last one.last more (stops_last fuel2 u2 h2 o2 other.last served2.stacks other.units other.stops) (omega (arith, one.units, within1, same_fuel)) run in
+            let none = no_more fuel2 k h1 other.last one.last more (stops_last fuel2 u2 h2 o2 other.last served2.stacks other.units other.stops) (omega (arith, one.units, within1, same_fuel)) run.0 in
             end_same (subst (λ (x : H). Same x h2) none.0 there) (sym none.1)
             (is ∙ (ap (λ (es : List (HostCall × Errno)). other.answers ++ es) none.2 ∙ append-nil other.answers))
       ]
@@ -207,8 +211,8 @@ module _ (H : Type 0) (Calls : CallsOf H) (i : Instance) where
       → failed h1 ≡ false → failed h2 ≡ false → GoesOn h1 c1 es1 h2 c2 es2 ⊎ GoesOn h2 c2 es2 h1 c1 es1
   one_run failed once stay h h1 h2 c c1 c2 es1 es2 one other given1 given2 sound1 sound2 =
       elim (runs_alike (λ (a b : H). a ≡ b) failed (once_alike H Calls i failed once) stay h h h1 h2 c c c1 c2 es1 es2 refl refl one other given1 given2 sound1 sound2) [
-        | inl (more, k, there, is, run) ↦ inl (more, is, subst (λ (x : H). Run x c1 more h2 c2) (sym there) run)
-        | inr (more, k, there, is, run) ↦ inr (more, is, subst (λ (x : H). Run x c2 more h1 c1) there run)
+        | inl (more, k, there, is, run) ↦ inl (more, is, subst (λ (x : H). Run x c1 more h2 c2) (sym there) run.0)
+        | inr (more, k, there, is, run) ↦ inr (more, is, subst (λ (x : H). Run x c2 more h1 c1) there run.0)
       ]
 
   pub one_end : (failed : H → Bool) (h h1 h2 : H) (c : Configuration) (fuel : ℕ) (o1 o2 : Outcome) (u1 u2 : ℕ) → AnswersOnce H Calls failed → FailuresStay H Calls failed

@@ -121,6 +121,18 @@ module _ {D R W1 W2 : Type 0} (on : Devices D R W1 W2) where
     some_bytes is_honest = let (moved, moves, over) = reach_moves on i h last c run.last run.answers run.reach is_honest in
         (moved, record { moves = moves; over_paths = over })
 
+-- how a host begins: no stream has failed, and it has the settings, the seed and the terminals that were given
+pub record HostBegins {D R W1 W2 : Type 0} (seed : Option ℕ) (terminals : Option Terminals) (parts : HostParts D R W1 W2) (h : HostState D R W1 W2) : Type 0 where
+  pub input : h.input ≡ record { reader = parts.input; failed = false; ended = false }
+  pub out : h.out ≡ record { writer = parts.out; failed = false }
+  pub err : h.err ≡ record { writer = parts.err; failed = false }
+  pub settings : h.settings ≡ parts.settings
+  pub supply : h.generator ≡ option_map seeded seed
+  pub interactive : h.interactive ≡ terminals
+
+host_begins : {D R W1 W2 : Type 0} (Stands : StandsFor) (m : Module) (seed : Option ℕ) (terminals : Option Terminals) (parts : HostParts D R W1 W2) (s : SessionState D R W1 W2) → OpensBy Stands seed terminals m parts s → HostBegins seed terminals parts s.host
+host_begins Stands m seed terminals parts s opens = record { input = opens.input; out = opens.out; err = opens.err; settings = opens.settings; supply = opens.supply; interactive = opens.interactive }
+
 -- ---- two of them
 
 module _ {D R W1 W2 D' R' W1' W2' : Type 0} (on : Devices D R W1 W2) (on' : Devices D' R' W1' W2') where
@@ -182,11 +194,12 @@ module _ {D R W1 W2 D' R' W1' W2' : Type 0} (on : Devices D R W1 W2) (on' : Devi
       started_alike link parts.settings.pages m opens'.starts.instance opens.starts.instance opens'.starts.store opens.starts.store opens'.starts.entered opens.starts.entered valid
       (subst (λ (n : ℕ). Instantiates link n m opens'.starts.instance opens'.starts.store opens'.starts.entered) (sym pages) opens'.starts.instantiates) opens.starts.instantiates
 
-  pub show_alike : (Stands : StandsFor) (m : Module) (seed seed' : Option ℕ) (terminals terminals' : Option Terminals) (parts : HostParts D R W1 W2) (parts' : HostParts D' R' W1' W2')
+  -- hosts that begin so show the same
+  pub hosts_alike : (seed seed' : Option ℕ) (terminals terminals' : Option Terminals) (parts : HostParts D R W1 W2) (parts' : HostParts D' R' W1' W2')
       (s : SessionState D R W1 W2) (s' : SessionState D' R' W1' W2') → AreAlike on on' parts parts' → seed ≡ seed' → terminals ≡ terminals'
-      → OpensBy Stands seed terminals m parts s → OpensBy Stands seed' terminals' m parts' s' → Shares on.device parts s → Shares on'.device parts' s'
+      → HostBegins seed terminals parts s.host → HostBegins seed' terminals' parts' s'.host → Shares on.device parts s → Shares on'.device parts' s'
       → on.device.honest parts.volume.device → on'.device.honest parts'.volume.device → ShowAlike on on' s.host s'.host
-  show_alike Stands m seed seed' terminals terminals' parts parts' s s' alike same_seed same_terminals opens opens' shares shares' is_honest is_honest' b = λ k. record {
+  hosts_alike seed seed' terminals terminals' parts parts' s s' alike same_seed same_terminals opens opens' shares shares' is_honest is_honest' b = λ k. record {
     volume = room k;
     tree = tree k;
     table = λ n. table n k;
@@ -240,6 +253,13 @@ module _ {D R W1 W2 D' R' W1' W2' : Type 0} (on : Devices D R W1 W2) (on' : Devi
 
       errors_failed : s.host.err.failed ≡ s'.host.err.failed
       errors_failed = ap (λ x. x.failed) opens.err ∙ sym (ap (λ x. x.failed) opens'.err)
+
+  pub show_alike : (Stands : StandsFor) (m : Module) (seed seed' : Option ℕ) (terminals terminals' : Option Terminals) (parts : HostParts D R W1 W2) (parts' : HostParts D' R' W1' W2')
+      (s : SessionState D R W1 W2) (s' : SessionState D' R' W1' W2') → AreAlike on on' parts parts' → seed ≡ seed' → terminals ≡ terminals'
+      → OpensBy Stands seed terminals m parts s → OpensBy Stands seed' terminals' m parts' s' → Shares on.device parts s → Shares on'.device parts' s'
+      → on.device.honest parts.volume.device → on'.device.honest parts'.volume.device → ShowAlike on on' s.host s'.host
+  show_alike Stands m seed seed' terminals terminals' parts parts' s s' alike same_seed same_terminals opens opens' shares shares' is_honest is_honest' =
+      hosts_alike seed seed' terminals terminals' parts parts' s s' alike same_seed same_terminals (host_begins Stands m seed terminals parts s opens) (host_begins Stands m seed' terminals' parts' s' opens') shares shares' is_honest is_honest'
 
   pub same_report : SameReport on on'
   same_report m seed seed' terminals terminals' parts parts' s s' fuel fuel' report report' valid alike same_seed same_terminals same_fuel opens opens' shares shares' is_honest is_honest' reports reports' = record {

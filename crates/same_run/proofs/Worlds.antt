@@ -14,22 +14,22 @@ use Rattle.same_run.specs.Growth.{RefusesMemory, WasRefusedMemory}
 
 -- ---- bytes that move, one part after another
 
-abbrev nothing : StreamBytes
+abbrev pub nothing : StreamBytes
 nothing = record { input = []; pieces = []; output = []; errors = [] }
 
-same_output : (others : StreamBytes) → after_moving nothing others ≡ others
+pub same_output : (others : StreamBytes) → after_moving nothing others ≡ others
 same_output others = λ i. record { input = others.input; pieces = others.pieces; output = append-nil others.output i; errors = append-nil others.errors i }
 
-abbrev both : StreamBytes → StreamBytes → StreamBytes
+abbrev pub both : StreamBytes → StreamBytes → StreamBytes
 both a b = record { input = a.input ++ b.input; pieces = a.pieces ++ b.pieces; output = a.output ++ b.output; errors = a.errors ++ b.errors }
 
-abbrev beside_second : StreamBytes → StreamBytes → StreamBytes
+abbrev pub beside_second : StreamBytes → StreamBytes → StreamBytes
 beside_second a others = record { input = others.input; pieces = others.pieces; output = others.output ++ a.output; errors = others.errors ++ a.errors }
 
-before_both : (a b others : StreamBytes) → before_moving a (before_moving b others) ≡ before_moving (both a b) others
+pub before_both : (a b others : StreamBytes) → before_moving a (before_moving b others) ≡ before_moving (both a b) others
 before_both a b others = λ i. record { input = sym (append_assoc a.input b.input others.input) i; pieces = sym (append_assoc a.pieces b.pieces others.pieces) i; output = others.output; errors = others.errors }
 
-after_both : (a b others : StreamBytes) → after_moving b (beside_second a others) ≡ after_moving (both a b) others
+pub after_both : (a b others : StreamBytes) → after_moving b (beside_second a others) ≡ after_moving (both a b) others
 after_both a b others = λ i. record { input = others.input; pieces = others.pieces; output = append_assoc others.output a.output b.output i; errors = append_assoc others.errors a.errors b.errors i }
 
 -- a reader that gave all that it told has none later on
@@ -51,16 +51,16 @@ none_before (Some xs) None c bytes consumed none = absurd consumed
 none_before (Some xs) (Some ys) c bytes consumed none = none
 
 module _ {D R W1 W2 : Type 0} (on : Devices D R W1 W2) where
-  abbrev H : Type 0
+  abbrev pub H : Type 0
   H = HostState D R W1 W2
 
   abbrev pub Moves : H → H → StreamBytes → Type 0
   Moves = StreamsMove on.input.remaining on.out.contents on.err.contents
 
-  rest : (h : H) → Moves h h nothing
+  pub rest : (h : H) → Moves h h nothing
   rest h = record { input = Consumes-nil (on.input.remaining h.input.reader); output = Appends-nil (on.out.contents h.out.writer); errors = Appends-nil (on.err.contents h.err.writer); ended = λ is. (refl, is); end = λ is. inl is; pieces = λ is. (refl, is) }
 
-  moves_on : (h g h' : H) (a b : StreamBytes) → Moves h g a → Moves g h' b → Moves h h' (both a b)
+  pub moves_on : (h g h' : H) (a b : StreamBytes) → Moves h g a → Moves g h' b → Moves h h' (both a b)
   moves_on h g h' a b first second = record {
     input = Consumes-trans _ _ _ a.input b.input first.input second.input;
     output = Appends-trans _ _ _ a.output b.output first.output second.output;
@@ -83,20 +83,20 @@ module _ {D R W1 W2 : Type 0} (on : Devices D R W1 W2) where
   }
 
   -- what may follow the second is what may follow the first, with the bytes of the second
-  follows_first : (g h' : H) (b others : StreamBytes) → Moves g h' b → MayFollow h' others → MayFollow g (before_moving b others)
+  pub follows_first : (g h' : H) (b others : StreamBytes) → Moves g h' b → MayFollow h' others → MayFollow g (before_moving b others)
   follows_first g h' b others second end is = let two = second.ended is in λ i. two.0 i ++ end two.1 i
 
   -- ---- a step
 
-  abbrev OverWorlds : (i : Instance) (n : ℕ) (h : H) (c : Configuration) (ev : Event) (h' : H) (c' : Configuration) → Step H (Calls on) i n h c ev h' c' → StreamBytes → StreamBytes → Type 0
+  abbrev pub OverWorlds : (i : Instance) (n : ℕ) (h : H) (c : Configuration) (ev : Event) (h' : H) (c' : Configuration) → Step H (Calls on) i n h c ev h' c' → StreamBytes → StreamBytes → Type 0
   OverWorlds i n h c ev h' c' step before after =
       (over : Step World world.Calls i n (world_of h before) c ev (world_of h' after) c') × (RefusesMemory over → RefusesMemory step)
 
-  abbrev StepMoves : (i : Instance) (n : ℕ) (h : H) (c : Configuration) (ev : Event) (h' : H) (c' : Configuration) → Step H (Calls on) i n h c ev h' c' → Type 0
+  abbrev pub StepMoves : (i : Instance) (n : ℕ) (h : H) (c : Configuration) (ev : Event) (h' : H) (c' : Configuration) → Step H (Calls on) i n h c ev h' c' → Type 0
   StepMoves i n h c ev h' c' step = (moved : StreamBytes) × Moves h h' moved × on.device.honest h'.volume.device
       × ((others : StreamBytes) → MayFollow h' others → OverWorlds i n h c ev h' c' step (before_moving moved others) (after_moving moved others))
 
-  step_moves : (i : Instance) (n : ℕ) (h h' : H) (c c' : Configuration) (ev : Event) (step : Step H (Calls on) i n h c ev h' c') → on.device.honest h.volume.device → StepMoves i n h c ev h' c' step
+  pub step_moves : (i : Instance) (n : ℕ) (h h' : H) (c c' : Configuration) (ev : Event) (step : Step H (Calls on) i n h c ev h' c') → on.device.honest h.volume.device → StepMoves i n h c ev h' c' step
   step_moves i n h h' c c' ev (plain_step r) is_honest =
       (nothing, rest h, is_honest, λ others end. subst (λ (b : StreamBytes). OverWorlds i n h c ev h c' (plain_step r) others b) (sym (same_output others)) (plain_step r, λ refused. refused))
   step_moves i n h h' c c' ev (free_step r) is_honest =
@@ -124,7 +124,7 @@ module _ {D R W1 W2 : Type 0} (on : Devices D R W1 W2) where
   ReachMoves i h c es h' c' run = (moved : StreamBytes) × Moves h h' moved
       × ((others : StreamBytes) → MayFollow h' others → RunsOver i h c es h' c' run (before_moving moved others) (after_moving moved others))
 
-  either : {A B X Y : Type 0} → (A → X) → (B → Y) → A ⊎ B → X ⊎ Y
+  pub either : {A B X Y : Type 0} → (A → X) → (B → Y) → A ⊎ B → X ⊎ Y
   either f g (inl a) = inl (f a)
   either f g (inr b) = inr (g b)
 
@@ -145,3 +145,8 @@ module _ {D R W1 W2 : Type 0} (on : Devices D R W1 W2) where
             subst (λ (x : StreamBytes). RunsOver i h c es h' c' (goes ev fs s r) x (after_moving (both a b) others)) (before_both a b others)
             (subst (λ (x : StreamBytes). RunsOver i h c es h' c' (goes ev fs s r) (before_moving a (before_moving b others)) x) (after_both a b others) before),
       )
+
+  -- and its device keeps its model
+  pub reach_honest : (i : Instance) (h h' : H) (c c' : Configuration) (es : List (HostCall × Errno)) → Reach H (Calls on) i h c es h' c' → on.device.honest h.volume.device → on.device.honest h'.volume.device
+  reach_honest i h h' c c' es stays is_honest = is_honest
+  reach_honest i h h' c c' es (goes {h' = g} {c' = d} ev fs s r) is_honest = reach_honest i g h' d c' fs r (step_moves i 0 h g c d ev s is_honest).2

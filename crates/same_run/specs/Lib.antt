@@ -9,6 +9,7 @@ pub mod OneRun
 pub mod OneStart
 pub mod SameWorld
 pub mod Alike
+pub mod SameSupplies
 pub mod SameRun
 pub mod SameProgram
 pub mod SameProgramReport

@@ -1,0 +1,8 @@
+mod Halting
+mod Answering
+mod Turning
+mod Worlds
+mod Sameness
+mod Beginning
+mod Doing
+mod Instances
