@@ -69,7 +69,12 @@ pub fn exit_code<R: Inlet + Drop, W1: Outlet + Drop, W2: Outlet + Drop>(
             invocation.note_terminals(terminals(rt));
             ExitCode::from(perform(rt, &invocation, input, out, err))
         }
-        Err(refused) => ExitCode::from(refuse_line(rt.alloc(), &mut err, words.as_slice(), &refused)),
+        Err(refused) => ExitCode::from(refuse_line(
+            rt.alloc(),
+            &mut err,
+            words.as_slice(),
+            &refused,
+        )),
     }
 }
 
